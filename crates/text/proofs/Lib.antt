@@ -1,0 +1,3 @@
+-- Lemmas that serve several functions of `text`, by subject.
+-- a rule of a table or of all bytes, by one computed test
+pub mod Table

@@ -1,0 +1,17 @@
+-- `text::class::class_of` meets its contract: the table's rule is one computed test over its 256 entries. Assumes nothing.
+use borrow.Author.Needs.{needs}
+use Prim.Native.Nat.{_<_}
+use Rattle.text.specs.Class.{classOf}
+use Rattle.text.proofs.Table.{entry}
+use Rattle.text.proofs.class.class_of.Statement.{statement}
+use Rattle.text.proofs.class.class_of.Tie as tie
+
+array-read-result : tie.Need-array-read-result
+array-read-result c = search needs
+
+returns : tie.Need-returns
+unfolding classOf
+returns c = let h : c .args .b < 256 = search needs in let t : Unit {0} = tt in rw (entry classOf)
+
+pub class-of-spec : {M : Type 1} → statement M
+class-of-spec = tie.close (tie.spec array-read-result returns)

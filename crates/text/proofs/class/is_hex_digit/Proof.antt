@@ -1,0 +1,19 @@
+-- `text::class::is_hex_digit` meets its contract: one computed test over the 256 bytes. Assumes nothing.
+use borrow.Author.Needs.{needs}
+use Rattle.text.specs.Class.{classOf, isHexDigit}
+use Rattle.text.proofs.Table.{Answers, answer}
+use Rattle.text.proofs.class.is_hex_digit.Statement.{statement}
+use Rattle.text.proofs.class.is_hex_digit.Tie as tie
+
+answers : Answers 4 isHexDigit
+unfolding classOf
+answers = tt
+
+class-of-requires : tie.Need-class-of-requires
+class-of-requires c κs = search needs
+
+returns : tie.Need-returns
+returns c = answer 4 isHexDigit answers (c .before .args .b) (c .class-of .result) (c .before .fits .b .fits) (c .class-of .ensures)
+
+pub is-hex-digit-spec : {M : Type 1} → statement M
+is-hex-digit-spec = tie.close (tie.spec class-of-requires returns)

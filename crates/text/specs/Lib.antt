@@ -1,0 +1,3 @@
+-- The definitions that the contracts of `text` cite, in reading order.
+-- the classes of a byte
+pub mod Class

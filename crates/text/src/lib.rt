@@ -1,0 +1,2 @@
+// The text layer.
+pub mod class;
