@@ -1,3 +1,11 @@
--- The definitions that the contracts of `text` cite, in reading order.
+-- The definitions that the contracts of `text` cite, in reading order, and the laws that callers go by.
 -- the classes of a byte
 pub mod Class
+-- UTF-8: what a text is, and its characters
+pub mod Utf8
+-- where characters begin
+pub mod Boundary
+-- the bytes of one character, both ways
+pub mod Bytes
+-- the laws of texts, characters and boundaries
+pub mod Utf8Laws

@@ -1,2 +1,2 @@
-// The text layer.
 pub mod class;
+pub mod utf8;
