@@ -20,6 +20,7 @@ module _ (s : List ℕ) (i : ℕ) (k : Char) (b : Char-before s i k) (j : ℕ) (
     where
       same : (i - k .len < j → ⊥) → i - k .len ≡ j
       same n = omega arith
+
       go : Dec (i - k .len < j) → i - k .len < j
       go (yes h) = h
       go (no n) = absurd (clash (sym t ∙ subst (λ (m : ℕ). isContinuation (getD s m 0) ≡ false) (same n) (b .is .start .edge)))

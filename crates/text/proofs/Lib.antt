@@ -3,3 +3,9 @@
 pub mod Table
 -- going back from a boundary to the start of a character
 pub mod Back
+-- the ASCII bytes from a place on
+pub mod Ascii
+-- a search in a rising table
+pub mod Search
+-- the answer on a text and a value
+pub mod Admit

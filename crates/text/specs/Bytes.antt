@@ -85,9 +85,17 @@ read-3 : (a b d e c : ℕ) → 2048 ≤ c → c < 65536 → (c < 0xd800) ⊎ (0x
 unfolding charOf multiByte threeBytes
 read-3 a b d e c l h w p q r =
     let is : codeOf3 a b d ≡ c = omega arith in
-    rw
-    (le-ltb a 128 (omega arith), le-ltb a 192 (omega arith), le-ltb a 224 (omega arith), lt-ltb a 240 (omega arith), is, is-inside 128 191 b (omega arith) (omega arith),
-     is-inside 128 191 d (omega arith) (omega arith), le-leb 2048 c l, whole w)
+    rw (
+      le-ltb a 128 (omega arith),
+      le-ltb a 192 (omega arith),
+      le-ltb a 224 (omega arith),
+      lt-ltb a 240 (omega arith),
+      is,
+      is-inside 128 191 b (omega arith) (omega arith),
+      is-inside 128 191 d (omega arith) (omega arith),
+      le-leb 2048 c l,
+      whole w,
+    )
   where
     whole : (c < 0xd800) ⊎ (0xdfff < c) → inside 0xd800 0xdfff c ≡ false
     whole (inl x) = below-inside 0xd800 0xdfff c x
@@ -103,10 +111,18 @@ read-4 : (a b d e c : ℕ) → 65536 ≤ c → c < 0x11_0000 → a ≡ 240 + c /
 unfolding charOf multiByte fourBytes
 read-4 a b d e c l h p q r t =
     let is : codeOf4 a b d e ≡ c = omega (arith, digits-4 c) in
-    rw
-    (le-ltb a 128 (omega arith), le-ltb a 192 (omega arith), le-ltb a 224 (omega arith), le-ltb a 240 (omega arith), lt-ltb a 248 (omega arith), is,
-     is-inside 128 191 b (omega arith) (omega arith), is-inside 128 191 d (omega arith) (omega arith), is-inside 128 191 e (omega arith) (omega arith),
-     is-inside 0x1_0000 0x10_ffff c l (omega arith))
+    rw (
+      le-ltb a 128 (omega arith),
+      le-ltb a 192 (omega arith),
+      le-ltb a 224 (omega arith),
+      le-ltb a 240 (omega arith),
+      lt-ltb a 248 (omega arith),
+      is,
+      is-inside 128 191 b (omega arith) (omega arith),
+      is-inside 128 191 d (omega arith) (omega arith),
+      is-inside 128 191 e (omega arith) (omega arith),
+      is-inside 0x1_0000 0x10_ffff c l (omega arith),
+    )
 
 -- each of the bytes continues a character
 abbrev pub Continue : List ℕ → Type 0

@@ -5,7 +5,15 @@ pub mod Class
 pub mod Utf8
 -- where characters begin
 pub mod Boundary
+-- white space by code points
+pub mod WhiteSpace
+-- marker offsets and the cursor
+pub mod Offset
+-- the first two rows of the table
+pub mod Admission
 -- the bytes of one character, both ways
 pub mod Bytes
 -- the laws of texts, characters and boundaries
 pub mod Utf8Laws
+-- the laws of marker offsets
+pub mod OffsetLaws

@@ -95,11 +95,11 @@ utf8-end s i h = rw (drop-of-length-le s h)
 
 -- ---- the test and the meaning
 
-encode-some : (c : ℕ) → ScalarValue c → 1 ≤ length (encode c)
+pub encode-some : (c : ℕ) → ScalarValue c → 1 ≤ length (encode c)
 encode-some c v = rw (encoding c [] v .is) (omega arith)
 
 -- what is read of an encoding, and what is left after it
-read : (c : ℕ) (t : List ℕ) → ScalarValue c → firstChar (encode c ++ t) ≡ character c (length (encode c))
+pub read : (c : ℕ) (t : List ℕ) → ScalarValue c → firstChar (encode c ++ t) ≡ character c (length (encode c))
 read c t v = encoding c t v .reads
 
 left : (c : ℕ) (t : List ℕ) → ScalarValue c → drop (firstChar (encode c ++ t) .len) (encode c ++ t) ≡ t
@@ -108,7 +108,7 @@ left c t v = rw (read c t v) (drop-append-seam (encode c) t)
 some : (c : ℕ) (t : List ℕ) → ScalarValue c → 1 ≤ firstChar (encode c ++ t) .len
 some c t v = rw (read c t v) (encode-some c v)
 
-codes-encodeAll : (cs : List ℕ) → ScalarValues cs → codes (encodeAll cs) ≡ cs
+pub codes-encodeAll : (cs : List ℕ) → ScalarValues cs → codes (encodeAll cs) ≡ cs
 unfolding codes encodeAll charsAfter
 codes-encodeAll [] v = refl
 codes-encodeAll (c ∷ cs) v =
@@ -133,6 +133,7 @@ utf8-sound s e = go (length s) s (omega arith) e
     empty : (s : List ℕ) → length s ≤ 0 → Utf8 s
     empty [] l = record { codes = []; scalars = tt; encoded = refl }
     empty (a ∷ s) l = absurd (omega arith)
+
     step : (n : ℕ) (s : List ℕ) → length s ≤ suc n → isUtf8 s ≡ true → ((t : List ℕ) → length t ≤ n → isUtf8 t ≡ true → Utf8 t) → Dec (0 < length s) → Dec (0 < firstChar s .len) → Utf8 s
     step n s l e r (no p) d = empty s (omega arith)
     step n s l e r (yes p) (no z) = absurd (differ (sym (utf8-stuck s p (omega arith)) ∙ e))
@@ -144,6 +145,7 @@ utf8-sound s e = go (length s) s (omega arith) e
           scalars = (w .scalar, u .scalars);
           encoded = w .is ∙ ap (λ (l : List ℕ). encode (firstChar s .code) ++ l) (u .encoded);
         }
+
     go : (n : ℕ) (s : List ℕ) → length s ≤ n → isUtf8 s ≡ true → Utf8 s
     go zero s l e = empty s l
     go (suc n) s l e = step n s l e (go n) (decLt 0 (length s)) (decLt 0 (firstChar s .len))
@@ -167,11 +169,11 @@ unfolding encodeAll
 encodeAll-append [] ys = refl
 encodeAll-append (x ∷ xs) ys = ap (λ (l : List ℕ). encode x ++ l) (encodeAll-append xs ys) ∙ sym (append-assoc (encode x) (encodeAll xs) (encodeAll ys))
 
-scalars-front : (xs ys : List ℕ) → ScalarValues (xs ++ ys) → ScalarValues xs
+pub scalars-front : (xs ys : List ℕ) → ScalarValues (xs ++ ys) → ScalarValues xs
 scalars-front [] ys v = tt
 scalars-front (x ∷ xs) ys v = (v .0, scalars-front xs ys (v .1))
 
-scalars-back : (xs ys : List ℕ) → ScalarValues (xs ++ ys) → ScalarValues ys
+pub scalars-back : (xs ys : List ℕ) → ScalarValues (xs ++ ys) → ScalarValues ys
 scalars-back [] ys v = v
 scalars-back (x ∷ xs) ys v = scalars-back xs ys (v .1)
 
@@ -268,6 +270,10 @@ place-front {s} {i} p = rw (p .text) (take-at (encodeAll (p .before)) (encodeAll
 pub place-back : {s : List ℕ} {i : ℕ} (p : Place s i) → drop i s ≡ encodeAll (p .after)
 place-back {s} {i} p = rw (p .text) (drop-at (encodeAll (p .before)) (encodeAll (p .after)) i (sym (p .offset)))
 
+pub place-boundary : {s : List ℕ} {i : ℕ} → Place s i → Boundary s i
+place-boundary {s} {i} p =
+    rw (p .text, p .offset) (boundary-between (encodeAll (p .before)) (encodeAll (p .after)) (utf8-of (p .after) (scalars-back (p .before) (p .after) (p .scalars))))
+
 -- a boundary cuts a text into two
 pub record Split (s : List ℕ) (i : ℕ) : Type 0 where
   pub front : Utf8 (take i s)
@@ -307,7 +313,7 @@ pub record Char-at (s : List ℕ) (i : ℕ) (k : Char) : Type 0 where
   pub backward : codes (take (i + k .len) s) ≡ codes (take i s) ++ (k .code ∷ [])
   pub continues : (j : ℕ) → i < j → j < i + k .len → isContinuation (getD s j 0) ≡ true
 
-last-of : (xs : List ℕ) (c : ℕ) → lastOf (xs ++ (c ∷ [])) ≡ character c (length (encode c))
+pub last-of : (xs : List ℕ) (c : ℕ) → lastOf (xs ++ (c ∷ [])) ≡ character c (length (encode c))
 unfolding lastOf
 last-of [] c = refl
 last-of (x ∷ []) c = refl

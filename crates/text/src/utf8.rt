@@ -67,7 +67,10 @@ fn four_bytes(a: u8, b: u8, c: u8, d: u8) -> Char
     if is_continuation(b) {
         if is_continuation(c) {
             if is_continuation(d) {
-                let code = (a as u32 - 0xf0) * 262144 + (b as u32 - 0x80) * 4096 + (c as u32 - 0x80) * 64 + (d as u32 - 0x80);
+                let code = (a as u32 - 0xf0) * 262144
+                    + (b as u32 - 0x80) * 4096
+                    + (c as u32 - 0x80) * 64
+                    + (d as u32 - 0x80);
                 if 0x1_0000 <= code {
                     if code <= 0x10_ffff {
                         return Char { code, len: 4 };
@@ -107,7 +110,10 @@ pub fn first_char(s: &[u8], i: usize) -> Char
     }
     let a = s[i];
     if a < 0x80 {
-        return Char { code: a as u32, len: 1 };
+        return Char {
+            code: a as u32,
+            len: 1,
+        };
     }
     multi_byte(a, byte_at(s, i + 1), byte_at(s, i + 2), byte_at(s, i + 3))
 }

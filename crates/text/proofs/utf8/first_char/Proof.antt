@@ -42,7 +42,7 @@ multi-byte-requires : tie.Need-multi-byte-requires
 multi-byte-requires c κs = search needs
 
 returns-3 : tie.Need-returns-3
-returns-3 c = 
+returns-3 c =
     c .multi-byte .ensures
     ∙ rw (c .before .byte-at3 .ensures, c .before .before .byte-at2 .ensures, c .before .before .before .byte-at .ensures)
     (sym (first-char-multi (c .before .before .before .before .before .before .before .before .args .s .now) (c .before .before .before .before .before .before .before .before .args .i) (c .before .before .before .before .before .before .if1 .left) (c .before .before .before .before .if2 .left)))

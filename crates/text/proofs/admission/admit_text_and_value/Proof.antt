@@ -1,0 +1,60 @@
+-- `text::admission::admit_text_and_value` meets its contract: the value's length first, then the text, then the value's bytes.
+-- Assumes nothing.
+use borrow.Author.Needs.{needs}
+use mathlib.Core.Path.{sym, _∙_}
+use borrow.Author.Tests.{lt-ltb, le-ltb}
+use Rattle.text.proofs.Admit.{both-long, both-admitted, both-too-long, both-not-utf8}
+use borrow.Author.Needs.{needs}
+use Rattle.text.proofs.admission.admit_text_and_value.Statement.{statement}
+use Rattle.text.proofs.admission.admit_text_and_value.Tie as tie
+
+returns : tie.Need-returns
+returns c = sym (both-long (c .before .before .before .args .text .now) (c .before .before .before .args .value .now) (lt-ltb _ _ (c .if1 .taken)))
+
+admit-text-requires : tie.Need-admit-text-requires
+admit-text-requires c κs = search needs
+
+enum-known-of-text : tie.Need-enum-known-of-text
+enum-known-of-text c = search needs
+
+is-utf8-requires : tie.Need-is-utf8-requires
+is-utf8-requires c κs = search needs
+
+returns-2 : tie.Need-returns-2
+returns-2 c =
+    sym
+    (both-admitted (c .before .before .before .before .before .before .before .before .before .args .text .now) (c .before .before .before .before .before .before .before .before .before .args .value .now) _ (le-ltb _ _ (c .before .before .before .before .before .before .if1 .left)) (sym (c .before .before .before .before .before .admit-text .ensures) ∙ c .before .before .before .of-text .given .1)
+    ∙ rw (sym (c .before .is-utf8 .ensures) ∙ c .if2 .taken))
+
+enum-told : tie.Need-enum-told
+enum-told c = search needs
+
+enum-told-2 : tie.Need-enum-told-2
+enum-told-2 c = search needs
+
+returns-3 : tie.Need-returns-3
+returns-3 c =
+    sym
+    (both-admitted (c .before .before .before .before .before .before .before .before .before .args .text .now) (c .before .before .before .before .before .before .before .before .before .args .value .now) _ (le-ltb _ _ (c .before .before .before .before .before .before .if1 .left)) (sym (c .before .before .before .before .before .admit-text .ensures) ∙ c .before .before .before .of-text .given .1)
+    ∙ rw (sym (c .before .is-utf8 .ensures) ∙ c .if2 .left))
+
+returns-4 : tie.Need-returns-4
+returns-4 c = sym (both-too-long (c .before .before .before .before .before .before .args .text .now) (c .before .before .before .before .before .before .args .value .now) (sym (c .before .before .admit-text .ensures) ∙ c .enum-told .given .1))
+
+returns-5 : tie.Need-returns-5
+returns-5 c = sym (both-not-utf8 (c .before .before .before .before .before .before .args .text .now) (c .before .before .before .before .before .before .args .value .now) (le-ltb _ _ (c .before .before .before .if1 .left)) (sym (c .before .before .admit-text .ensures) ∙ c .enum-told2 .given .1))
+
+pub admit-text-and-value-spec : {M : Type 1} → statement M
+admit-text-and-value-spec =
+    tie.close
+    (tie.spec
+    returns
+    admit-text-requires
+    enum-known-of-text
+    is-utf8-requires
+    returns-2
+    enum-told
+    enum-told-2
+    returns-3
+    returns-4
+    returns-5)

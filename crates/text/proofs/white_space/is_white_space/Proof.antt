@@ -1,0 +1,59 @@
+-- `text::white_space::is_white_space` meets its contract. The loop's invariant: a search in what is left of the table answers as one in
+-- all of it. The measure is what is left of the table. Assumes nothing.
+use borrow.Author.Needs.{needs}
+use mathlib.Core.Path.{_≡_, refl, sym, _∙_}
+use Prim.Native.Nat.{_-_, _≤_}
+use native.Mathlib.Omega.{arith}
+use lib.ListN.{drop}
+use Rattle.text.specs.WhiteSpace.{whiteSpace}
+use Rattle.text.proofs.Search.{find, find-here, find-on, find-none, spelt, white-space-found}
+use Rattle.text.proofs.white_space.is_white_space.Statement.{statement}
+use Rattle.text.proofs.white_space.is_white_space.Tie as tie
+
+abbrev Inv-loop : tie.InvT-loop
+Inv-loop code i₀ i = (i ≤ 25) × (find (drop i (spelt whiteSpace)) code ≡ find (spelt whiteSpace) code)
+
+abbrev μ-loop : tie.MeasureT-loop
+μ-loop code i₀ i = 25 - i
+
+loop-holds : tie.Need-loop-holds Inv-loop μ-loop
+loop-holds c = (omega arith, refl)
+
+mul-entry : tie.Need-mul-entry Inv-loop μ-loop
+mul-entry c = search needs
+
+array-read-entry : tie.Need-array-read-entry Inv-loop μ-loop
+array-read-entry c = search needs
+
+returns : tie.Need-returns Inv-loop μ-loop
+unfolding whiteSpace
+returns c = sym (find-here (spelt whiteSpace) (c .before .before .loop .i) (c .before .before .before .args .code) (omega arith) (c .if1 .taken)) ∙ c .before .before .loop .inv .1 ∙ white-space-found (c .before .before .before .args .code)
+
+add-i : tie.Need-add-i Inv-loop μ-loop
+add-i c = omega arith
+
+loop-less : tie.Need-loop-less Inv-loop μ-loop
+loop-less c = omega arith
+
+loop-again : tie.Need-loop-again Inv-loop μ-loop
+unfolding whiteSpace
+loop-again c = (omega arith, sym (find-on (spelt whiteSpace) (c .before .before .loop .i) (c .before .before .before .args .code) (omega arith) (c .if1 .left)) ∙ c .before .before .loop .inv .1)
+
+returns-2 : tie.Need-returns-2 Inv-loop μ-loop
+unfolding whiteSpace
+returns-2 c = sym (find-none (spelt whiteSpace) (c .before .loop .i) (c .before .before .args .code) (omega arith)) ∙ c .before .loop .inv .1 ∙ white-space-found (c .before .before .args .code)
+
+pub is-white-space-spec : {M : Type 1} → statement M
+is-white-space-spec =
+    tie.close
+    (tie.spec
+    Inv-loop
+    μ-loop
+    loop-holds
+    mul-entry
+    array-read-entry
+    returns
+    add-i
+    loop-less
+    loop-again
+    returns-2)

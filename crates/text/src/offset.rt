@@ -1,0 +1,96 @@
+// Marker offsets: from a character index to a byte offset. (01: `byte_offset_of_char`; P1, K1.)
+ghost use mathlib.Core.Path.{_≡_};
+ghost use Prim.Native.Nat.{_≤_};
+ghost use Rattle.text.specs.Utf8.{Utf8};
+ghost use Rattle.text.specs.Offset.{cursorAt, Stands, isAscii, asciiLen};
+use crate::utf8::first_char;
+use crate::utf8::last_char;
+
+// How many characters lie before a place of the text, and the place's byte offset.
+pub struct Cursor {
+    pub chars: usize,
+    pub offset: usize,
+}
+
+// The cursor at the start of any text.
+pub const START: Cursor = Cursor {
+    chars: 0,
+    offset: 0,
+};
+
+// How many ASCII bytes `s` begins with.
+pub fn ascii_len(s: &[u8]) -> usize
+    ensures { λ r. ⌜ r ≡ asciiLen (now (s .entry)) ⌝ }
+{
+    let mut i = 0;
+    while i < s.len() {
+        if 0x80 <= s[i] {
+            return i;
+        }
+        i += 1;
+    }
+    i
+}
+
+// The cursor moved on to the character index `target`, or to the text's end where that comes first.
+fn forward(text: &[u8], cursor: Cursor, target: usize) -> Cursor
+    requires { ⌜ Utf8 (now text) ⌝ }
+    requires { ⌜ Stands (now text) (cursor .chars) (cursor .offset) ⌝ }
+    requires { ⌜ cursor .chars ≤ target ⌝ }
+    ensures { λ r. ⌜ r ≡ cursorAt (now (text .entry)) target ⌝ }
+{
+    let mut chars = cursor.chars;
+    let mut offset = cursor.offset;
+    while chars < target {
+        if text.len() <= offset {
+            return Cursor { chars, offset };
+        }
+        let c = first_char(text, offset);
+        offset += c.len;
+        chars += 1;
+    }
+    Cursor { chars, offset }
+}
+
+// The cursor moved back to the character index `target`.
+fn backward(text: &[u8], cursor: Cursor, target: usize) -> Cursor
+    requires { ⌜ Utf8 (now text) ⌝ }
+    requires { ⌜ Stands (now text) (cursor .chars) (cursor .offset) ⌝ }
+    requires { ⌜ target ≤ cursor .chars ⌝ }
+    ensures { λ r. ⌜ r ≡ cursorAt (now (text .entry)) target ⌝ }
+{
+    let mut chars = cursor.chars;
+    let mut offset = cursor.offset;
+    while target < chars {
+        let c = last_char(text, offset);
+        offset -= c.len;
+        chars -= 1;
+    }
+    Cursor { chars, offset }
+}
+
+// The cursor at the character index `target`, or at the text's end where that comes first, from wherever it stood. It moves by one
+// character a step, in either direction; an ASCII text needs no step.
+pub fn byte_offset_of_char(text: &[u8], ascii: bool, cursor: Cursor, target: usize) -> Cursor
+    requires { ⌜ Utf8 (now text) ⌝ }
+    requires { ⌜ ascii ≡ isAscii (now text) ⌝ }
+    requires { ⌜ Stands (now text) (cursor .chars) (cursor .offset) ⌝ }
+    ensures { λ r. ⌜ r ≡ cursorAt (now (text .entry)) target ⌝ }
+{
+    if ascii {
+        if target < text.len() {
+            return Cursor {
+                chars: target,
+                offset: target,
+            };
+        }
+        return Cursor {
+            chars: text.len(),
+            offset: text.len(),
+        };
+    }
+    if cursor.chars < target {
+        return forward(text, cursor, target);
+    }
+    backward(text, cursor, target)
+}
