@@ -17,3 +17,7 @@ pub mod Bytes
 pub mod Utf8Laws
 -- the laws of marker offsets
 pub mod OffsetLaws
+-- the laws of an admitted text
+pub mod AdmissionLaws
+-- worked cases, K1 among them
+pub mod Examples

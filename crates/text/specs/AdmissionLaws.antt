@@ -1,0 +1,66 @@
+-- What an admitted text is: within the limit, UTF-8, and ASCII where the answer says so. Assumes nothing.
+use mathlib.Core.Path.{_≡_, refl, sym}
+use mathlib.Core.Bool.{Bool, true, false, _&&_, _||_}
+use mathlib.Core.List.{List}
+use Prim.Native.Nat.{ℕ, _≤_}
+use native.Mathlib.Omega.{arith}
+use borrow.Author.Tests.{ltb-false}
+use lib.ListN.{length}
+use Rattle.text.specs.Utf8.{Utf8, isUtf8}
+use Rattle.text.specs.Utf8Laws.{utf8-sound}
+use Rattle.text.specs.Bytes.{and-left, and-right}
+use Rattle.text.specs.Offset.{isAscii}
+use Rattle.text.specs.Admission.{textLimit, isTooLong, pickAdmission, admission, admissionOfBoth}
+use Rattle.text.specs.declared.admission.Admission.{Admission}
+use Rattle.text.specs.declared.admission.Admission.the-variants.{Admitted, TooLong, NotUtf8}
+
+pub record Sound (s : List ℕ) : Type 0 where
+  pub within : length s ≤ textLimit
+  pub utf8 : Utf8 s
+
+-- the tests that lead to an admission
+record Passed (l u a x : Bool) : Type 0 where
+  short : l ≡ false
+  whole : u ≡ true
+  told : x ≡ a
+
+passed : (l u a x : Bool) → pickAdmission l TooLong (pickAdmission u (Admitted a) NotUtf8) ≡ Admitted x → Passed l u a x
+passed true u a x e = record { short = cc; whole = cc; told = cc }
+passed false true a x e = record { short = refl; whole = refl; told = cc }
+passed false false a x e = record { short = refl; whole = cc; told = cc }
+
+sound : (s : List ℕ) → isTooLong s ≡ false → isUtf8 s ≡ true → Sound s
+sound s h u = record { within = ltb-false textLimit (length s) h; utf8 = utf8-sound s u }
+
+or-left : (a b : Bool) → a || b ≡ false → a ≡ false
+or-left true b e = e
+or-left false b e = refl
+
+or-right : (a b : Bool) → a || b ≡ false → b ≡ false
+or-right true b e = cc
+or-right false b e = e
+
+module _ (s : List ℕ) (x : Bool) (e : admission s ≡ Admitted x) where
+  tests : Passed (isTooLong s) (isUtf8 s) (isAscii s) x
+  unfolding admission
+  tests = passed (isTooLong s) (isUtf8 s) (isAscii s) x e
+
+  pub admitted-sound : Sound s
+  admitted-sound = sound s (tests .short) (tests .whole)
+
+  pub admitted-ascii : x ≡ isAscii s
+  admitted-ascii = tests .told
+
+module _ (s v : List ℕ) (x : Bool) (e : admissionOfBoth s v ≡ Admitted x) where
+  both-tests : Passed (isTooLong s || isTooLong v) (isUtf8 s && isUtf8 v) (isAscii s) x
+  unfolding admissionOfBoth
+  both-tests = passed (isTooLong s || isTooLong v) (isUtf8 s && isUtf8 v) (isAscii s) x e
+
+  pub both-text-sound : Sound s
+  both-text-sound = sound s (or-left (isTooLong s) (isTooLong v) (both-tests .short)) (and-left (isUtf8 s) (isUtf8 v) (both-tests .whole))
+
+  pub both-value-sound : Sound v
+  both-value-sound = sound v (or-right (isTooLong s) (isTooLong v) (both-tests .short)) (and-right (isUtf8 s) (isUtf8 v) (both-tests .whole))
+
+  pub both-ascii : x ≡ isAscii s
+  both-ascii = both-tests .told
