@@ -1,0 +1,61 @@
+-- `replay::case::bytes_of` meets its contract: each return by the tests that lead to it. Assumes nothing.
+use mathlib.Core.Path.{_≡_}
+use Prim.Native.Nat.{_+_, _-_}
+use native.Mathlib.Omega.{arith}
+use borrow.Author.Tests.{le-leb, lt-leb}
+use Rattle.replay.specs.Case.{partOf}
+use borrow.Author.Needs.{needs}
+use Rattle.replay.proofs.case.bytes_of.Statement.{statement}
+use Rattle.replay.proofs.case.bytes_of.Tie as tie
+
+slice-aggregate-result : tie.Need-slice-aggregate-result
+slice-aggregate-result c = search needs
+
+returns : tie.Need-returns
+unfolding partOf
+returns c = rw (lt-leb _ _ (c .before .if1 .taken))
+
+sub-if2 : tie.Need-sub-if2
+sub-if2 c = search needs
+
+slice-aggregate-result-2 : tie.Need-slice-aggregate-result-2
+slice-aggregate-result-2 c = search needs
+
+returns-2 : tie.Need-returns-2
+unfolding partOf
+returns-2 c = rw (le-leb _ _ (c .before .before .if1 .left), lt-leb _ _ (c .before .if2 .taken))
+
+add-end : tie.Need-add-end
+add-end c = search needs
+
+sub-result : tie.Need-sub-result
+sub-result c = search needs
+
+part-result-start : tie.Need-part-result-start
+part-result-start c = search needs
+
+part-result-end : tie.Need-part-result-end
+part-result-end c = search needs
+
+returns-3 : tie.Need-returns-3
+unfolding partOf
+returns-3 c =
+    let at = c .before .before .before .args .p .at in
+    let len = c .before .before .before .args .p .len in
+    let n : at + len - at ≡ len = omega arith in
+    rw (le-leb _ _ (c .before .before .if1 .left), le-leb _ _ (c .before .if2 .left), n)
+
+pub bytes-of-spec : {M : Type 1} → statement M
+bytes-of-spec =
+    tie.close
+    (tie.spec
+    slice-aggregate-result
+    returns
+    sub-if2
+    slice-aggregate-result-2
+    returns-2
+    add-end
+    sub-result
+    part-result-start
+    part-result-end
+    returns-3)

@@ -1,0 +1,5 @@
+-- The definitions that the contracts of `replay` cite.
+-- the framing of an answered case
+pub mod Case
+-- a case that was read
+pub mod Stream

@@ -1,0 +1,102 @@
+// The parts of an answered case, as places in its bytes.
+ghost use mathlib.Core.Path.{_≡_};
+ghost use Rattle.replay.specs.Case.{number, partOf, layout};
+use text::utf8::byte_at;
+
+pub struct Part {
+    pub at: usize,
+    pub len: usize,
+}
+
+// The rooms of the two buffers, in numbers.
+pub struct Rooms {
+    pub records: u32,
+    pub pieces: u32,
+}
+
+pub struct Case {
+    pub text: Part,
+    pub events: Part,
+    pub rooms: Rooms,
+    // What is returned: 0, nodes and pieces; or a row's number, its place and 0; or PANICKED.
+    pub code: u32,
+    pub first: u32,
+    pub second: u32,
+    // The records' and the pieces' bytes, four for each number.
+    pub records: Part,
+    pub pieces: Part,
+}
+
+// Returned where the original panics on an input that document 01 admits.
+pub const PANICKED: u32 = 255;
+
+fn wide(b: u8) -> u32
+    ensures { λ r. ⌜ r ≡ b ⌝ }
+{
+    b as u32
+}
+
+// The number in the four bytes from `at` on, high byte first; bytes past the end are 0.
+pub fn number_at(s: &[u8], at: usize) -> u32
+    ensures { λ r. ⌜ r ≡ number (now (s .entry)) at ⌝ }
+{
+    if s.len() <= at {
+        return 0;
+    }
+    let high = wide(byte_at(s, at)) * 256 + wide(byte_at(s, at + 1));
+    high * 65536 + (wide(byte_at(s, at + 2)) * 256 + wide(byte_at(s, at + 3)))
+}
+
+// The bytes of a part; none where the part is not within the bytes.
+pub fn bytes_of(s: &[u8], p: Part) -> &[u8]
+    ensures { λ r. ⌜ now r ≡ partOf (now (s .entry)) (p .at) (p .len) ⌝ }
+{
+    let at = p.at;
+    let len = p.len;
+    if s.len() < at {
+        return &s[..0];
+    }
+    if s.len() - at < len {
+        return &s[..0];
+    }
+    let end = at + len;
+    &s[at..end]
+}
+
+// Where the parts of an answered case stand. A case that is cut off has parts that are not within it.
+pub fn case_of(s: &[u8]) -> Case
+    ensures { λ r. ⌜ r ≡ layout (now (s .entry)) ⌝ }
+{
+    let text = Part {
+        at: 4,
+        len: number_at(s, 0) as usize,
+    };
+    let after_text = 4 + text.len;
+    let events = Part {
+        at: after_text + 4,
+        len: number_at(s, after_text) as usize,
+    };
+    let after_events = after_text + 4 + events.len;
+    let records = Part {
+        at: after_events + 24,
+        len: 4 * (number_at(s, after_events + 20) as usize),
+    };
+    let after_records = after_events + 24 + records.len;
+    let pieces = Part {
+        at: after_records + 4,
+        len: 4 * (number_at(s, after_records) as usize),
+    };
+    Case {
+        text,
+        events,
+        rooms: Rooms {
+            records: number_at(s, after_events),
+            pieces: number_at(s, after_events + 4),
+        },
+        code: number_at(s, after_events + 8),
+        first: number_at(s, after_events + 12),
+        second: number_at(s, after_events + 16),
+        records,
+        pieces,
+    }
+}

@@ -1,0 +1,86 @@
+// The outcome of a replay, counted and printed.
+use libc::STDOUT_FILENO;
+
+// What one case came to.
+pub enum Verdict {
+    Same,
+    // The original panicked, so there is nothing to match.
+    Panicked,
+    Different,
+}
+
+pub struct Tally {
+    pub same: u64,
+    pub panicked: u64,
+    pub different: u64,
+    // Cases that the program has no room for.
+    pub passed: u64,
+    // More cases may follow.
+    pub going: bool,
+    // The list could not be read to its end.
+    pub broken: bool,
+}
+
+pub const START: Tally = Tally {
+    same: 0,
+    panicked: 0,
+    different: 0,
+    passed: 0,
+    going: true,
+    broken: false,
+};
+
+// A count stays at its largest value, which no run reaches.
+fn more(n: u64) -> u64 {
+    if n < u64::MAX {
+        return n + 1;
+    }
+    n
+}
+
+// One more case.
+pub fn counted(mut t: Tally, v: Verdict) -> Tally {
+    match v {
+        Verdict::Same => {
+            t.same = more(t.same);
+        }
+        Verdict::Panicked => {
+            t.panicked = more(t.panicked);
+        }
+        Verdict::Different => {
+            t.different = more(t.different);
+        }
+    }
+    t
+}
+
+// A case that was passed over.
+pub fn passed_over(mut t: Tally) -> Tally {
+    t.passed = more(t.passed);
+    t
+}
+
+// No more cases.
+pub fn closed(mut t: Tally, broken: bool) -> Tally {
+    t.going = false;
+    t.broken = broken;
+    t
+}
+
+fn line(n: u64, what: &[u8]) {
+    io::print_decimal(STDOUT_FILENO, n);
+    io::write_all(STDOUT_FILENO, what);
+}
+
+// Prints the counts, and whether the list was read to its end.
+pub fn print(t: Tally) {
+    line(t.same, b" the same\n");
+    line(t.panicked, b" not answered by the original\n");
+    line(t.different, b" different\n");
+    if t.passed > 0 {
+        line(t.passed, b" too large for this program\n");
+    }
+    if t.broken {
+        io::write_all(STDOUT_FILENO, b"the list is broken\n");
+    }
+}

@@ -1,0 +1,94 @@
+// Replays the original's marker offsets: in each case a sequence of aliases over a text, whose span starts are the offsets of their
+// markers, taken in turn through one cursor.
+ghost use mathlib.Core.Path.{_≡_};
+ghost use Rattle.text.specs.Utf8.{Utf8};
+ghost use Rattle.text.specs.Offset.{isAscii};
+use replay::case::Part;
+use replay::stream::Next;
+use replay::tally::Tally;
+use replay::tally::Verdict;
+use text::admission::Admission;
+use text::offset::START;
+
+// The events: a sequence start of 8 bytes, then the aliases, the marker's index behind tag and length, then a sequence end.
+const START_BYTES: usize = 8;
+
+const ALIAS_BYTES: usize = 7;
+
+const MARKER_AT: usize = 3;
+
+// A record's bytes, and where its span start stands.
+const RECORD_BYTES: usize = 48;
+
+const SPAN_START_AT: usize = 4;
+
+// Whether the offsets of the markers are the span starts of the records.
+fn same_offsets(text: &[u8], ascii: bool, events: &[u8], records: &[u8]) -> bool
+    requires { ⌜ Utf8 (now text) ⌝ }
+    requires { ⌜ ascii ≡ isAscii (now text) ⌝ }
+{
+    let mut cursor = START;
+    let mut event = START_BYTES;
+    let mut place = 0;
+    while event + ALIAS_BYTES < events.len() {
+        let marker = replay::case::number_at(events, event + MARKER_AT) as usize;
+        cursor = text::offset::byte_offset_of_char(text, ascii, cursor, marker);
+        if records.len() - place < RECORD_BYTES {
+            return false;
+        }
+        if cursor.offset != replay::case::number_at(records, place + SPAN_START_AT) as usize {
+            return false;
+        }
+        event += ALIAS_BYTES;
+        place += RECORD_BYTES;
+    }
+    records.len() - place == RECORD_BYTES
+}
+
+fn verdict(bytes: &[u8]) -> Verdict {
+    let case = replay::case::case_of(bytes);
+    let text = replay::case::bytes_of(bytes, case.text);
+    let events = replay::case::bytes_of(bytes, case.events);
+    let records = replay::case::bytes_of(bytes, case.records);
+    let admission = text::admission::admit_text(text);
+    match admission {
+        Admission::Admitted { ascii } => {
+            if same_offsets(text, ascii, events, records) {
+                return Verdict::Same;
+            }
+            Verdict::Different
+        }
+        Admission::TooLong => Verdict::Different,
+        Admission::NotUtf8 => Verdict::Different,
+    }
+}
+
+// Reads a case and counts it.
+fn step(space: &mut [u8], tally: Tally) -> Tally {
+    let next = replay::stream::next_case(space);
+    match next {
+        Next::Case(len) => {
+            let v = verdict(replay::case::bytes_of(space, Part { at: 0, len }));
+            replay::tally::counted(tally, v)
+        }
+        Next::TooLarge => replay::tally::passed_over(tally),
+        Next::End => replay::tally::closed(tally, false),
+        Next::Broken => replay::tally::closed(tally, true),
+    }
+}
+
+// All cases. The loop has to end, and nothing says that a list does, so it counts down from a number that no run uses up.
+fn replay_all(space: &mut [u8]) -> Tally {
+    let mut tally = replay::tally::START;
+    let mut turns = u64::MAX;
+    while turns > 0 && tally.going {
+        tally = step(space, tally);
+        turns -= 1;
+    }
+    tally
+}
+
+fn main() {
+    let mut space = io::large_buffer();
+    replay::tally::print(replay_all(&mut space));
+}

@@ -1,0 +1,61 @@
+//! What the families share: the size of the list, the random numbers, and the shapes of cases.
+
+use crate::rng::Rng;
+use framing::Case;
+use framing::event::{Event, Scalar, encode};
+use std::io::{self, BufWriter, StdoutLock, Write};
+
+pub const PLAIN: u8 = 0;
+pub const SINGLE_QUOTED: u8 = 1;
+pub const DOUBLE_QUOTED: u8 = 2;
+pub const LITERAL: u8 = 3;
+pub const FOLDED: u8 = 4;
+pub const STYLES: [u8; 5] = [PLAIN, SINGLE_QUOTED, DOUBLE_QUOTED, LITERAL, FOLDED];
+
+pub struct Run {
+    pub full: bool,
+    pub rng: Rng,
+    out: BufWriter<StdoutLock<'static>>,
+}
+
+impl Run {
+    pub fn new(full: bool, rng: Rng) -> Self {
+        let out = BufWriter::new(io::stdout().lock());
+        Self { full, rng, out }
+    }
+
+    /// The number for the size of this list.
+    pub fn sized(&self, sample: usize, full: usize) -> usize {
+        if self.full { full } else { sample }
+    }
+
+    pub fn put(&mut self, case: &Case) {
+        case.write(&mut self.out).expect("standard output takes the cases");
+    }
+
+    /// A document of one scalar, with ample room.
+    pub fn put_scalar(&mut self, text: &str, scalar: Scalar) {
+        self.put(&one_scalar(text, scalar));
+    }
+}
+
+impl Drop for Run {
+    fn drop(&mut self) {
+        self.out.flush().expect("standard output takes the cases");
+    }
+}
+
+/// A document of one scalar, with ample room.
+pub fn one_scalar(text: &str, scalar: Scalar) -> Case {
+    ample(text.into(), encode(&[Event::Scalar(scalar)]), 1, scalar.value.len())
+}
+
+/// A case whose rooms are more than its nodes and the bytes of its values need.
+pub fn ample(text: Vec<u8>, events: Vec<u8>, nodes: usize, value_bytes: usize) -> Case {
+    Case { text, events, record_room: 12 * nodes as u32 + 7, piece_room: 4 * value_bytes as u32 + 40 }
+}
+
+/// The index of a text's end.
+pub fn characters(text: &str) -> u32 {
+    text.chars().count() as u32
+}
