@@ -1,0 +1,62 @@
+-- `tag::token::token_start` meets its contract. The loop's invariant: from `j` the way back over a token's characters ends
+-- where it does from `i`. The measure is `j`. Assumes nothing.
+use mathlib.Core.Path.{sym, _∙_, ap}
+use mathlib.Core.Bool.{not}
+use Rattle.tag.specs.Back.{isTokenChar}
+use Rattle.tag.proofs.Steps.{Going, going-start, going-ends, Stepping, stepping, step-less, going-stops, going-on}
+use Rattle.tag.proofs.token.token_start.Statement.{statement}
+use Rattle.tag.proofs.token.token_start.Tie as tie
+use Rattle.tag.proofs.token.token_start.Reads as reads
+use Rattle.tag.proofs.token.token_start.Lts as lts
+use Rattle.text.proofs.utf8.last_char.Reads as last-char-reads
+use Rattle.text.proofs.white_space.is_white_space.Reads as is-white-space-reads
+
+abbrev Inv-loop : tie.InvT-loop
+Inv-loop text i j₀ j = Going isTokenChar text i j
+
+abbrev μ-loop : tie.MeasureT-loop
+μ-loop text i j₀ j = j
+
+-- the character before `j`
+step-at : (c : lts.After-last-char (last-char-reads.Asked, last-char-reads.Learnt, is-white-space-reads.Asked, is-white-space-reads.Learnt) reads.Pre reads.Post Inv-loop μ-loop)
+    → Stepping isTokenChar (c .before .before .before .before .args .text .now) (c .before .before .before .before .args .i) (c .before .before .loop .j) (c .last-char .result)
+step-at c = stepping (c .before .before .before .before .pre .0) (c .before .before .loop .inv) (c .before .loop-test .taken) (c .last-char .ensures)
+
+loop-holds : tie.Need-loop-holds Inv-loop μ-loop
+loop-holds c = going-start isTokenChar (c .before .pre .1)
+
+last-char-requires : tie.Need-last-char-requires Inv-loop μ-loop
+last-char-requires c κs = (c .before .before .before .pre .0, c .before .loop .inv .edge)
+
+is-white-space-requires : tie.Need-is-white-space-requires Inv-loop μ-loop
+is-white-space-requires c κs = tt
+
+returns : tie.Need-returns Inv-loop μ-loop
+returns c = going-stops (step-at (c .before .before)) (ap not (sym (c .before .is-white-space .ensures) ∙ c .if1 .taken))
+
+sub-j : tie.Need-sub-j Inv-loop μ-loop
+sub-j c = step-at (c .before .before .before) .step .fits
+
+loop-less : tie.Need-loop-less Inv-loop μ-loop
+loop-less c = step-less (step-at (c .before .before .before))
+
+loop-again : tie.Need-loop-again Inv-loop μ-loop
+loop-again c = going-on (step-at (c .before .before .before)) (ap not (sym (c .before .before .is-white-space .ensures) ∙ c .before .if1 .left))
+
+returns-2 : tie.Need-returns-2 Inv-loop μ-loop
+returns-2 c = going-ends (c .before .before .before .pre .0) (c .before .loop .inv) (c .loop-test .left)
+
+pub token-start-spec : {M : Type 1} → statement M
+token-start-spec =
+    tie.close
+    (tie.spec
+    Inv-loop
+    μ-loop
+    loop-holds
+    last-char-requires
+    is-white-space-requires
+    returns
+    sub-j
+    loop-less
+    loop-again
+    returns-2)

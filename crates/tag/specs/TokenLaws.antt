@@ -1,0 +1,296 @@
+-- The laws of tokens: the code points before a place, one step back at a time; what a step back over some characters leaves and
+-- passes; what a token is (`no-tokens`, `next-token`); and the last token before a place as the search reads it. Assumes nothing.
+use mathlib.Core.Path.{_≡_, refl, sym, _∙_, ap, subst}
+use mathlib.Core.Bool.{Bool, true, false, not}
+use mathlib.Core.List.{List, [], _∷_, _++_, append-assoc, append-nil, reverse, reverseAux, reverseAux-eq, reverse-append, reverse-reverse}
+use Prim.Native.Nat.{ℕ, _+_, _-_, _≤_, _<_}
+use native.Mathlib.Omega.{arith}
+use borrow.Author.Tests.{not-true}
+use lib.ListN.{length, take, drop, length-append, length-take}
+use lib.Seq.{take-at}
+use Rattle.text.specs.Utf8.{ScalarValues, Utf8, encode, encodeAll, codes, charsAfter, lastChar}
+use Rattle.text.specs.Boundary.{Boundary}
+use Rattle.text.specs.WhiteSpace.{isWhiteSpace}
+use Rattle.text.specs.Utf8Laws.{codes-encode, codes-encodeAll, encodeAll-append, scalars-front, Place, place-at, place-front, place-back, place-boundary, boundary-splits, char-before}
+use Rattle.text.specs.declared.utf8.Char.{Char}
+use Rattle.tag.specs.Tokens.{bytes, before, token, pickTokens, withWord, tokens, tokensBefore}
+use Rattle.tag.specs.Back.{pickCodes, skip, backOver, isTokenChar, tokenEnd, tokenStart}
+
+-- ---- bytes
+
+pub bytes-cons : (c : ℕ) (cs : List ℕ) → bytes (c ∷ cs) ≡ length (encode c) + bytes cs
+unfolding bytes encodeAll
+bytes-cons c cs = length-append (encode c) (encodeAll cs)
+
+bytes-append : (xs ys : List ℕ) → bytes (xs ++ ys) ≡ bytes xs + bytes ys
+unfolding bytes
+bytes-append xs ys = ap length (encodeAll-append xs ys) ∙ length-append (encodeAll xs) (encodeAll ys)
+
+bytes-reverseAux : (xs ys : List ℕ) → bytes (reverseAux xs ys) ≡ bytes xs + bytes ys
+unfolding bytes encodeAll
+bytes-reverseAux [] ys = omega arith
+bytes-reverseAux (x ∷ xs) ys =
+    let r = bytes-reverseAux xs (x ∷ ys) in
+    let e = bytes-cons x xs in
+    let f = bytes-cons x ys in
+    r ∙ omega arith
+
+-- the order does not matter
+bytes-reverse : (xs : List ℕ) → bytes (reverse xs) ≡ bytes xs
+unfolding bytes encodeAll
+bytes-reverse xs = let r = bytes-reverseAux xs [] in r ∙ omega arith
+
+-- ---- the code points before a place
+
+pub before-start : (s : List ℕ) → before s 0 ≡ []
+unfolding before codes charsAfter
+before-start s = refl
+
+before-codes : (s : List ℕ) (i : ℕ) → reverse (before s i) ≡ codes (take i s)
+unfolding before
+before-codes s i = reverse-reverse (codes (take i s))
+
+pub bytes-before : {s : List ℕ} {i : ℕ} → Utf8 s → Boundary s i → bytes (before s i) ≡ i
+unfolding before bytes
+bytes-before {s} {i} u b =
+    let w = b .within in
+    let e : length (take i s) ≡ i = length-take i s ∙ omega arith in
+    bytes-reverse (codes (take i s)) ∙ sym (ap length (codes-encode (boundary-splits u b .front))) ∙ e
+
+-- k is the character that ends at byte i: one step back
+pub record Step-back (s : List ℕ) (i : ℕ) (k : Char) : Type 0 where
+  pub fits : k .len ≤ i
+  pub some : 1 ≤ k .len
+  pub edge : Boundary s (i - k .len)
+  pub is : before s i ≡ k .code ∷ before s (i - k .len)
+
+pub steps-back : {s : List ℕ} {i : ℕ} → Utf8 s → Boundary s i → 0 < i → Step-back s i (lastChar (take i s))
+unfolding before
+steps-back {s} {i} u b h =
+    let k = lastChar (take i s) in
+    let p = char-before u b h in
+    let f = p .fits in
+    let e : i - k .len + k .len ≡ i = omega arith in
+    record {
+      fits = f;
+      some = p .is .some;
+      edge = p .is .start;
+      is = ap reverse (subst (λ (n : ℕ). codes (take n s) ≡ codes (take (i - k .len) s) ++ (k .code ∷ [])) e (p .is .backward)) ∙ reverse-append (codes (take (i - k .len) s)) (k .code ∷ []);
+    }
+
+-- ---- a cut in front of some code points before a place
+
+-- the code points before byte i are `front` and then `word`: there is a boundary between them
+pub record Cut (s : List ℕ) (i : ℕ) (front word : List ℕ) : Type 0 where
+  pub edge : Boundary s (bytes front)
+  pub there : before s (bytes front) ≡ reverse front
+  pub whole : i ≡ bytes front + bytes word
+  pub part : take (i - bytes front) (drop (bytes front) s) ≡ encodeAll word
+
+cut : {s : List ℕ} {i : ℕ} → Utf8 s → Boundary s i → (front word : List ℕ) → codes (take i s) ≡ front ++ word → Cut s i front word
+unfolding bytes before
+cut {s} {i} u b front word e =
+    let p = place-at u b in
+    let after = p .after in
+    let is : p .before ≡ front ++ word = sym (ap codes (place-front p) ∙ codes-encodeAll (p .before) (scalars-front (p .before) after (p .scalars))) ∙ e in
+    let scalars : ScalarValues (front ++ (word ++ after)) = subst ScalarValues (append-assoc front word after) (subst (λ (l : List ℕ). ScalarValues (l ++ after)) is (p .scalars)) in
+    let text : s ≡ encodeAll front ++ encodeAll (word ++ after) =
+    p .text ∙ sym (encodeAll-append (p .before) after) ∙ ap (λ (l : List ℕ). encodeAll (l ++ after)) is ∙ ap encodeAll (append-assoc front word after) ∙ encodeAll-append front (word ++ after) in
+    let q : Place s (bytes front) = record { before = front; after = word ++ after; scalars = scalars; text = text; offset = refl } in
+    let whole : i ≡ bytes front + bytes word = p .offset ∙ ap (λ (l : List ℕ). bytes l) is ∙ bytes-append front word in
+    record {
+      edge = place-boundary q;
+      there = ap reverse (ap codes (place-front q) ∙ codes-encodeAll front (scalars-front front (word ++ after) scalars));
+      whole = whole;
+      part =
+          ap (take (i - bytes front)) (place-back q ∙ encodeAll-append word after)
+          ∙ take-at (encodeAll word) (encodeAll after) (i - bytes front) (omega arith);
+    }
+
+-- ---- back over the characters of a kind
+
+-- what is passed, in the order of the text, and `word` behind it
+unfoldable pub passed : (ℕ → Bool) → List ℕ → List ℕ → List ℕ
+passed kind word [] = word
+passed kind word (c ∷ cs) = pickCodes (kind c) (passed kind (c ∷ word) cs) word
+
+module _ (kind : ℕ → Bool) where
+  skip-passed : (cs word : List ℕ) → reverseAux cs word ≡ reverse (skip kind cs) ++ passed kind word cs
+  unfolding skip passed
+  skip-passed [] word = refl
+  skip-passed (c ∷ cs) word = go (kind c) (skip-passed cs (c ∷ word))
+    where
+      go : (t : Bool) → reverseAux cs (c ∷ word) ≡ reverse (skip kind cs) ++ passed kind (c ∷ word) cs
+          → reverseAux cs (c ∷ word) ≡ reverse (pickCodes t (skip kind cs) (c ∷ cs)) ++ pickCodes t (passed kind (c ∷ word) cs) word
+      go true r = r
+      go false r = reverseAux-eq (c ∷ cs) word
+
+  -- a step back ends at a boundary; what is left lies before it, and what is passed are the bytes up to where it began
+  pub record Back-over (s : List ℕ) (i : ℕ) : Type 0 where
+    pub edge : Boundary s (backOver kind s i)
+    pub left : before s (backOver kind s i) ≡ skip kind (before s i)
+    pub whole : i ≡ backOver kind s i + bytes (passed kind [] (before s i))
+    pub part : take (i - backOver kind s i) (drop (backOver kind s i) s) ≡ encodeAll (passed kind [] (before s i))
+
+  pub back-over : {s : List ℕ} {i : ℕ} → Utf8 s → Boundary s i → Back-over s i
+  unfolding backOver
+  back-over {s} {i} u b =
+      let rest = skip kind (before s i) in
+      let k = cut u b (reverse rest) (passed kind [] (before s i)) (sym (before-codes s i) ∙ skip-passed (before s i) []) in
+      let e = bytes-reverse rest in
+      record {
+        edge = rw e at (k .edge);
+        left = (rw e at (k .there)) ∙ reverse-reverse rest;
+        whole = rw e at (k .whole);
+        part = rw e at (k .part);
+      }
+
+-- ---- tokens, by the steps back
+
+-- white space before a place changes nothing
+tokens-space : (cs : List ℕ) → tokens [] (skip isWhiteSpace cs) ≡ tokens [] cs
+unfolding tokens skip withWord
+tokens-space [] = refl
+tokens-space (c ∷ cs) = go (isWhiteSpace c) refl (tokens-space cs)
+  where
+    go : (t : Bool) → isWhiteSpace c ≡ t → tokens [] (skip isWhiteSpace cs) ≡ tokens [] cs
+        → tokens [] (pickCodes t (skip isWhiteSpace cs) (c ∷ cs)) ≡ pickTokens t (tokens [] cs) (tokens (c ∷ []) cs)
+    go true e r = r
+    go false e r = rw e
+
+-- the token at hand, and those before it
+tokens-word : (word cs : List ℕ) → tokens word cs ≡ withWord (passed isTokenChar word cs) (skip isTokenChar cs) (tokens [] (skip isTokenChar cs))
+unfolding tokens skip passed withWord
+tokens-word word [] = refl
+tokens-word word (c ∷ cs) = go (isWhiteSpace c) refl (tokens-word (c ∷ word) cs)
+  where
+    go : (t : Bool) → isWhiteSpace c ≡ t
+        → tokens (c ∷ word) cs ≡ withWord (passed isTokenChar (c ∷ word) cs) (skip isTokenChar cs) (tokens [] (skip isTokenChar cs))
+        → pickTokens t (withWord word (c ∷ cs) (tokens [] cs)) (tokens (c ∷ word) cs)
+        ≡ withWord (pickCodes (not t) (passed isTokenChar (c ∷ word) cs) word) (pickCodes (not t) (skip isTokenChar cs) (c ∷ cs)) (tokens [] (pickCodes (not t) (skip isTokenChar cs) (c ∷ cs)))
+    go true e r = rw e
+    go false e r = r
+
+some-passed : (kind : ℕ → Bool) (c : ℕ) (word cs : List ℕ) → 1 ≤ length (passed kind (c ∷ word) cs)
+unfolding passed
+some-passed kind c word [] = omega arith
+some-passed kind c word (d ∷ cs) = go (kind d) (some-passed kind d (c ∷ word) cs)
+  where
+    go : (t : Bool) → 1 ≤ length (passed kind (d ∷ c ∷ word) cs) → 1 ≤ length (pickCodes t (passed kind (d ∷ c ∷ word) cs) (c ∷ word))
+    go true r = r
+    go false r = omega arith
+
+-- behind white space stands a token, unless nothing is left
+no-token : (cs : List ℕ) → length (passed isTokenChar [] (skip isWhiteSpace cs)) ≡ 0 → tokens [] cs ≡ []
+unfolding tokens skip passed withWord
+no-token [] e = refl
+no-token (c ∷ cs) e = go (isWhiteSpace c) refl (no-token cs) e
+  where
+    go : (t : Bool) → isWhiteSpace c ≡ t → (length (passed isTokenChar [] (skip isWhiteSpace cs)) ≡ 0 → tokens [] cs ≡ [])
+        → length (passed isTokenChar [] (pickCodes t (skip isWhiteSpace cs) (c ∷ cs))) ≡ 0
+        → pickTokens t (tokens [] cs) (tokens (c ∷ []) cs) ≡ []
+    go true q r e = r e
+    go false q r e =
+        absurd
+        (let some = some-passed isTokenChar c [] cs in
+        let none : length (passed isTokenChar (c ∷ []) cs) ≡ 0 = rw q at e in
+        omega arith)
+
+-- ---- what a token is: a word with white space, or the text's end, on either side
+
+abbrev pub All : (ℕ → Bool) → List ℕ → Type 0
+All kind [] = Unit {0}
+All kind (c ∷ cs) = (kind c ≡ true) × All kind cs
+
+-- nothing, or white space first
+abbrev pub Edge : List ℕ → Type 0
+Edge [] = Unit {0}
+Edge (c ∷ cs) = isWhiteSpace c ≡ true
+
+all-reverse : (kind : ℕ → Bool) (xs ys : List ℕ) → All kind xs → All kind ys → All kind (reverseAux xs ys)
+all-reverse kind [] ys a b = b
+all-reverse kind (x ∷ xs) ys a b = all-reverse kind xs (x ∷ ys) (a .1) (a .0, b)
+
+past-space : (spaces rest : List ℕ) → All isWhiteSpace spaces → tokens [] (spaces ++ rest) ≡ tokens [] rest
+unfolding tokens withWord
+past-space [] rest a = refl
+past-space (c ∷ spaces) rest a = rw (a .0) (past-space spaces rest (a .1))
+
+past-word : (word acc rest : List ℕ) → All isTokenChar word → tokens acc (word ++ rest) ≡ tokens (reverseAux word acc) rest
+unfolding tokens
+past-word [] acc rest a = refl
+past-word (c ∷ word) acc rest a = rw (not-true (isWhiteSpace c) (a .0)) (past-word word (c ∷ acc) rest (a .1))
+
+at-edge : (word rest : List ℕ) → Edge rest → tokens word rest ≡ withWord word rest (tokens [] rest)
+unfolding tokens withWord
+at-edge word [] e = refl
+at-edge word (c ∷ rest) e = rw e
+
+-- white space alone has no token
+pub no-tokens : (s : List ℕ) (i : ℕ) → All isWhiteSpace (codes (take i s)) → tokensBefore s i ≡ []
+unfolding tokensBefore before tokens withWord
+no-tokens s i a =
+    ap (λ (l : List ℕ). tokens [] l) (sym (append-nil (reverse (codes (take i s))))) ∙ past-space (reverse (codes (take i s))) [] (all-reverse isWhiteSpace (codes (take i s)) [] a tt)
+
+-- else the nearest token is the word before the white space, and the others are those before it; `front` is empty or ends in white
+-- space, so that the word is whole
+pub next-token : {s : List ℕ} {i : ℕ} → Utf8 s → Boundary s i → (front : List ℕ) (c : ℕ) (word spaces : List ℕ)
+    → codes (take i s) ≡ front ++ ((c ∷ word) ++ spaces) → Edge (reverse front) → All isTokenChar (c ∷ word) → All isWhiteSpace spaces
+    → tokensBefore s i ≡ token (bytes front) (c ∷ word) ∷ tokensBefore s (bytes front)
+unfolding tokensBefore withWord
+next-token {s} {i} u b front c word spaces e edge chars blank =
+    let w = c ∷ word in
+    let r = reverse front in
+    let order : before s i ≡ reverse spaces ++ (reverse w ++ r) =
+    turned ∙ reverse-append front (w ++ spaces) ∙ ap (λ (l : List ℕ). l ++ r) (reverse-append w spaces) ∙ append-assoc (reverse spaces) (reverse w) r in
+    ap (λ (l : List ℕ). tokens [] l) order
+    ∙ past-space (reverse spaces) (reverse w ++ r) (all-reverse isWhiteSpace spaces [] blank tt)
+    ∙ past-word (reverse w) [] r (all-reverse isTokenChar w [] chars tt)
+    ∙ ap (λ (l : List ℕ). tokens l r) (reverse-reverse w)
+    ∙ at-edge w r edge
+    ∙ rw (bytes-reverse front, cut u b front (w ++ spaces) e .there)
+  where
+    turned : before s i ≡ reverse (front ++ ((c ∷ word) ++ spaces))
+    turned = sym (reverse-reverse (before s i)) ∙ ap reverse (before-codes s i ∙ e)
+
+-- ---- the last token before a place, as the search reads it
+
+-- the code points of the last token before byte i
+unfoldable pub lastWord : List ℕ → ℕ → List ℕ
+lastWord s i = passed isTokenChar [] (before s (tokenEnd s i))
+
+-- the last token before byte i, from byte a to byte e
+pub record Last-token (s : List ℕ) (i : ℕ) (a e : ℕ) : Type 0 where
+  pub start : Boundary s a
+  pub end : Boundary s e
+  pub whole : e ≡ a + bytes (lastWord s i)
+  pub back : e ≤ i
+  pub part : take (e - a) (drop a s) ≡ encodeAll (lastWord s i)
+  -- the tokens are this one, if it is any, and those before it
+  pub are : tokensBefore s i ≡ withWord (lastWord s i) (before s a) (tokensBefore s a)
+  pub none : length (lastWord s i) ≡ 0 → tokensBefore s i ≡ []
+
+pub end-boundary : {s : List ℕ} {i e : ℕ} → Utf8 s → Boundary s i → e ≡ tokenEnd s i → Boundary s e
+end-boundary u b he = rw he (back-over isWhiteSpace u b .edge)
+
+pub last-token : {s : List ℕ} {i e a : ℕ} → Utf8 s → Boundary s i → e ≡ tokenEnd s i → a ≡ tokenStart s e → Last-token s i a e
+unfolding tokensBefore lastWord
+last-token {s} {i} u b he ha = rw (ha, he) last
+  where
+    last : Last-token s i (tokenStart s (tokenEnd s i)) (tokenEnd s i)
+    last =
+        let e = tokenEnd s i in
+        let space = back-over isWhiteSpace u b in
+        let word = back-over isTokenChar u (space .edge) in
+        let w = space .whole in
+        let are : tokens [] (before s e) ≡ withWord (passed isTokenChar [] (before s e)) (before s (tokenStart s e)) (tokens [] (before s (tokenStart s e))) =
+        rw (word .left) (tokens-word [] (before s e)) in
+        record {
+          start = word .edge;
+          end = space .edge;
+          whole = word .whole;
+          back = omega arith;
+          part = word .part;
+          are = sym (tokens-space (before s i)) ∙ ap (λ (l : List ℕ). tokens [] l) (sym (space .left)) ∙ are;
+          none = λ n. no-token (before s i) (rw (space .left) at n);
+        }

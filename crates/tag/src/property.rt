@@ -1,0 +1,91 @@
+// The tag property before a node, and the tag's span, found or guessed. (01: Reading rules, Tag span; S9, P6, F1, K12.)
+ghost use mathlib.Core.Path.{_≡_};
+ghost use Rattle.text.specs.Utf8.{Utf8};
+ghost use Rattle.text.specs.Boundary.{Boundary};
+ghost use Rattle.tag.specs.Tag.{propertySpan, tagProperty, tagOffset, tagSpan};
+use crate::token::opening_len;
+use crate::token::token_end;
+use crate::token::token_start;
+use text::utf8::byte_at;
+
+// The bytes from `start` to `end`, `end` not counted in.
+pub struct Span {
+    pub start: usize,
+    pub end: usize,
+}
+
+// The span of the tag property before the node that starts at byte `node`, found going back token by token; where there is none, the
+// empty span at `node`.
+fn find_property(text: &[u8], node: usize) -> Span
+    requires { ⌜ Utf8 (now text) ⌝ }
+    requires { ⌜ Boundary (now text) node ⌝ }
+    ensures { λ r. ⌜ r ≡ propertySpan (now (text .entry)) node ⌝ }
+{
+    let mut before = node;
+    loop {
+        let end = token_end(text, before);
+        let start = token_start(text, end);
+        let token = &text[start..end];
+        let dropped = opening_len(token);
+        let mark = byte_at(token, dropped);
+        if mark == b'!' {
+            return Span {
+                start: start + dropped,
+                end,
+            };
+        }
+        if mark != b'&' {
+            return Span {
+                start: node,
+                end: node,
+            };
+        }
+        before = start;
+    }
+}
+
+// The tag property before the node that starts at byte `node`, as a part of the text; an empty part where there is none.
+pub fn find_tag_span(text: &[u8], node: usize) -> &[u8]
+    requires { ⌜ Utf8 (now text) ⌝ }
+    requires { ⌜ Boundary (now text) node ⌝ }
+    ensures { λ r. ⌜ now r ≡ tagProperty (now (text .entry)) node ⌝ }
+{
+    let found = find_property(text, node);
+    let start = found.start;
+    let end = found.end;
+    &text[start..end]
+}
+
+// The byte offset of that part; `node` where there is no property.
+pub fn find_tag_offset(text: &[u8], node: usize) -> usize
+    requires { ⌜ Utf8 (now text) ⌝ }
+    requires { ⌜ Boundary (now text) node ⌝ }
+    ensures { λ r. ⌜ r ≡ tagOffset (now (text .entry)) node ⌝ }
+{
+    let found = find_property(text, node);
+    found.start
+}
+
+// The span of the tag of the node that starts at byte `node`, its suffix being `suffix` bytes long: the property before the node, or
+// else a guess, 1 plus the suffix's bytes from the node's start, cut to the text left.
+pub fn make_tag_info(text: &[u8], node: usize, suffix: usize) -> Span
+    requires { ⌜ Utf8 (now text) ⌝ }
+    requires { ⌜ Boundary (now text) node ⌝ }
+    ensures { λ r. ⌜ r ≡ tagSpan (now (text .entry)) node suffix ⌝ }
+{
+    let found = find_property(text, node);
+    if found.start < found.end {
+        return found;
+    }
+    let left = text.len() - node;
+    if suffix < left {
+        return Span {
+            start: node,
+            end: node + 1 + suffix,
+        };
+    }
+    Span {
+        start: node,
+        end: text.len(),
+    }
+}
