@@ -1,0 +1,73 @@
+-- `event::number::number_at` meets its contract. The loop's invariant: `n` is the number in the first `k` bytes. The measure is how many
+-- bytes are left. Assumes nothing.
+use mathlib.Core.Path.{_≡_, _∙_, ap}
+use Prim.Native.Nat.{_+_, _-_, _≤_}
+use native.Mathlib.Numerals.{add-one}
+use native.Mathlib.Omega.{arith}
+use borrow.Author.Needs.{needs}
+use Rattle.event.specs.Number.{numberAt}
+use Rattle.event.specs.NumberLaws.{number-grows}
+use Rattle.event.proofs.number.number_at.Statement.{statement}
+use Rattle.event.proofs.number.number_at.Tie as tie
+
+abbrev Inv-loop : tie.InvT-loop
+Inv-loop events at width n₀ k₀ n k = (k ≤ width) × (n ≡ numberAt events at k)
+
+abbrev μ-loop : tie.MeasureT-loop
+μ-loop events at width n₀ k₀ n k = width - k
+
+loop-holds : tie.Need-loop-holds Inv-loop μ-loop
+unfolding numberAt
+loop-holds c = search needs
+
+add-byte : tie.Need-add-byte Inv-loop μ-loop
+add-byte c = search needs
+
+shared-slice-read-byte : tie.Need-shared-slice-read-byte Inv-loop μ-loop
+shared-slice-read-byte c = search needs
+
+cast-byte : tie.Need-cast-byte Inv-loop μ-loop
+cast-byte c = omega (arith, c .shared-slice-known .given (c .before .before .before .args .at + c .before .before .loop .k))
+
+mul-n : tie.Need-mul-n Inv-loop μ-loop
+mul-n c =
+    let start = c .before .before .before in
+    omega (arith, number-grows (start .args .events .now) (λ i. omega (arith, c .shared-slice-known .given i)) (start .args .at) (c .before .before .loop .k) (omega arith))
+
+add-n : tie.Need-add-n Inv-loop μ-loop
+add-n c =
+    let start = c .before .before .before in
+    let byte = c .shared-slice-known .given (start .args .at + c .before .before .loop .k) in
+    omega (arith, number-grows (start .args .events .now) (λ i. omega (arith, c .shared-slice-known .given i)) (start .args .at) (c .before .before .loop .k) (omega arith))
+
+add-k : tie.Need-add-k Inv-loop μ-loop
+add-k c = search needs
+
+loop-less : tie.Need-loop-less Inv-loop μ-loop
+loop-less c = search needs
+
+loop-again : tie.Need-loop-again Inv-loop μ-loop
+unfolding numberAt
+loop-again c = (omega arith, rw (add-one, c .before .before .loop .inv .1))
+
+returns : tie.Need-returns Inv-loop μ-loop
+returns c =
+    let all : c .before .loop .k ≡ c .before .before .args .width = omega arith in
+    c .before .loop .inv .1 ∙ ap (numberAt (c .before .before .args .events .now) (c .before .before .args .at)) all
+
+pub number-at-spec : {M : Type 1} → statement M
+number-at-spec =
+    tie.close
+    (tie.spec
+    Inv-loop
+    μ-loop
+    loop-holds
+    add-byte
+    shared-slice-read-byte
+    cast-byte
+    mul-n
+    add-n
+    add-k
+    loop-less
+    loop-again
+    returns)

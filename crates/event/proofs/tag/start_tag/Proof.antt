@@ -1,0 +1,35 @@
+-- `event::tag::start_tag` meets its contract: the tag, then where it ends. Assumes nothing.
+use mathlib.Core.Path.{sym, _∙_, ap}
+use borrow.Author.Tests.{eq-eqb, ne-eqb}
+use borrow.Author.Needs.{needs}
+use Rattle.event.specs.Read.{wholeTag, readStartTag}
+use Rattle.event.proofs.tag.start_tag.Statement.{statement}
+use Rattle.event.proofs.tag.start_tag.Tie as tie
+
+tag-at-requires : tie.Need-tag-at-requires
+tag-at-requires c κs = search needs
+
+enum-known-tag : tie.Need-enum-known-tag
+enum-known-tag c = search needs
+
+enum-told : tie.Need-enum-told
+enum-told c = search needs
+
+returns : tie.Need-returns
+unfolding readStartTag
+returns c =
+    sym (ap (wholeTag (c .before .before .before .before .args .end)) (sym (c .before .before .tag-at .ensures) ∙ c .enum-told .given .1))
+
+returns-2 : tie.Need-returns-2
+unfolding readStartTag
+returns-2 c =
+    sym (ap (wholeTag (c .before .before .before .before .before .before .args .end)) (sym (c .before .before .before .before .tag-at .ensures) ∙ c .before .before .tag .given .1) ∙ rw (eq-eqb _ _ (c .if1 .taken)))
+
+returns-3 : tie.Need-returns-3
+unfolding readStartTag
+returns-3 c =
+    sym (ap (wholeTag (c .before .before .before .before .before .before .args .end)) (sym (c .before .before .before .before .tag-at .ensures) ∙ c .before .before .tag .given .1) ∙ rw (ne-eqb _ _ (c .if1 .left)))
+
+pub start-tag-spec : {M : Type 1} → statement M
+start-tag-spec =
+    tie.close (tie.spec tag-at-requires enum-known-tag enum-told returns returns-2 returns-3)

@@ -1,0 +1,114 @@
+-- `event::tag::tag_at` meets its contract: the flag, then the handle, then the suffix from where the handle ends. Assumes nothing.
+use mathlib.Core.Path.{sym, _∙_, ap}
+use Prim.Native.Nat.{_+_}
+use native.Mathlib.Omega.{arith}
+use borrow.Author.Needs.{needs}
+use Rattle.event.specs.Read.{withHandle}
+use Rattle.event.specs.ReadCases.{tag-cut, tag-absent, tag-present, tag-with-suffix, tag-flag-unknown, string-ended}
+use Rattle.event.proofs.tag.tag_at.Statement.{statement}
+use Rattle.event.proofs.tag.tag_at.Tie as tie
+
+returns : tie.Need-returns
+returns c =
+    let given = c .before .before .args in
+    sym (tag-cut (given .events .now) (given .at) (given .end) (omega arith))
+
+shared-slice-read-flag : tie.Need-shared-slice-read-flag
+shared-slice-read-flag c = search needs
+
+add-t12 : tie.Need-add-t12
+add-t12 c = search needs
+
+returns-2 : tie.Need-returns-2
+returns-2 c =
+    let given = c .before .before .before .before .args in
+    sym (tag-absent (given .events .now) (given .at) (given .end) (omega (arith, c .before .before .if1 .left)) (c .if2 .taken))
+
+returns-3 : tie.Need-returns-3
+returns-3 c =
+    let given = c .before .before .before .before .before .args in
+    sym (tag-flag-unknown (given .events .now) (given .at) (given .end) (omega (arith, c .before .before .before .if1 .left)) (c .if3 .taken))
+
+add-string-at : tie.Need-add-string-at
+add-string-at c = search needs
+
+string-at-requires : tie.Need-string-at-requires
+string-at-requires c κs = search needs
+
+enum-known-handle : tie.Need-enum-known-handle
+enum-known-handle c = search needs
+
+enum-told : tie.Need-enum-told
+enum-told c = search needs
+
+returns-4 : tie.Need-returns-4
+returns-4 c =
+    let given = c .before .before .before .before .before .before .before .before .args in
+    let handle = sym (c .before .before .string-at .ensures) ∙ c .enum-told .given .1 in
+    sym
+    (tag-present (given .events .now) (given .at) (given .end) (omega (arith, c .before .before .before .before .before .before .if1 .left)) (omega (arith, c .before .before .before .before .if2 .left))
+    ∙ ap (withHandle (given .events .now) (given .end)) handle)
+
+add-from : tie.Need-add-from
+add-from c =
+    let given = c .before .before .before .before .before .before .before .before .before .before .args in
+    let h = c .before .before .handle .given in
+    let ends = string-ended (given .events .now) (given .at + 1) (given .end) (h .0 .0) (sym (c .before .before .before .before .string-at .ensures) ∙ h .1) in
+    omega arith
+
+string-at-requires-2 : tie.Need-string-at-requires-2
+string-at-requires-2 c κs =
+    let given = c .before .before .before .before .before .before .before .before .before .before .args in
+    let h = c .before .before .handle .given in
+    (string-ended (given .events .now) (given .at + 1) (given .end) (h .0 .0) (sym (c .before .before .before .before .string-at .ensures) ∙ h .1), omega arith)
+
+enum-known-suffix : tie.Need-enum-known-suffix
+enum-known-suffix c = search needs
+
+enum-told-2 : tie.Need-enum-told-2
+enum-told-2 c = search needs
+
+returns-5 : tie.Need-returns-5
+returns-5 c =
+    let given = c .before .before .before .before .before .before .before .before .before .before .before .before .before .args in
+    let h = c .before .before .before .before .before .handle .given in
+    sym
+    (tag-with-suffix (given .events .now) (given .at) (given .end) (omega (arith, c .before .before .before .before .before .before .before .before .before .before .before .if1 .left)) (omega (arith, c .before .before .before .before .before .before .before .before .before .if2 .left)) (h .0 .0) _ (sym (c .before .before .before .before .before .before .before .string-at .ensures) ∙ h .1) (sym (c .before .before .string-at2 .ensures) ∙ c .enum-told2 .given .1))
+
+add-t14 : tie.Need-add-t14
+add-t14 c =
+    let given = c .before .before .before .before .before .before .before .before .before .before .before .before .before .before .before .args in
+    let h = c .before .before .before .before .before .before .before .handle .given in
+    let x = c .before .before .suffix .given in
+    let ends = string-ended (given .events .now) (h .0 .0 .at + h .0 .0 .len) (given .end) (x .0 .0) (sym (c .before .before .before .before .string-at2 .ensures) ∙ x .1) in
+    omega arith
+
+returns-6 : tie.Need-returns-6
+returns-6 c =
+    let given = c .before .before .before .before .before .before .before .before .before .before .before .before .before .before .before .args in
+    let h = c .before .before .before .before .before .before .before .handle .given in
+    let x = c .before .before .suffix .given in
+    sym
+    (tag-with-suffix (given .events .now) (given .at) (given .end) (omega (arith, c .before .before .before .before .before .before .before .before .before .before .before .before .before .if1 .left)) (omega (arith, c .before .before .before .before .before .before .before .before .before .before .before .if2 .left)) (h .0 .0) _ (sym (c .before .before .before .before .before .before .before .before .before .string-at .ensures) ∙ h .1) (sym (c .before .before .before .before .string-at2 .ensures) ∙ x .1))
+
+pub tag-at-spec : {M : Type 1} → statement M
+tag-at-spec =
+    tie.close
+    (tie.spec
+    returns
+    shared-slice-read-flag
+    add-t12
+    returns-2
+    returns-3
+    add-string-at
+    string-at-requires
+    enum-known-handle
+    enum-told
+    returns-4
+    add-from
+    string-at-requires-2
+    enum-known-suffix
+    enum-told-2
+    returns-5
+    add-t14
+    returns-6)

@@ -1,0 +1,109 @@
+-- What an answer means, by the encodings: which event stands at a place of the event bytes, what is answered for an event that stands there,
+-- and what is said by an answer. `ReadLaws` proves of the reader that it answers an event exactly where one stands. (E1; R3.)
+use Prim.Native.Nat.{ℕ, _+_, _≤_, _<_}
+use mathlib.Core.Path.{_≡_}
+use mathlib.Core.List.{List, _++_}
+use lib.ListN.{length, drop}
+use Rattle.text.specs.Utf8.{Utf8}
+use Rattle.event.specs.Encode.{Tag, untagged, tagged, YamlEvent, sequenceStart, sequenceEnd, mappingStart, mappingEnd, scalar, alias, encodeTag, encode, Sound}
+use Rattle.event.specs.Read.{part, partOf}
+use Rattle.event.specs.declared.string.Part.{Part}
+use Rattle.event.specs.declared.tag.YamlTag.{YamlTag}
+use Rattle.event.specs.declared.tag.YamlTag.the-variants.{Absent, Present}
+use Rattle.event.specs.declared.read.Event.{Event}
+use Rattle.event.specs.declared.read.Event.the-variants.{SequenceStart, SequenceEnd, MappingStart, MappingEnd, Scalar, Alias, Malformed}
+
+-- from the place i on, the bytes start with the encoding of the sound event e
+pub record StandsAt (s : List ℕ) (i : ℕ) (e : YamlEvent) : Type 0 where
+  pub sound : Sound e
+  pub rest : List ℕ
+  pub starts : drop i s ≡ encode e ++ rest
+
+-- ---- the answer for an event that stands at a place
+
+-- the parts of a YAML tag at the place i: the handle comes after the flag and its length, the suffix after its own
+abbrev pub placedTag : ℕ → Tag → YamlTag
+placedTag i untagged = Absent
+placedTag i (tagged h x) = Present (part (i + 1 + 2) (length h)) (part (i + 1 + 2 + length h + 2) (length x))
+
+-- the answer for an event whose body goes on after its marker index at the place i, and ends at n
+abbrev pub placedBody : ℕ → ℕ → YamlEvent → Event
+placedBody i n (sequenceStart m t) = SequenceStart m (placedTag i t) n
+placedBody i n (sequenceEnd m) = SequenceEnd m n
+placedBody i n (mappingStart m t) = MappingStart m (placedTag i t) n
+placedBody i n (mappingEnd m) = MappingEnd m n
+placedBody i n (scalar m c y f t v) = Scalar m c y f (placedTag (i + 6) t) (part (i + 6 + length (encodeTag t)) (length v)) n
+placedBody i n (alias m) = Alias m n
+
+-- the answer for an event at the place i: header and marker index are passed, and the next event comes after its bytes
+unfoldable pub placed : ℕ → YamlEvent → Event
+placed i e = placedBody (i + 3 + 4) (i + length (encode e)) e
+
+-- an event stands at the place, and this is its answer
+pub record Answers (s : List ℕ) (i : ℕ) (r : Event) : Type 0 where
+  pub event : YamlEvent
+  pub stands : StandsAt s i event
+  pub answered : r ≡ placed i event
+
+-- ---- what is said by an answer
+
+pub data Said : Type 0 where
+  says : YamlEvent → Said
+  nothing : Said
+
+abbrev pub saidTag : List ℕ → YamlTag → Tag
+saidTag s Absent = untagged
+saidTag s (Present h x) = tagged (partOf s h) (partOf s x)
+
+-- the event of an answer, its strings cut from the event bytes
+unfoldable pub said : List ℕ → Event → Said
+said s (SequenceStart m t n) = says (sequenceStart m (saidTag s t))
+said s (SequenceEnd m n) = says (sequenceEnd m)
+said s (MappingStart m t n) = says (mappingStart m (saidTag s t))
+said s (MappingEnd m n) = says (mappingEnd m)
+said s (Scalar m c y f t v n) = says (scalar m c y f (saidTag s t) (partOf s v))
+said s (Alias m n) = says (alias m)
+said s Malformed = nothing
+
+-- the table's number for each answer: 3 for malformed, 0 for the six events
+abbrev pub eventNumber : Event → ℕ
+eventNumber (SequenceStart m t n) = 0
+eventNumber (SequenceEnd m n) = 0
+eventNumber (MappingStart m t n) = 0
+eventNumber (MappingEnd m n) = 0
+eventNumber (Scalar m c y f t v n) = 0
+eventNumber (Alias m n) = 0
+eventNumber Malformed = 3
+
+-- ---- what holds of every answer
+
+-- a part of the event bytes that is UTF-8
+pub record TextPart (s : List ℕ) (p : Part) : Type 0 where
+  pub inside : p .at + p .len ≤ length s
+  pub utf8 : Utf8 (partOf s p)
+
+abbrev pub TextParts : List ℕ → YamlTag → Type 0
+TextParts s Absent = Unit {0}
+TextParts s (Present h x) = TextPart s h × TextPart s x
+
+-- an event at the place i with the marker index m, and the place n after it
+pub record Passed (s : List ℕ) (i m n : ℕ) : Type 0 where
+  pub index-fits : m < 0x1_0000_0000
+  pub onward : i < n
+  pub inside : n ≤ length s
+
+pub record ScalarWithin (s : List ℕ) (i m c y : ℕ) (t : YamlTag) (v : Part) (n : ℕ) : Type 0 where
+  pub passed : Passed s i m n
+  pub column-fits : c < 0x1_0000_0000
+  pub style-known : y ≤ 4
+  pub tag-within : TextParts s t
+  pub value-within : TextPart s v
+
+abbrev pub Within : List ℕ → ℕ → Event → Type 0
+Within s i (SequenceStart m t n) = Passed s i m n × TextParts s t
+Within s i (SequenceEnd m n) = Passed s i m n
+Within s i (MappingStart m t n) = Passed s i m n × TextParts s t
+Within s i (MappingEnd m n) = Passed s i m n
+Within s i (Scalar m c y f t v n) = ScalarWithin s i m c y t v n
+Within s i (Alias m n) = Passed s i m n
+Within s i Malformed = Unit {0}

@@ -1,0 +1,159 @@
+-- A line, character by character: what was counted so far, and the line of what is left. Assumes nothing.
+use mathlib.Core.Path.{_≡_, refl, sym, _∙_, ap}
+use mathlib.Core.Bool.{Bool, true, false}
+use mathlib.Core.List.{List, [], _∷_}
+use Prim.Native.Nat.{ℕ, _+_, _≤_, _<_}
+use native.Mathlib.Nat.{zero-add, add-zero, add-assoc}
+use native.Mathlib.Omega.{arith}
+use borrow.Author.Tests.{eq-eqb, ne-eqb}
+use lib.Dec.{eqb}
+use lib.ListN.{length, drop}
+use Rattle.text.specs.Utf8.{Utf8, encode, encodeAll, codes}
+use Rattle.text.specs.Boundary.{Boundary}
+use Rattle.text.specs.WhiteSpace.{isWhiteSpace}
+use Rattle.text.specs.Offset.{pickLength}
+use Rattle.text.specs.Utf8Laws.{Char-at, boundary-start}
+use Rattle.text.specs.declared.utf8.Char.{Char}
+use Rattle.measure.specs.Run.{newline, bytesOf, whiteSpaceRun, run-goes-on, run-stops}
+use Rattle.measure.specs.Block.{before, lines, firstOf, isBlank, trimmedLen, lineOf}
+use Rattle.measure.specs.Places.{bytes-cons, encode-takes}
+use Rattle.measure.specs.declared.block.Line.{Line}
+use Rattle.measure.proofs.Read.{codes-end}
+use Rattle.measure.proofs.Reached.{reached, reached-start, reached-more, reached-on}
+
+-- ---- blank lines
+
+pub blank-trimmed : (l : List ℕ) → isBlank l ≡ true → trimmedLen l ≡ 0
+unfolding trimmedLen
+blank-trimmed [] e = refl
+blank-trimmed (c ∷ l) e = rw e
+
+pub content-trimmed : (l : List ℕ) → isBlank l ≡ false → 0 < trimmedLen l
+unfolding trimmedLen isBlank
+content-trimmed [] e = absurd (let z : _≡_ {A = ℕ} 0 1 = cc in omega arith)
+content-trimmed (c ∷ l) e = rw e (let h = encode-takes c in omega arith)
+
+-- ---- the first of the lines
+
+first-newline : (c : ℕ) (cs : List ℕ) → c ≡ newline → firstOf (lines (c ∷ cs)) ≡ []
+unfolding lines
+first-newline c cs e = rw (eq-eqb c newline e)
+
+first-cons : (c : ℕ) (cs : List ℕ) → (c ≡ newline → ⊥) → firstOf (lines (c ∷ cs)) ≡ c ∷ firstOf (lines cs)
+unfolding lines
+first-cons c cs e = rw (ne-eqb c newline e) (go (lines cs))
+  where
+    go : (ls : List (List ℕ)) → firstOf (before c ls) ≡ c ∷ firstOf ls
+    go [] = refl
+    go (l ∷ ls) = refl
+
+-- ---- one character more of a line
+
+run-white : (c : ℕ) (l : List ℕ) → isWhiteSpace c ≡ true → bytesOf (whiteSpaceRun (c ∷ l)) ≡ length (encode c) + bytesOf (whiteSpaceRun l)
+run-white c l e = ap bytesOf (run-goes-on c l e) ∙ bytes-cons c (whiteSpaceRun l)
+
+run-none : (c : ℕ) (l : List ℕ) → isWhiteSpace c ≡ false → bytesOf (whiteSpaceRun (c ∷ l)) ≡ 0
+unfolding encodeAll
+run-none c l e = ap bytesOf (run-stops c l e)
+
+trimmed-white : (at end c : ℕ) (l : List ℕ) → isWhiteSpace c ≡ true → reached at end (trimmedLen (c ∷ l)) ≡ reached (at + length (encode c)) end (trimmedLen l)
+unfolding isBlank trimmedLen
+trimmed-white at end c l e = go (isBlank l) refl
+  where
+    go : (t : Bool) → isBlank l ≡ t → reached at end (trimmedLen (c ∷ l)) ≡ reached (at + length (encode c)) end (trimmedLen l)
+    go true f = rw (e, f, blank-trimmed l f)
+    go false f =
+        let n = content-trimmed l f in
+        rw (e, f) (reached-more at end (length (encode c) + trimmedLen l) (omega arith) ∙ sym (add-assoc at (length (encode c)) (trimmedLen l)) ∙ sym (reached-more (at + length (encode c)) end (trimmedLen l) n))
+
+trimmed-content : (at end c : ℕ) (l : List ℕ) → isWhiteSpace c ≡ false → reached at end (trimmedLen (c ∷ l)) ≡ reached (at + length (encode c)) (at + length (encode c)) (trimmedLen l)
+unfolding isBlank trimmedLen
+trimmed-content at end c l e = rw e (reached-on at end (length (encode c)) (trimmedLen l) (encode-takes c))
+
+-- ---- the line as it was counted so far
+
+abbrev pub told : ℕ → ℕ → ℕ → Line
+told lead trimmed len = record { lead = lead; trimmed = trimmed; len = len }
+
+-- with l left of the line
+unfoldable pub counted : ℕ → ℕ → ℕ → List ℕ → Line
+counted lead trimmed len l =
+    told (pickLength (eqb trimmed 0) (lead + bytesOf (whiteSpaceRun l)) lead) (reached len trimmed (trimmedLen l)) (len + bytesOf l)
+
+same-told : {a b c d e f : ℕ} → a ≡ d → b ≡ e → c ≡ f → told a b c ≡ told d e f
+same-told p q r = rw (p, q, r)
+
+-- leading bytes that a test leaves alone
+alone : (t : Bool) (lead : ℕ) → pickLength t (lead + 0) lead ≡ lead
+alone true lead = add-zero lead
+alone false lead = refl
+
+nothing-left : (lead trimmed len : ℕ) → counted lead trimmed len [] ≡ told lead trimmed len
+unfolding counted whiteSpaceRun trimmedLen encodeAll
+nothing-left lead trimmed len = same-told (alone (eqb trimmed 0) lead) refl (add-zero len)
+
+-- a character c of n bytes, and l after it
+module _ (lead trimmed len n c : ℕ) (l : List ℕ) (z : n ≡ length (encode c)) where
+  longer : len + bytesOf (c ∷ l) ≡ len + n + bytesOf l
+  longer = let e = bytes-cons c l in omega arith
+
+  lead-on : isWhiteSpace c ≡ true → trimmed ≡ 0 → lead ≡ len → counted lead trimmed len (c ∷ l) ≡ counted (len + n) trimmed (len + n) l
+  unfolding counted
+  lead-on e t b = same-told (rw (eq-eqb trimmed 0 t) (let r = run-white c l e in omega arith)) (rw z (trimmed-white len trimmed c l e)) longer
+
+  white-on : isWhiteSpace c ≡ true → (trimmed ≡ 0 → ⊥) → counted lead trimmed len (c ∷ l) ≡ counted lead trimmed (len + n) l
+  unfolding counted
+  white-on e t = same-told (rw (ne-eqb trimmed 0 t)) (rw z (trimmed-white len trimmed c l e)) longer
+
+  content-on : isWhiteSpace c ≡ false → counted lead trimmed len (c ∷ l) ≡ counted lead (len + n) (len + n) l
+  unfolding counted
+  content-on e = same-told (rw (run-none c l e, ne-eqb (len + n) 0 some) (alone (eqb trimmed 0) lead)) (rw z (trimmed-content len trimmed c l e)) longer
+    where
+      some : len + n ≡ 0 → ⊥
+      some f = let h = encode-takes c in omega arith
+
+-- so far len bytes of the line that s begins with were counted
+pub record Counting (s : List ℕ) (lead trimmed len : ℕ) : Type 0 where
+  pub boundary : Boundary s len
+  pub blank : trimmed ≡ 0 → lead ≡ len
+  pub same : counted lead trimmed len (firstOf (lines (codes (drop len s)))) ≡ lineOf (codes s)
+
+pub line-begins : {s : List ℕ} → Utf8 s → Counting s 0 0 0
+unfolding counted lineOf
+line-begins {s} u =
+    record {
+      boundary = boundary-start u;
+      blank = λ e. refl;
+      same = same-told (zero-add _) (reached-start _) (zero-add _);
+    }
+
+module _ {s : List ℕ} {lead trimmed len : ℕ} (r : Counting s lead trimmed len) where
+  all-counted : firstOf (lines (codes (drop len s))) ≡ [] → told lead trimmed len ≡ lineOf (codes s)
+  all-counted e = sym (ap (counted lead trimmed len) e ∙ nothing-left lead trimmed len) ∙ r .same
+
+  -- at the text's end, and at a newline, that was all of it
+  pub line-at-end : length s ≤ len → told lead trimmed len ≡ lineOf (codes s)
+  unfolding lines
+  line-at-end h = all-counted (ap (λ (cs : List ℕ). firstOf (lines cs)) (codes-end s len h))
+
+  module _ {k : Char} (a : Char-at s len k) where
+    pub line-stops : k .code ≡ newline → told lead trimmed len ≡ lineOf (codes s)
+    line-stops e = all-counted (ap (λ (cs : List ℕ). firstOf (lines cs)) (a .forward) ∙ first-newline (k .code) (codes (drop (len + k .len) s)) e)
+
+    module _ (n : k .code ≡ newline → ⊥) where
+      left : firstOf (lines (codes (drop len s))) ≡ k .code ∷ firstOf (lines (codes (drop (len + k .len) s)))
+      left = ap (λ (cs : List ℕ). firstOf (lines cs)) (a .forward) ∙ first-cons (k .code) (codes (drop (len + k .len) s)) n
+
+      -- the character joins the line
+      joins : (lead' trimmed' : ℕ) → (trimmed' ≡ 0 → lead' ≡ len + k .len) → counted lead trimmed len (k .code ∷ firstOf (lines (codes (drop (len + k .len) s)))) ≡ counted lead' trimmed' (len + k .len) (firstOf (lines (codes (drop (len + k .len) s)))) → Counting s lead' trimmed' (len + k .len)
+      joins lead' trimmed' b e = record { boundary = a .next; blank = b; same = sym (ap (counted lead trimmed len) left ∙ e) ∙ r .same }
+
+      -- as leading white space, as white space after other characters, and as one of those
+      pub line-leads : isWhiteSpace (k .code) ≡ true → trimmed ≡ 0 → Counting s (len + k .len) trimmed (len + k .len)
+      line-leads e t = joins (len + k .len) trimmed (λ y. refl) (lead-on lead trimmed len (k .len) (k .code) _ (a .size) e t (r .blank t))
+
+      pub line-spaces : isWhiteSpace (k .code) ≡ true → (trimmed ≡ 0 → ⊥) → Counting s lead trimmed (len + k .len)
+      line-spaces e t = joins lead trimmed (λ y. absurd (t y)) (white-on lead trimmed len (k .len) (k .code) _ (a .size) e t)
+
+      pub line-goes-on : isWhiteSpace (k .code) ≡ false → Counting s lead (len + k .len) (len + k .len)
+      line-goes-on e = joins lead (len + k .len) (λ y. absurd (let h = a .some in omega arith)) (content-on lead trimmed len (k .len) (k .code) _ (a .size) e)

@@ -1,0 +1,267 @@
+-- A value, matched character by character with the rest of the text: what was matched so far, and how far the match of what is left
+-- reaches. Assumes nothing.
+use mathlib.Core.Path.{_≡_, refl, sym, _∙_, ap, subst}
+use mathlib.Core.Bool.{Bool, true, false, _&&_, _||_}
+use mathlib.Core.List.{List, [], _∷_, _++_}
+use Prim.Native.Nat.{ℕ, zero, suc, _+_, _-_, _≤_, _<_}
+use native.Mathlib.Nat.{add-assoc}
+use native.Mathlib.Numerals.{add-one}
+use native.Mathlib.Omega.{arith}
+use borrow.Author.Tests.{eq-eqb, ne-eqb, eqb-true, lt-ltb, ltb-true}
+use lib.Dec.{eqb, ltb}
+use lib.ListN.{length, take, drop, getD, length-append, length-drop, take-append-drop, List·getD-append}
+use lib.Seq.{take-suc, take-at, getD-drop}
+use Rattle.text.specs.Utf8.{Utf8, encode, encodeAll, codes, character, firstChar}
+use Rattle.text.specs.Boundary.{Boundary}
+use Rattle.text.specs.WhiteSpace.{isWhiteSpace}
+use Rattle.text.specs.Bytes.{and-left, and-right}
+use Rattle.text.specs.Utf8Laws.{Char-at, boundary-start, boundary-splits, codes-encode, read}
+use Rattle.text.specs.declared.utf8.Char.{Char}
+use Rattle.measure.specs.Run.{newline, bytesOf, whiteSpaceRun, afterRun, holdsNewline, runOf, run-split, run-goes-on, run-stops}
+use Rattle.measure.specs.Plain.{isFold, hasByte, Reach, unmatched, reaches, pastEqual, pastRun, beginsWith, takesRun, plainReach, reachOr, plainLen}
+use Rattle.measure.specs.Places.{onward, bytes-cons}
+use Rattle.measure.specs.declared.run.Run.{Run}
+use Rattle.measure.proofs.Read.{char-read, codes-end, part-is}
+use Rattle.measure.proofs.Tests.{clash}
+use Rattle.measure.proofs.Reached.{reached, reached-start, reached-more, reached-on}
+
+-- ---- a character of the value, byte by byte
+
+-- the first k bytes from two places on are equal
+abbrev pub Equal : List ℕ → ℕ → List ℕ → ℕ → ℕ → Type 0
+Equal s i t j k = take k (drop i s) ≡ take k (drop j t)
+
+has-byte : (s : List ℕ) (i b : ℕ) → hasByte s i b ≡ true → (i < length s) × (getD s i 0 ≡ b)
+unfolding hasByte
+has-byte s i b e = (ltb-true i (length s) (and-left (ltb i (length s)) (eqb (getD s i 0) b) e), eqb-true (getD s i 0) b (and-right (ltb i (length s)) (eqb (getD s i 0) b) e))
+
+one-more : (s : List ℕ) (i k : ℕ) → i + k < length s → take (k + 1) (drop i s) ≡ take k (drop i s) ++ (getD s (i + k) 0 ∷ [])
+one-more s i k h = rw add-one (take-suc (drop i s) k 0 (let e = length-drop i s in omega arith) ∙ rw (getD-drop i s k 0))
+
+pub equal-more : (s : List ℕ) (i : ℕ) (t : List ℕ) (j k : ℕ) → Equal s i t j k → j + k < length t → hasByte s (i + k) (getD t (j + k) 0) ≡ true → Equal s i t j (k + 1)
+equal-more s i t j k e h p =
+    let q = has-byte s (i + k) (getD t (j + k) 0) p in
+    one-more s i k (q .0) ∙ ap (λ (l : List ℕ). l ++ (getD s (i + k) 0 ∷ [])) e ∙ ap (λ (x : ℕ). take k (drop j t) ++ (x ∷ [])) (q .1) ∙ sym (one-more t j k h)
+
+pub equal-all : (s : List ℕ) (i : ℕ) (t : List ℕ) (j : ℕ) {k n : ℕ} → Equal s i t j k → k ≤ n → n ≤ k → Equal s i t j n
+equal-all s i t j {k} {n} e h l = let f : k ≡ n = omega arith in subst (λ (m : ℕ). Equal s i t j m) f e
+
+-- a character stands where its bytes stand
+bytes-of-char : {s : List ℕ} {i : ℕ} {k : Char} → Utf8 s → Char-at s i k → drop i s ≡ encode (k .code) ++ encodeAll (codes (drop (i + k .len) s))
+unfolding encodeAll
+bytes-of-char {s} {i} u a = codes-encode (boundary-splits u (a .start) .back) ∙ ap encodeAll (a .forward)
+
+-- the bytes of the character c, which stands at i with more after it
+module _ (s : List ℕ) (i c : ℕ) (more : List ℕ) (e : drop i s ≡ encode c ++ more) (m : ℕ) (h : m < length (encode c)) where
+  byte-within : i + m < length s
+  byte-within =
+      let n : length s - i ≡ length (encode c) + length more = sym (length-drop i s) ∙ ap length e ∙ length-append (encode c) more in
+      omega arith
+
+  byte-in : getD s (i + m) 0 ≡ getD (encode c) m 0
+  byte-in = sym (getD-drop i s m 0) ∙ ap (λ (l : List ℕ). getD l m 0) e ∙ List·getD-append (encode c) more 0 m h
+
+module _ {s : List ℕ} {i : ℕ} {t : List ℕ} {j : ℕ} {k : Char} (u : Utf8 s) (b : Boundary s i) (w : Utf8 t) (a : Char-at t j k) where
+  pub equal-char : Equal s i t j (k .len) → Char-at s i k
+  equal-char e =
+      let c = encode (k .code) in
+      let f : take (k .len) (drop i s) ≡ c = e ∙ ap (take (k .len)) (bytes-of-char w a) ∙ take-at c (encodeAll (codes (drop (j + k .len) t))) (k .len) (sym (a .size)) in
+      let g : drop i s ≡ c ++ drop (k .len) (drop i s) = sym (take-append-drop (k .len) (drop i s)) ∙ ap (λ (l : List ℕ). l ++ drop (k .len) (drop i s)) f in
+      let n : length s - i ≡ length c + length (drop (k .len) (drop i s)) = sym (length-drop i s) ∙ ap length g ∙ length-append c (drop (k .len) (drop i s)) in
+      let z = a .size in
+      let o = a .some in
+      char-read u b (omega arith) (sym (ap firstChar g ∙ read (k .code) (drop (k .len) (drop i s)) (a .scalar) ∙ ap (character (k .code)) (sym z)))
+
+  -- a byte that differs is of another character
+  pub other-char : (m : ℕ) → m < k .len → hasByte s (i + m) (getD t (j + m) 0) ≡ false → beginsWith (k .code) (codes (drop i s)) ≡ false
+  unfolding beginsWith hasByte encodeAll
+  other-char m h p = go (codes (drop i s)) refl
+    where
+      same : (ds : List ℕ) → codes (drop i s) ≡ k .code ∷ ds → hasByte s (i + m) (getD t (j + m) 0) ≡ true
+      same ds e =
+          let l : m < length (encode (k .code)) = let z = a .size in omega arith in
+          let d : drop i s ≡ encode (k .code) ++ encodeAll ds = codes-encode (boundary-splits u b .back) ∙ ap encodeAll e in
+          rw (
+            lt-ltb (i + m) (length s) (byte-within s i (k .code) (encodeAll ds) d m l),
+            byte-in s i (k .code) (encodeAll ds) d m l,
+            byte-in t j (k .code) (encodeAll (codes (drop (j + k .len) t))) (bytes-of-char w a) m l,
+          )
+          (eq-eqb (getD (encode (k .code)) m 0) (getD (encode (k .code)) m 0) refl)
+
+      go : (cs : List ℕ) → codes (drop i s) ≡ cs → beginsWith (k .code) cs ≡ false
+      go [] e = refl
+      go (d ∷ ds) e = ne-eqb (k .code) d (λ q. clash (sym (same ds (e ∙ ap (λ (x : ℕ). x ∷ ds) (sym q))) ∙ p))
+
+-- ---- how far the match reaches
+
+-- `at` bytes were matched, the last equal character among them ends at `end`, and r is the match of what is left
+abbrev pub told : ℕ → ℕ → Reach → Reach
+told at end unmatched = unmatched
+told at end (reaches n) = reaches (reached at end n)
+
+told-start : (r : Reach) → told 0 0 r ≡ r
+told-start unmatched = refl
+told-start (reaches n) = ap reaches (reached-start n)
+
+told-run : (at end n : ℕ) (r : Reach) → told at end (pastRun n r) ≡ told (at + n) end r
+told-run at end n unmatched = refl
+told-run at end n (reaches zero) = refl
+told-run at end n (reaches (suc m)) = ap reaches (reached-more at end (n + suc m) (omega arith) ∙ sym (add-assoc at n (suc m)))
+
+told-equal : (at end n : ℕ) (r : Reach) → 0 < n → told at end (pastEqual n r) ≡ told (at + n) (at + n) r
+told-equal at end n unmatched h = refl
+told-equal at end n (reaches m) h = ap reaches (reached-on at end n m h)
+
+reach-run : (c : ℕ) (cs rest : List ℕ) → takesRun c rest ≡ true → plainReach (c ∷ cs) rest ≡ pastRun (bytesOf (whiteSpaceRun rest)) (plainReach cs (afterRun rest))
+unfolding plainReach
+reach-run c cs rest e = rw e
+
+reach-equal : (c : ℕ) (cs rest : List ℕ) → takesRun c (c ∷ rest) ≡ false → plainReach (c ∷ cs) (c ∷ rest) ≡ pastEqual (length (encode c)) (plainReach cs rest)
+unfolding plainReach beginsWith
+reach-equal c cs rest e = rw (e, eq-eqb c c refl)
+
+reach-none : (c : ℕ) (cs rest : List ℕ) → takesRun c rest ≡ false → beginsWith c rest ≡ false → plainReach (c ∷ cs) rest ≡ unmatched
+unfolding plainReach
+reach-none c cs rest e f = rw (e, f)
+
+-- ---- the white space that was last looked at
+
+-- the run at `at` ends at `known` and holds no newline
+pub record Known (s : List ℕ) (at known : ℕ) : Type 0 where
+  pub ends : at + bytesOf (whiteSpaceRun (codes (drop at s))) ≡ known
+  pub none : holdsNewline (whiteSpaceRun (codes (drop at s))) ≡ false
+
+or-right : (a b : Bool) → a || b ≡ false → b ≡ false
+or-right true b e = absurd (clash e)
+or-right false b e = e
+
+-- a character further on
+known-on : {s : List ℕ} {at known : ℕ} {k : Char} → Char-at s at k → Known s at known → at + k .len < known → Known s (at + k .len) known
+unfolding encodeAll holdsNewline
+known-on {s} {at} {known} {k} a n h = go (isWhiteSpace (k .code)) refl
+  where
+    go : (t : Bool) → isWhiteSpace (k .code) ≡ t → Known s (at + k .len) known
+    go true e =
+        let cs = codes (drop (at + k .len) s) in
+        let f : whiteSpaceRun (codes (drop at s)) ≡ k .code ∷ whiteSpaceRun cs = ap whiteSpaceRun (a .forward) ∙ run-goes-on (k .code) cs e in
+        let z : bytesOf (whiteSpaceRun (codes (drop at s))) ≡ length (encode (k .code)) + bytesOf (whiteSpaceRun cs) = ap bytesOf f ∙ bytes-cons (k .code) (whiteSpaceRun cs) in
+        let g = n .ends in
+        let w = a .size in
+        record { ends = omega arith; none = or-right (eqb (k .code) newline) (holdsNewline (whiteSpaceRun cs)) (sym (ap holdsNewline f) ∙ n .none) }
+    go false e =
+        let f : bytesOf (whiteSpaceRun (codes (drop at s))) ≡ 0 = ap bytesOf (ap whiteSpaceRun (a .forward) ∙ run-stops (k .code) (codes (drop (at + k .len) s)) e) in
+        let g = n .ends in
+        absurd (omega arith)
+
+-- ---- the loop over the value's characters
+
+-- the value is matched up to v and the rest up to `at`; the last equal character ends at `end`
+pub record Matching (rest value : List ℕ) (at end known v : ℕ) : Type 0 where
+  pub rest-place : Boundary rest at
+  pub value-place : Boundary value v
+  pub looked : at < known → Known rest at known
+  pub same : told at end (plainReach (codes (drop v value)) (codes (drop at rest))) ≡ plainReach (codes value) (codes rest)
+
+pub match-begins : {rest value : List ℕ} → Utf8 rest → Utf8 value → Matching rest value 0 0 0 0
+match-begins {rest} {value} u w =
+    record {
+      rest-place = boundary-start u;
+      value-place = boundary-start w;
+      looked = λ h. absurd (omega arith);
+      same = told-start (plainReach (codes value) (codes rest));
+    }
+
+-- all of the value is matched
+pub match-at-end : {rest value : List ℕ} {at end known v : ℕ} → Matching rest value at end known v → length value ≤ v → end ≡ plainLen rest value
+unfolding plainReach plainLen
+match-at-end {rest} {value} {at} {end} {known} {v} r h =
+    ap (reachOr (length value)) (sym (ap (λ (cs : List ℕ). told at end (plainReach cs (codes (drop at rest)))) (codes-end value v h)) ∙ r .same)
+
+-- the run m that was read of the part from a place on
+pub run-read : (s : List ℕ) (at : ℕ) {m : Run} → m ≡ runOf (codes (take (length s - at) (drop at s))) → m ≡ runOf (codes (drop at s))
+run-read s at e = e ∙ ap (λ (l : List ℕ). runOf (codes l)) (part-is s at)
+
+-- it lies within the text
+pub run-fits : {s : List ℕ} {at : ℕ} {m : Run} → Utf8 s → Boundary s at → m ≡ runOf (codes (drop at s)) → at + m .len ≤ length s
+unfolding runOf
+run-fits {s} {at} u b e = rw e (onward u b (whiteSpaceRun (codes (drop at s))) (afterRun (codes (drop at s))) (run-split (codes (drop at s))) .boundary .within)
+
+module _ {rest value : List ℕ} {at end known v : ℕ} {k : Char} (u : Utf8 rest) (w : Utf8 value) (r : Matching rest value at end known v) (a : Char-at value v k) where
+  abbrev left : List ℕ
+  left = codes (drop (v + k .len) value)
+
+  -- the next character of the value decides
+  decides : {x : Reach} → plainReach (k .code ∷ left) (codes (drop at rest)) ≡ x → told at end x ≡ plainReach (codes value) (codes rest)
+  decides e = ap (told at end) (sym (ap (λ (cs : List ℕ). plainReach cs (codes (drop at rest))) (a .forward) ∙ e)) ∙ r .same
+
+  -- a blank or newline takes a run that holds a newline
+  pub match-run : {m : Run} → known ≤ at → m ≡ runOf (codes (drop at rest)) → isFold (k .code) ≡ true → m .newline ≡ true → Matching rest value (at + m .len) end known (v + k .len)
+  unfolding runOf takesRun
+  match-run l e f g =
+      let cs = codes (drop at rest) in
+      let o = onward u (r .rest-place) (whiteSpaceRun cs) (afterRun cs) (run-split cs) in
+      let g' : holdsNewline (whiteSpaceRun cs) ≡ true = rw e at g in
+      let t : takesRun (k .code) cs ≡ true = rw (f, g') in
+      let n = bytesOf (whiteSpaceRun cs) in
+      rw e (record {
+        rest-place = o .boundary;
+        value-place = a .next;
+        looked = λ h. absurd (omega arith);
+        same = ap (λ (x : List ℕ). told (at + n) end (plainReach left x)) (o .follow) ∙ sym (told-run at end n (plainReach left (afterRun cs))) ∙ decides (reach-run (k .code) left cs t);
+      })
+
+-- the next character of the value takes no run, so it must be equal
+pub record Comparing (rest value : List ℕ) (at end known v : ℕ) (k : Char) : Type 0 where
+  pub matching : Matching rest value at end known v
+  pub no-run : takesRun (k .code) (codes (drop at rest)) ≡ false
+
+and-false : (t : Bool) → t && false ≡ false
+and-false true = refl
+and-false false = refl
+
+module _ {rest value : List ℕ} {at end known v : ℕ} {k : Char} (r : Matching rest value at end known v) where
+  -- the white space here was looked at before
+  pub compare-known : at < known → Comparing rest value at end known v k
+  unfolding takesRun
+  compare-known h = record { matching = r; no-run = rw (r .looked h .none) (and-false (isFold (k .code))) }
+
+  -- it is no blank and no newline
+  pub compare-other : isFold (k .code) ≡ false → Comparing rest value at end known v k
+  unfolding takesRun
+  compare-other e = record { matching = r; no-run = rw e }
+
+  -- the run m here holds no newline
+  pub compare-looked : {m : Run} → m ≡ runOf (codes (drop at rest)) → m .newline ≡ false → Comparing rest value at end (at + m .len) v k
+  unfolding takesRun runOf
+  compare-looked e f =
+      let n : holdsNewline (whiteSpaceRun (codes (drop at rest))) ≡ false = rw e at f in
+      rw e (record {
+        matching = record { rest-place = r .rest-place; value-place = r .value-place; looked = λ h. record { ends = refl; none = n }; same = r .same };
+        no-run = rw n (and-false (isFold (k .code)));
+      })
+
+module _ {rest value : List ℕ} {at end known v : ℕ} {k : Char} (u : Utf8 rest) (w : Utf8 value) (r : Comparing rest value at end known v k) (a : Char-at value v k) where
+  -- it is equal
+  pub match-equal : Equal rest at value v (k .len) → Matching rest value (at + k .len) (at + k .len) known (v + k .len)
+  match-equal e =
+      let m = r .matching in
+      let b = equal-char u (m .rest-place) w a e in
+      let xs = codes (drop (v + k .len) value) in
+      let ys = codes (drop (at + k .len) rest) in
+      let n : takesRun (k .code) (k .code ∷ ys) ≡ false = sym (ap (takesRun (k .code)) (b .forward)) ∙ r .no-run in
+      record {
+        rest-place = b .next;
+        value-place = a .next;
+        looked = λ h. known-on b (m .looked (let z = b .some in omega arith)) h;
+        same =
+            sym (told-equal at end (k .len) (plainReach xs ys) (a .some))
+            ∙ ap (λ (l : ℕ). told at end (pastEqual l (plainReach xs ys))) (a .size)
+            ∙ decides u w m a (ap (plainReach (k .code ∷ xs)) (b .forward) ∙ reach-equal (k .code) xs ys n);
+      }
+
+  -- a byte differs
+  pub match-fails : (j : ℕ) → j < k .len → hasByte rest (at + j) (getD value (v + j) 0) ≡ false → length value ≡ plainLen rest value
+  unfolding plainLen
+  match-fails j h p =
+      let m = r .matching in
+      ap (reachOr (length value)) (decides u w m a (reach-none (k .code) (codes (drop (v + k .len) value)) (codes (drop at rest)) (r .no-run) (other-char u (m .rest-place) w a j h p)))

@@ -1,0 +1,188 @@
+-- `measure::plain::plain_scalar_len` meets its contract. The outer loop's invariant: what is left of the value, matched with what is
+-- left of the rest, reaches as far as the whole match does. The inner loop's: the next character takes no run, and its bytes up to k
+-- are equal in both. The measures are what is left of the value, and of the character. Assumes nothing.
+use borrow.Author.Needs.{needs}
+use mathlib.Core.Path.{_≡_, refl, sym, _∙_}
+use mathlib.Core.Logic.{⊎-elim}
+use Prim.Native.Nat.{_-_, _≤_}
+use native.Mathlib.Omega.{arith}
+use borrow.Author.Tests.{not-true, not-false}
+use lib.ListN.{length, drop}
+use Rattle.text.specs.Utf8.{codes}
+use Rattle.text.specs.Utf8Laws.{Char-at}
+use Rattle.measure.specs.Run.{runOf}
+use Rattle.measure.proofs.Read.{char-read, part-utf8}
+use Rattle.measure.proofs.Matches.{Equal, equal-more, equal-all, equal-char, Matching, Comparing, run-read, run-fits, match-begins, match-at-end, match-run, compare-known, compare-other, compare-looked, match-equal, match-fails}
+use Rattle.measure.proofs.plain.plain_scalar_len.Statement.{statement}
+use Rattle.measure.proofs.plain.plain_scalar_len.Tie as tie
+
+abbrev Inv-loop : tie.InvT-loop
+Inv-loop rest value at end₀ known v c k₀ end k = (k ≤ c .len) × (Equal rest at value v k)
+
+abbrev μ-loop : tie.MeasureT-loop
+μ-loop rest value at end₀ known v c k₀ end k = c .len - k
+
+abbrev Inv-characters : tie.InvT-characters
+Inv-characters rest value at₀ end₀ known₀ v₀ at end known v = Matching rest value at end known v
+
+abbrev μ-characters : tie.MeasureT-characters
+μ-characters rest value at₀ end₀ known₀ v₀ at end known v = length value - v
+
+-- ---- what is known where
+
+-- the character of the value
+char-here : (c : tie.After-first-char Inv-loop μ-loop Inv-characters μ-characters) → Char-at (c .before .before .before .before .before .args .value .now) (c .before .before .characters .v) (c .first-char .result)
+char-here c = char-read (c .before .before .before .before .before .pre .1) (c .before .before .characters .inv .value-place) (c .before .characters-test .taken) (c .first-char .ensures)
+
+-- the run of the rest
+run-here : (c : tie.After-white-space-run Inv-loop μ-loop Inv-characters μ-characters) → c .white-space-run .result ≡ runOf (codes (drop (c .before .before .before .before .before .before .before .characters .at) (c .before .before .before .before .before .before .before .before .before .before .args .rest .now)))
+run-here c = run-read (c .before .before .before .before .before .before .before .before .before .before .args .rest .now) (c .before .before .before .before .before .before .before .characters .at) (c .white-space-run .ensures)
+
+-- the next character takes no run: by one of three ways
+comparing : (c : tie.Joined1 Inv-loop μ-loop Inv-characters μ-characters) → Comparing (c .before .before .before .before .before .before .args .rest .now) (c .before .before .before .before .before .before .args .value .now) (c .before .before .before .characters .at) (c .before .before .before .characters .end) (c .if1 .known) (c .before .before .before .characters .v) (c .before .first-char .result)
+comparing c =
+    let r = c .before .before .before .characters .inv in
+    ⊎-elim (λ w. rw (w .7) (compare-looked r (run-read (c .before .before .before .before .before .before .args .rest .now) (c .before .before .before .characters .at) (w .4 .ensures)) (w .5 .left)))
+    (λ w. ⊎-elim (λ x. rw (x .3) (compare-other r (sym (x .1 .ensures) ∙ x .2 .left))) (λ x. rw (x .1) (compare-known r (x .0 .left))) w)
+    (c .if1 .came)
+
+-- all its bytes are equal
+equal-here : (c : tie.After-struct-known5 Inv-loop μ-loop Inv-characters μ-characters) → Equal (c .before .before .before .before .before .before .before .before .before .before .args .rest .now) (c .before .before .before .before .before .before .before .characters .at) (c .before .before .before .before .before .before .before .before .before .before .args .value .now) (c .before .before .before .before .before .before .before .characters .v) (c .before .before .before .before .before .first-char .result .len)
+equal-here c = equal-all (c .before .before .before .before .before .before .before .before .before .before .args .rest .now) (c .before .before .before .before .before .before .before .characters .at) (c .before .before .before .before .before .before .before .before .before .before .args .value .now) (c .before .before .before .before .before .before .before .characters .v) (c .before .before .before .loop .inv .1) (c .before .before .before .loop .inv .0) (c .before .if4 .left)
+
+-- ---- the answers
+
+characters-holds : tie.Need-characters-holds Inv-loop μ-loop Inv-characters μ-characters
+characters-holds c = match-begins (c .before .before .pre .0) (c .before .before .pre .1)
+
+first-char-requires : tie.Need-first-char-requires Inv-loop μ-loop Inv-characters μ-characters
+first-char-requires c κs = tt
+
+is-fold-requires : tie.Need-is-fold-requires Inv-loop μ-loop Inv-characters μ-characters
+is-fold-requires c κs = tt
+
+sub-white-space-run : tie.Need-sub-white-space-run Inv-loop μ-loop Inv-characters μ-characters
+sub-white-space-run c = let b = c .before .before .before .before .before .characters .inv .rest-place .within in omega arith
+
+part-white-space-run-start :
+    tie.Need-part-white-space-run-start Inv-loop μ-loop Inv-characters μ-characters
+part-white-space-run-start c = search needs
+
+part-white-space-run-end :
+    tie.Need-part-white-space-run-end Inv-loop μ-loop Inv-characters μ-characters
+part-white-space-run-end c = search needs
+
+white-space-run-requires :
+    tie.Need-white-space-run-requires Inv-loop μ-loop Inv-characters μ-characters
+white-space-run-requires c κs = part-utf8 (c .before .before .before .before .before .before .before .before .before .pre .0) (c .before .before .before .before .before .before .characters .inv .rest-place)
+
+add-at : tie.Need-add-at Inv-loop μ-loop Inv-characters μ-characters
+add-at c = let f = run-fits (c .before .before .before .before .before .before .before .before .before .before .before .before .pre .0) (c .before .before .before .before .before .before .before .before .before .characters .inv .rest-place) (run-here (c .before .before)) in omega arith
+
+add-v : tie.Need-add-v Inv-loop μ-loop Inv-characters μ-characters
+add-v c = let a = char-here (c .before .before .before .before .before .before .before .before) in omega arith
+
+characters-less : tie.Need-characters-less Inv-loop μ-loop Inv-characters μ-characters
+characters-less c = let a = char-here (c .before .before .before .before .before .before .before .before) in omega arith
+
+characters-again : tie.Need-characters-again Inv-loop μ-loop Inv-characters μ-characters
+characters-again c =
+    let at-char = c .before .before .before .before .before .before .before .before in
+    let start = at-char .before .before .before .before .before in
+    match-run (start .pre .0) (start .pre .1) (at-char .before .before .characters .inv) (char-here at-char)
+    (c .before .before .before .before .before .before .before .if1 .taken) (run-here (c .before .before .before)) (sym (c .before .before .before .before .before .before .is-fold .ensures) ∙ c .before .before .before .before .before .if2 .taken) (c .before .before .if3 .taken)
+
+add-known : tie.Need-add-known Inv-loop μ-loop Inv-characters μ-characters
+add-known c = let f = run-fits (c .before .before .before .before .before .before .before .before .before .before .before .before .pre .0) (c .before .before .before .before .before .before .before .before .before .characters .inv .rest-place) (run-here (c .before .before)) in omega arith
+
+loop-holds : tie.Need-loop-holds Inv-loop μ-loop Inv-characters μ-characters
+loop-holds c = (omega arith, refl)
+
+add-has-byte : tie.Need-add-has-byte Inv-loop μ-loop Inv-characters μ-characters
+add-has-byte c = let a = char-here (c .before .before .before .before) in let b = c .before .before .before .before .before .before .characters .inv .rest-place .within in let l = c .before .before .before .before .before .before .before .before .before .good .0 .1 in let m = c .before .before .before .before .before .before .before .before .before .good .1 .0 .1 in omega arith
+
+add-has-byte-2 : tie.Need-add-has-byte-2 Inv-loop μ-loop Inv-characters μ-characters
+add-has-byte-2 c = let a = char-here (c .before .before .before .before) in omega arith
+
+shared-slice-read-has-byte :
+    tie.Need-shared-slice-read-has-byte Inv-loop μ-loop Inv-characters μ-characters
+shared-slice-read-has-byte c = let a = char-here (c .before .before .before .before .before) in omega arith
+
+has-byte-requires : tie.Need-has-byte-requires Inv-loop μ-loop Inv-characters μ-characters
+has-byte-requires c κs = tt
+
+add-k : tie.Need-add-k Inv-loop μ-loop Inv-characters μ-characters
+add-k c = omega arith
+
+loop-less : tie.Need-loop-less Inv-loop μ-loop Inv-characters μ-characters
+loop-less c = omega arith
+
+loop-again : tie.Need-loop-again Inv-loop μ-loop Inv-characters μ-characters
+loop-again c =
+    let at-char = c .before .before .before .before .before .before .before in
+    let start = at-char .before .before .before .before .before in
+    let a = char-here at-char in
+    (omega arith, equal-more (start .args .rest .now) (at-char .before .before .characters .at) (start .args .value .now) (at-char .before .before .characters .v) (c .before .before .before .before .before .loop .k) (c .before .before .before .before .before .loop .inv .1) (omega arith) (sym (c .before .has-byte .ensures) ∙ not-false _ (c .if5 .left)))
+
+add-at-2 : tie.Need-add-at-2 Inv-loop μ-loop Inv-characters μ-characters
+add-at-2 c =
+    let at-char = c .before .before .before .before .before in
+    let start = at-char .before .before .before .before .before in
+    let b = equal-char (start .pre .0) (at-char .before .before .characters .inv .rest-place) (start .pre .1) (char-here at-char) (equal-here c) in
+    omega arith
+
+add-v-2 : tie.Need-add-v-2 Inv-loop μ-loop Inv-characters μ-characters
+add-v-2 c = let a = char-here (c .before .before .before .before .before .before) in omega arith
+
+characters-less-2 : tie.Need-characters-less-2 Inv-loop μ-loop Inv-characters μ-characters
+characters-less-2 c = let a = char-here (c .before .before .before .before .before .before) in omega arith
+
+characters-again-2 : tie.Need-characters-again-2 Inv-loop μ-loop Inv-characters μ-characters
+characters-again-2 c =
+    let at-char = c .before .before .before .before .before .before in
+    let start = at-char .before .before .before .before .before in
+    match-equal (start .pre .0) (start .pre .1) (comparing (c .before .before .before .before .before)) (char-here at-char) (equal-here (c .before))
+
+returns : tie.Need-returns Inv-loop μ-loop Inv-characters μ-characters
+returns c = match-at-end (c .before .characters .inv) (c .characters-test .left)
+
+returns-2 : tie.Need-returns-2 Inv-loop μ-loop Inv-characters μ-characters
+returns-2 c =
+    let at-char = c .before .before .before .before .before .before .before in
+    let start = at-char .before .before .before .before .before in
+    match-fails (start .pre .0) (start .pre .1) (comparing (c .before .before .before .before .before .before)) (char-here at-char) (c .before .before .before .before .before .loop .k) (c .before .before .before .if4 .taken) (sym (c .before .has-byte .ensures) ∙ not-true _ (c .if5 .taken))
+
+pub plain-scalar-len-spec : {M : Type 1} → statement M
+plain-scalar-len-spec =
+    tie.close
+    (tie.spec
+    Inv-loop
+    μ-loop
+    Inv-characters
+    μ-characters
+    characters-holds
+    first-char-requires
+    is-fold-requires
+    sub-white-space-run
+    part-white-space-run-start
+    part-white-space-run-end
+    white-space-run-requires
+    add-at
+    add-v
+    characters-less
+    characters-again
+    add-known
+    loop-holds
+    add-has-byte
+    add-has-byte-2
+    shared-slice-read-has-byte
+    has-byte-requires
+    add-k
+    loop-less
+    loop-again
+    add-at-2
+    add-v-2
+    characters-less-2
+    characters-again-2
+    returns
+    returns-2)

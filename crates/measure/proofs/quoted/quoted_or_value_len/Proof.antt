@@ -1,0 +1,28 @@
+-- `measure::quoted::quoted_or_value_len` meets its contract: each answer of the measure has its arm. Assumes nothing.
+use borrow.Author.Needs.{needs}
+use mathlib.Core.Path.{sym, _∙_, ap}
+use lib.ListN.{length}
+use Rattle.measure.specs.Quoted.{foundOr, quotedOrValueLen}
+use Rattle.measure.proofs.quoted.quoted_or_value_len.Statement.{statement}
+use Rattle.measure.proofs.quoted.quoted_or_value_len.Tie as tie
+
+quoted-scalar-len-requires : tie.Need-quoted-scalar-len-requires
+quoted-scalar-len-requires c κs = search needs
+
+enum-known-n : tie.Need-enum-known-n
+enum-known-n c = search needs
+
+enum-told : tie.Need-enum-told
+enum-told c = search needs
+
+returns : tie.Need-returns
+unfolding quotedOrValueLen
+returns c = ap (foundOr (length (c .before .before .before .before .before .args .value .now))) (sym (c .enum-told .given .1) ∙ c .before .before .quoted-scalar-len .ensures)
+
+returns-2 : tie.Need-returns-2
+unfolding quotedOrValueLen
+returns-2 c = ap (foundOr (length (c .before .before .before .before .before .before .args .value .now))) (sym (c .before .n .given .1) ∙ c .before .before .before .quoted-scalar-len .ensures)
+
+pub quoted-or-value-len-spec : {M : Type 1} → statement M
+quoted-or-value-len-spec =
+    tie.close (tie.spec quoted-scalar-len-requires enum-known-n enum-told returns returns-2)

@@ -1,0 +1,114 @@
+-- `measure::quoted::quoted_scalar_len` meets its contract. The loop's invariant: the closing mark is found from here where it is found
+-- from the start, as many bytes further on as were passed. The measure is what is left. Assumes nothing.
+use mathlib.Core.Path.{_≡_, sym, _∙_, ap}
+use mathlib.Core.Bool.{Bool}
+use mathlib.Core.List.{List}
+use Prim.Native.Nat.{ℕ, _+_, _-_}
+use native.Mathlib.Omega.{arith}
+use lib.ListN.{length, drop, getD}
+use Rattle.measure.specs.Quoted.{further, passedTogether, toClosing, quotedLen}
+use Rattle.measure.proofs.Closing.{none-opens, other-opens, opens, passes-two, closes, passes-one, never-closes}
+use Rattle.measure.proofs.quoted.quoted_scalar_len.Statement.{statement}
+use Rattle.measure.proofs.quoted.quoted_scalar_len.Tie as tie
+
+abbrev Inv-loop : tie.InvT-loop
+Inv-loop rest quote i₀ i = further i (toClosing quote (drop i rest)) ≡ quotedLen rest quote
+
+abbrev μ-loop : tie.MeasureT-loop
+μ-loop rest quote i₀ i = length rest - i
+
+-- what was asked of the two bytes at i
+abbrev Asked : (rest : List ℕ) (quote i : ℕ) → Bool → Type 0
+Asked rest quote i t = t ≡ passedTogether quote (getD rest i 0) (getD rest (i + 1) 0)
+
+asked : (c : tie.After-passed-together Inv-loop μ-loop) → Asked (c .before .before .before .before .before .before .before .before .before .args .rest .now) (c .before .before .before .before .before .before .before .before .before .args .quote) (c .before .before .before .before .loop .i) (c .passed-together .result)
+asked c =
+    let start = c .before .before .before .before .before .before .before .before .before in
+    c .passed-together .ensures ∙ ap (passedTogether (start .args .quote) (getD (start .args .rest .now) (c .before .before .before .before .loop .i) 0)) (c .before .byte-at .ensures)
+
+returns : tie.Need-returns Inv-loop μ-loop
+returns c = none-opens (c .before .before .args .rest .now) (c .before .before .args .quote) (c .if1 .taken)
+
+shared-slice-read-if2 : tie.Need-shared-slice-read-if2 Inv-loop μ-loop
+shared-slice-read-if2 c = let n = c .before .if1 .left in omega arith
+
+returns-2 : tie.Need-returns-2 Inv-loop μ-loop
+returns-2 c = other-opens (c .before .before .before .before .args .rest .now) (c .before .before .before .before .args .quote) (c .if2 .taken)
+
+loop-holds : tie.Need-loop-holds Inv-loop μ-loop
+loop-holds c = opens (c .before .before .before .before .args .rest .now) (c .before .before .before .before .args .quote) (let n = c .before .before .if1 .left in omega arith) (c .if2 .left)
+
+shared-slice-read-b : tie.Need-shared-slice-read-b Inv-loop μ-loop
+shared-slice-read-b c = omega arith
+
+add-byte-at : tie.Need-add-byte-at Inv-loop μ-loop
+add-byte-at c = omega arith
+
+byte-at-requires : tie.Need-byte-at-requires Inv-loop μ-loop
+byte-at-requires c κs = tt
+
+passed-together-requires : tie.Need-passed-together-requires Inv-loop μ-loop
+passed-together-requires c κs = tt
+
+add-i : tie.Need-add-i Inv-loop μ-loop
+add-i c = omega arith
+
+loop-less : tie.Need-loop-less Inv-loop μ-loop
+loop-less c = omega arith
+
+loop-again : tie.Need-loop-again Inv-loop μ-loop
+loop-again c =
+    let at-loop = c .before .before .before .before .before in
+    let start = at-loop .before .before .before .before .before in
+    passes-two (start .args .rest .now) (start .args .quote) (at-loop .loop .i) (c .before .before .before .before .loop-test .taken) (sym (asked (c .before)) ∙ c .if3 .taken) ∙ at-loop .loop .inv
+
+add-t15 : tie.Need-add-t15 Inv-loop μ-loop
+add-t15 c = omega arith
+
+returns-3 : tie.Need-returns-3 Inv-loop μ-loop
+returns-3 c =
+    let at-loop = c .before .before .before .before .before .before in
+    let start = at-loop .before .before .before .before .before in
+    closes (start .args .rest .now) (start .args .quote) (at-loop .loop .i) (c .before .before .before .before .before .loop-test .taken) (sym (asked (c .before .before)) ∙ c .before .if3 .left) (c .if4 .taken) ∙ at-loop .loop .inv
+
+add-i-2 : tie.Need-add-i-2 Inv-loop μ-loop
+add-i-2 c = omega arith
+
+loop-less-2 : tie.Need-loop-less-2 Inv-loop μ-loop
+loop-less-2 c = omega arith
+
+loop-again-2 : tie.Need-loop-again-2 Inv-loop μ-loop
+loop-again-2 c =
+    let at-loop = c .before .before .before .before .before .before in
+    let start = at-loop .before .before .before .before .before in
+    passes-one (start .args .rest .now) (start .args .quote) (at-loop .loop .i) (c .before .before .before .before .before .loop-test .taken) (sym (asked (c .before .before)) ∙ c .before .if3 .left) (c .if4 .left) ∙ at-loop .loop .inv
+
+returns-4 : tie.Need-returns-4 Inv-loop μ-loop
+returns-4 c =
+    let at-loop = c .before in
+    let start = at-loop .before .before .before .before .before in
+    never-closes (start .args .rest .now) (start .args .quote) (at-loop .loop .i) (c .loop-test .left) ∙ at-loop .loop .inv
+
+pub quoted-scalar-len-spec : {M : Type 1} → statement M
+quoted-scalar-len-spec =
+    tie.close
+    (tie.spec
+    Inv-loop
+    μ-loop
+    returns
+    shared-slice-read-if2
+    returns-2
+    loop-holds
+    shared-slice-read-b
+    add-byte-at
+    byte-at-requires
+    passed-together-requires
+    add-i
+    loop-less
+    loop-again
+    add-t15
+    returns-3
+    add-i-2
+    loop-less-2
+    loop-again-2
+    returns-4)

@@ -1,0 +1,74 @@
+-- The block measure (P5, S7), by lines of characters, which end at newlines and at nothing else. The block goes on until a line, not
+-- the first and not blank, has fewer bytes of leading white space than the column. What a line says is how far the block
+-- reaches from its start: 0 bytes where it and all later ones are blank.
+use Prim.Native.Nat.{ℕ, zero, suc, _+_}
+use mathlib.Core.Bool.{Bool, true, false, not, _&&_}
+use mathlib.Core.List.{List, [], _∷_}
+use lib.Dec.{eqb, ltb}
+use lib.ListN.{length}
+use Rattle.text.specs.Utf8.{encode, codes}
+use Rattle.text.specs.WhiteSpace.{isWhiteSpace}
+use Rattle.text.specs.Offset.{pickLength}
+use Rattle.measure.specs.Run.{newline, bytesOf, whiteSpaceRun}
+use Rattle.measure.specs.declared.block.Line.{Line}
+
+abbrev pub pickLines : Bool → List (List ℕ) → List (List ℕ) → List (List ℕ)
+pickLines true a b = a
+pickLines false a b = b
+
+-- a character before the first of some lines
+abbrev pub before : ℕ → List (List ℕ) → List (List ℕ)
+before c [] = (c ∷ []) ∷ []
+before c (l ∷ ls) = (c ∷ l) ∷ ls
+
+-- the lines, without their newlines
+unfoldable pub lines : List ℕ → List (List ℕ)
+lines [] = [] ∷ []
+lines (c ∷ cs) = pickLines (eqb c newline) ([] ∷ lines cs) (before c (lines cs))
+
+unfoldable pub isBlank : List ℕ → Bool
+isBlank [] = true
+isBlank (c ∷ cs) = isWhiteSpace c && isBlank cs
+
+-- the bytes of a line up to its last character that is no white space; 0 of a blank line
+unfoldable pub trimmedLen : List ℕ → ℕ
+trimmedLen [] = 0
+trimmedLen (c ∷ cs) = pickLength (isBlank (c ∷ cs)) 0 (length (encode c) + trimmedLen cs)
+
+-- whether a line that is not the first ends the block
+unfoldable pub endsBlock : ℕ → List ℕ → Bool
+endsBlock column l = not (isBlank l) && ltb (bytesOf (whiteSpaceRun l)) column
+
+-- past a line and its newline, where what follows reaches n bytes; to the line's own end where it reaches none
+abbrev pub pastLine : List ℕ → ℕ → ℕ
+pastLine l zero = trimmedLen l
+pastLine l (suc n) = bytesOf l + 1 + suc n
+
+-- of lines after the first
+unfoldable pub laterReach : ℕ → List (List ℕ) → ℕ
+laterReach column [] = 0
+laterReach column (l ∷ ls) = pickLength (endsBlock column l) 0 (pastLine l (laterReach column ls))
+
+-- of all lines: the first is not held against the column
+unfoldable pub blockReach : ℕ → List (List ℕ) → ℕ
+blockReach column [] = 0
+blockReach column (l ∷ ls) = pastLine l (laterReach column ls)
+
+-- the length of a block scalar
+unfoldable pub blockLen : List ℕ → ℕ → ℕ
+blockLen rest column = blockReach column (lines (codes rest))
+
+-- the first of some lines
+abbrev pub firstOf : List (List ℕ) → List ℕ
+firstOf [] = []
+firstOf (l ∷ ls) = l
+
+-- a line as a measure tells it. The bytes of leading white space are told of a line that is not blank; those of a blank one are
+-- all of it
+unfoldable pub lineOf : List ℕ → Line
+lineOf cs =
+    record {
+      lead = bytesOf (whiteSpaceRun (firstOf (lines cs)));
+      trimmed = trimmedLen (firstOf (lines cs));
+      len = bytesOf (firstOf (lines cs));
+    }

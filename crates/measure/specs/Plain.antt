@@ -1,0 +1,67 @@
+-- The plain measure (P3, S5). The value's characters are matched in turn with those of the rest. What a match says is how far the
+-- span reaches from here: 0 bytes where no later character is equal, so that the span ends after the last equal one.
+use Prim.Native.Nat.{ℕ, zero, suc, _+_}
+use mathlib.Core.Bool.{Bool, true, false, _&&_, _||_}
+use mathlib.Core.List.{List, [], _∷_}
+use lib.Dec.{eqb, ltb}
+use lib.ListN.{length, drop, getD}
+use Rattle.text.specs.Utf8.{encode, codes}
+use Rattle.measure.specs.Run.{newline, bytesOf, whiteSpaceRun, afterRun, holdsNewline}
+
+abbrev pub blank : ℕ
+blank = 0x20
+
+-- a character that a folded line break can become
+unfoldable pub isFold : ℕ → Bool
+isFold c = eqb c blank || eqb c newline
+
+-- whether a byte stands at a place
+unfoldable pub hasByte : List ℕ → ℕ → ℕ → Bool
+hasByte s i b = ltb i (length s) && eqb (getD s i 0) b
+
+pub data Reach : Type 0 where
+  -- the value does not line up with the rest
+  unmatched : Reach
+  -- it does, and the last equal character ends so many bytes from here
+  reaches : ℕ → Reach
+
+abbrev pub pickReach : Bool → Reach → Reach → Reach
+pickReach true a b = a
+pickReach false a b = b
+
+-- past an equal character of n bytes
+abbrev pub pastEqual : ℕ → Reach → Reach
+pastEqual n unmatched = unmatched
+pastEqual n (reaches m) = reaches (n + m)
+
+-- past a run of n bytes, which is left out where nothing equal follows
+abbrev pub pastRun : ℕ → Reach → Reach
+pastRun n unmatched = unmatched
+pastRun n (reaches zero) = reaches 0
+pastRun n (reaches (suc m)) = reaches (n + suc m)
+
+-- whether the characters begin with c
+unfoldable pub beginsWith : ℕ → List ℕ → Bool
+beginsWith c [] = false
+beginsWith c (d ∷ ds) = eqb c d
+
+-- whether the character c of the value takes the white-space run that the rest begins with
+unfoldable pub takesRun : ℕ → List ℕ → Bool
+takesRun c rest = isFold c && holdsNewline (whiteSpaceRun rest)
+
+-- of the value's characters and the rest's
+unfoldable pub plainReach : List ℕ → List ℕ → Reach
+plainReach [] rest = reaches 0
+plainReach (c ∷ cs) rest =
+    pickReach (takesRun c rest) (pastRun (bytesOf (whiteSpaceRun rest)) (plainReach cs (afterRun rest)))
+    (pickReach (beginsWith c rest) (pastEqual (length (encode c)) (plainReach cs (drop 1 rest)))
+    unmatched)
+
+-- how far it reaches, or else n
+abbrev pub reachOr : ℕ → Reach → ℕ
+reachOr n unmatched = n
+reachOr n (reaches m) = m
+
+-- the length of a plain scalar; the value's where the two do not line up
+unfoldable pub plainLen : List ℕ → List ℕ → ℕ
+plainLen rest value = reachOr (length value) (plainReach (codes value) (codes rest))

@@ -1,0 +1,52 @@
+-- The quoted measure (P4, S6), by bytes: from the opening mark to the closing one. The value's length stands in where either is
+-- missing (S8). A backslash may be the text's last byte; then nothing is left to close the scalar.
+use Prim.Native.Nat.{ℕ, _+_}
+use mathlib.Core.Bool.{Bool, true, false, _&&_, _||_}
+use mathlib.Core.List.{List, [], _∷_}
+use lib.Dec.{eqb}
+use lib.ListN.{length}
+use Rattle.measure.specs.declared.quoted.Quoted.{Quoted}
+use Rattle.measure.specs.declared.quoted.Quoted.the-variants.{Found, Missing}
+
+abbrev pub singleQuote : ℕ
+singleQuote = 39
+
+abbrev pub doubleQuote : ℕ
+doubleQuote = 34
+
+abbrev pub backslash : ℕ
+backslash = 92
+
+abbrev pub pickQuoted : Bool → Quoted → Quoted → Quoted
+pickQuoted true a b = a
+pickQuoted false a b = b
+
+-- found n bytes further on
+abbrev pub further : ℕ → Quoted → Quoted
+further n (Found m) = Found (n + m)
+further n Missing = Missing
+
+-- two bytes that are passed together: in double quotes a backslash and any byte, in single ones `''`
+unfoldable pub passedTogether : ℕ → ℕ → ℕ → Bool
+passedTogether quote a b =
+    (eqb quote doubleQuote && eqb a backslash) || (eqb quote singleQuote && (eqb a quote && eqb b quote))
+
+-- the bytes from inside a quoted scalar through its closing mark
+unfoldable pub toClosing : ℕ → List ℕ → Quoted
+toClosing quote [] = Missing
+toClosing quote (a ∷ []) = pickQuoted (eqb a quote) (Found 1) Missing
+toClosing quote (a ∷ b ∷ s) =
+    pickQuoted (passedTogether quote a b) (further 2 (toClosing quote s))
+    (pickQuoted (eqb a quote) (Found 1) (further 1 (toClosing quote (b ∷ s))))
+
+unfoldable pub quotedLen : List ℕ → ℕ → Quoted
+quotedLen [] quote = Missing
+quotedLen (a ∷ s) quote = pickQuoted (eqb a quote) (further 1 (toClosing quote s)) Missing
+
+abbrev pub foundOr : ℕ → Quoted → ℕ
+foundOr n (Found m) = m
+foundOr n Missing = n
+
+-- the length of a quoted scalar; the value's where a mark is missing
+unfoldable pub quotedOrValueLen : List ℕ → List ℕ → ℕ → ℕ
+quotedOrValueLen rest value quote = foundOr (length value) (quotedLen rest quote)

@@ -1,0 +1,70 @@
+// The plain measure. (01: Reading rules, Plain; `plain_scalar_len`; P3, S5, F6.)
+ghost use mathlib.Core.Path.{_≡_};
+ghost use Rattle.text.specs.Utf8.{Utf8};
+ghost use Rattle.measure.specs.Plain.{plainLen, isFold, hasByte};
+use crate::run::NEWLINE;
+use crate::run::white_space_run;
+use text::utf8::first_char;
+
+const BLANK: u32 = 0x20;
+
+// Whether a character of a value can stand for a folded line break.
+fn is_fold(code: u32) -> bool
+    ensures { λ r. ⌜ r ≡ isFold code ⌝ }
+{
+    if code == BLANK {
+        return true;
+    }
+    code == NEWLINE
+}
+
+// Whether `s` has the byte `b` at `i`.
+fn has_byte(s: &[u8], i: usize, b: u8) -> bool
+    ensures { λ r. ⌜ r ≡ hasByte (now (s .entry)) i b ⌝ }
+{
+    if i < s.len() {
+        return s[i] == b;
+    }
+    false
+}
+
+// The length in bytes of a plain scalar that stands at the start of `rest`: up to the last character that is equal in the value,
+// or the value's own length where the two do not line up.
+//
+// `known` is where the white space that was last looked at ends: up to there no newline follows, and it is not looked at again.
+pub fn plain_scalar_len(rest: &[u8], value: &[u8]) -> usize
+    requires { ⌜ Utf8 (now rest) ⌝ }
+    requires { ⌜ Utf8 (now value) ⌝ }
+    ensures { λ r. ⌜ r ≡ plainLen (now (rest .entry)) (now (value .entry)) ⌝ }
+{
+    let mut at = 0;
+    let mut end = 0;
+    let mut known = 0;
+    let mut v = 0;
+    'characters: while v < value.len() {
+        let c = first_char(value, v);
+        if known <= at {
+            if is_fold(c.code) {
+                let run = white_space_run(&rest[at..]);
+                if run.newline {
+                    at += run.len;
+                    v += c.len;
+                    continue;
+                }
+                known = at + run.len;
+            }
+        }
+        let mut k = 0;
+        while k < c.len {
+            if !has_byte(rest, at + k, value[v + k]) {
+                end = value.len();
+                break 'characters;
+            }
+            k += 1;
+        }
+        at += c.len;
+        v += c.len;
+        end = at;
+    }
+    end
+}

@@ -1,0 +1,33 @@
+// White-space runs, by code points. (01: "One notion of white space"; W1.)
+ghost use mathlib.Core.Path.{_≡_};
+ghost use Rattle.text.specs.Utf8.{Utf8, codes};
+ghost use Rattle.measure.specs.Run.{runOf};
+use text::utf8::first_char;
+use text::white_space::is_white_space;
+
+pub const NEWLINE: u32 = 0xa;
+
+// The white space that a text begins with: its bytes, and whether a newline is among it.
+pub struct Run {
+    pub len: usize,
+    pub newline: bool,
+}
+
+pub fn white_space_run(tail: &[u8]) -> Run
+    requires { ⌜ Utf8 (now tail) ⌝ }
+    ensures { λ r. ⌜ r ≡ runOf (codes (now (tail .entry))) ⌝ }
+{
+    let mut len = 0;
+    let mut newline = false;
+    while len < tail.len() {
+        let c = first_char(tail, len);
+        if !is_white_space(c.code) {
+            return Run { len, newline };
+        }
+        if c.code == NEWLINE {
+            newline = true;
+        }
+        len += c.len;
+    }
+    Run { len, newline }
+}

@@ -1,0 +1,182 @@
+-- The flags of a scalar: for each row of the table, the booleans' halves apart, whether it accepts the scalar. They are
+-- those of the state in which the automaton ends (`ended`), so that what holds of the flags of every state, by a computed
+-- test, holds of every scalar (`by-states`). Assumes nothing.
+use mathlib.Core.Path.{_≡_, refl, sym, _∙_, ap, subst}
+use mathlib.Core.Bool.{Bool, false}
+use mathlib.Core.List.{List, [], _∷_, map}
+use Prim.Native.Nat.{ℕ, suc, _+_, _<_, _≤_}
+use native.Mathlib.Numerals.{add-one}
+use native.Mathlib.Omega.{arith}
+use borrow.Author.Tests.{ne-eqb}
+use lib.Dec.{T, eqb, eqb→eq}
+use lib.ListN.{length, drop, getD, drop-of-length-le}
+use lib.Seq.{drop-cons}
+use Rattle.text.proofs.Table.{all, all-at}
+use Rattle.schema.specs.Regex.{Regex, none}
+use Rattle.schema.specs.Matcher.{nullable, derivative, accepts}
+use Rattle.schema.specs.Form.{formOf, pickForm}
+use Rattle.schema.specs.declared.form.Form.{Form}
+use Rattle.schema.specs.declared.form.Form.the-variants.{Null, True, False, Decimal, Octal, Hexadecimal, Float, Other}
+use Rattle.schema.proofs.Automaton.{rows, awaits, texts, forms, step, step-low, step-is}
+
+-- a scalar of bytes
+abbrev pub Bytes : List ℕ → Type 0
+Bytes s = (k : ℕ) → getD s k 0 < 256
+
+abbrev pub accepted : List Regex → List ℕ → List Bool
+accepted rs s = map (λ r. accepts r s) rs
+
+unfoldable pub flags : List ℕ → List Bool
+flags s = accepted rows s
+
+-- the flags of a scalar that ends in the state
+unfoldable pub flagsAt : ℕ → List Bool
+flagsAt q = map nullable (awaits q)
+
+-- ---- a step of a run
+accepted-cons : (b : ℕ) (s : List ℕ) (rs : List Regex) → accepted rs (b ∷ s) ≡ accepted (map (derivative b) rs) s
+unfolding accepts
+accepted-cons b s [] = refl
+accepted-cons b s (r ∷ rs) = ap (λ (fs : List Bool). accepts (derivative b r) s ∷ fs) (accepted-cons b s rs)
+
+pub turn : (q b : ℕ) (s : List ℕ) → q < 48 → b < 256 → accepted (awaits q) (b ∷ s) ≡ accepted (awaits (step q b)) s
+turn q b s l h = accepted-cons b s (awaits q) ∙ ap (λ (rs : List Regex). accepted rs s) (sym (step-is q b l h))
+
+pub started : (s : List ℕ) → accepted (awaits 3) s ≡ flags s
+unfolding flags awaits texts
+started s = refl
+
+pub ended : (q : ℕ) → accepted (awaits q) [] ≡ flagsAt q
+unfolding flagsAt accepts
+ended q = refl
+
+-- ---- what holds of the flags of every state
+record Ends (q : ℕ) (s : List ℕ) : Type 0 where
+  last : ℕ
+  low : last < 48
+  is : accepted (awaits q) s ≡ flagsAt last
+
+ends : (s : List ℕ) (q : ℕ) → q < 48 → Bytes s → Ends q s
+ends [] q l f = record { last = q; low = l; is = ended q }
+ends (b ∷ s) q l f =
+    let e = ends s (step q b) (step-low q b l (f 0)) (λ k. f (suc k)) in
+    record { last = e .last; low = e .low; is = turn q b s l (f 0) ∙ e .is }
+
+pub by-states : (P : List Bool → Bool) → T (all 48 (λ q. P (flagsAt q))) → (s : List ℕ) → Bytes s → T (P (flags s))
+by-states P t s f =
+    let e = ends s 3 (omega arith) f in
+    subst (λ (fs : List Bool). T (P fs)) (sym (sym (started s) ∙ e .is)) (all-at 48 (λ (q : ℕ). P (flagsAt q)) t (e .last) (e .low))
+
+-- ---- the form of some flags
+abbrev pub flag : ℕ → List Bool → Bool
+flag k fs = getD fs k false
+
+unfoldable pub formAt : List Bool → Form
+formAt fs =
+    pickForm (flag 0 fs) Null
+    (pickForm (flag 1 fs) Null
+    (pickForm (flag 2 fs) True
+    (pickForm (flag 3 fs) False
+    (pickForm (flag 4 fs) Decimal
+    (pickForm (flag 5 fs) Octal
+    (pickForm (flag 6 fs) Hexadecimal
+    (pickForm (flag 7 fs) Float
+    (pickForm (flag 8 fs) Float
+    (pickForm (flag 9 fs) Float
+    Other)))))))))
+
+pub form-is : (s : List ℕ) → formOf s ≡ formAt (flags s)
+unfolding formOf formAt flags
+form-is s = refl
+
+-- ---- the state that awaits nothing
+pub none-accepts : (s : List ℕ) → accepts none s ≡ false
+unfolding accepts nullable derivative
+none-accepts [] = refl
+none-accepts (b ∷ s) = none-accepts s
+
+pub dead : (s t : List ℕ) → accepted (awaits 2) s ≡ flags t → Other ≡ formOf t
+unfolding awaits texts formAt derivative nullable
+dead s t e = sym (form-is t ∙ ap formAt (sym e) ∙ rw none-accepts refl)
+
+-- ---- the letter of a form
+abbrev pub formOfLetter : ℕ → Form
+formOfLetter x =
+    pickForm (eqb x 110) Null
+    (pickForm (eqb x 116) True
+    (pickForm (eqb x 102) False
+    (pickForm (eqb x 100) Decimal
+    (pickForm (eqb x 111) Octal
+    (pickForm (eqb x 120) Hexadecimal
+    (pickForm (eqb x 114) Float
+    Other))))))
+
+abbrev pub formNumber : Form → ℕ
+formNumber Null = 0
+formNumber True = 1
+formNumber False = 2
+formNumber Decimal = 3
+formNumber Octal = 4
+formNumber Hexadecimal = 5
+formNumber Float = 6
+formNumber Other = 7
+
+abbrev numbered : ℕ → Form
+numbered n =
+    pickForm (eqb n 0) Null
+    (pickForm (eqb n 1) True
+    (pickForm (eqb n 2) False
+    (pickForm (eqb n 3) Decimal
+    (pickForm (eqb n 4) Octal
+    (pickForm (eqb n 5) Hexadecimal
+    (pickForm (eqb n 6) Float
+    Other))))))
+
+numbered-number : (f : Form) → numbered (formNumber f) ≡ f
+numbered-number Null = refl
+numbered-number True = refl
+numbered-number False = refl
+numbered-number Decimal = refl
+numbered-number Octal = refl
+numbered-number Hexadecimal = refl
+numbered-number Float = refl
+numbered-number Other = refl
+
+pub same-number : (f g : Form) → T (eqb (formNumber f) (formNumber g)) → f ≡ g
+same-number f g t = sym (numbered-number f) ∙ ap numbered (eqb→eq (formNumber f) (formNumber g) t) ∙ numbered-number g
+
+lettered : ℕ → Bool
+lettered q = eqb (formNumber (formOfLetter (getD forms q 0))) (formNumber (formAt (flagsAt q)))
+
+all-lettered : T (all 48 lettered)
+unfolding lettered forms formAt flagsAt awaits texts nullable derivative
+all-lettered = tt
+
+-- the form of a scalar that ends in a state, by the state's letter
+pub letter-is : (q : ℕ) (s : List ℕ) → q < 48 → accepted (awaits q) [] ≡ flags s → formOfLetter (getD forms q 0) ≡ formOf s
+unfolding lettered
+letter-is q s l e =
+    same-number (formOfLetter (getD forms q 0)) (formAt (flagsAt q)) (all-at 48 lettered all-lettered q l)
+    ∙ ap formAt (sym (ended q) ∙ e)
+    ∙ sym (form-is s)
+
+pub letter-none : (x : ℕ) → (x ≡ 110 → ⊥) → (x ≡ 116 → ⊥) → (x ≡ 102 → ⊥) → (x ≡ 100 → ⊥) → (x ≡ 111 → ⊥) → (x ≡ 120 → ⊥)
+    → (x ≡ 114 → ⊥) → formOfLetter x ≡ Other
+letter-none x n t f d o h r =
+    rw (ne-eqb x 110 n, ne-eqb x 116 t, ne-eqb x 102 f, ne-eqb x 100 d, ne-eqb x 111 o, ne-eqb x 120 h, ne-eqb x 114 r)
+
+-- ---- a turn of the code's loop
+module _ (s : List ℕ) (i q : ℕ) (h : i < length s) (l : q < 48) (f : Bytes s) (e : accepted (awaits q) (drop i s) ≡ flags s) where
+  pub turned : accepted (awaits (step q (getD s i 0))) (drop (i + 1) s) ≡ flags s
+  turned =
+      ap (λ (t : List ℕ). accepted (awaits (step q (getD s i 0))) t) (ap (λ (k : ℕ). drop k s) (add-one i))
+      ∙ sym (turn q (getD s i 0) (drop (suc i) s) l (f i))
+      ∙ ap (accepted (awaits q)) (sym (drop-cons s i 0 h))
+      ∙ e
+
+  pub stopped : step q (getD s i 0) ≡ 2 → Other ≡ formOf s
+  stopped d = dead (drop (i + 1) s) s (ap (λ (p : ℕ). accepted (awaits p) (drop (i + 1) s)) (sym d) ∙ turned)
+
+pub at-end : (s : List ℕ) (i q : ℕ) → length s ≤ i → q < 48 → accepted (awaits q) (drop i s) ≡ flags s
+    → formOfLetter (getD forms q 0) ≡ formOf s
+at-end s i q h l e = letter-is q s l (ap (accepted (awaits q)) (sym (drop-of-length-le s h)) ∙ e)

@@ -1,0 +1,97 @@
+-- `schema::record::payload_of` meets its contract, by what the scalar is. Assumes nothing.
+use borrow.Author.Needs.{needs}
+use mathlib.Core.Path.{_≡_, refl, _∙_, ap, sym}
+use mathlib.Core.Bool.{Bool, true, false}
+use Prim.Native.Nat.{ℕ, _/_, _%_}
+use mir.Syntax.{w64}
+use mir.Val.{SFits, boolByte}
+use mir.Facts.{toZ-ofZ}
+use Rattle.schema.specs.Record.{payloadOf, truth, both, twosComplement}
+use Rattle.schema.specs.declared.plain.Resolved.{Resolved}
+use Rattle.schema.proofs.record.payload_of.Statement.{statement}
+use Rattle.schema.proofs.record.payload_of.Tie as tie
+
+enum-told : tie.Need-enum-told
+enum-told c = search needs
+
+enum-known-resolved : tie.Need-enum-known-resolved
+enum-known-resolved c = search needs
+
+cast-t8 : tie.Need-cast-t8
+cast-t8 c = search needs
+
+enum-known-resolved-2 : tie.Need-enum-known-resolved-2
+enum-known-resolved-2 c = search needs
+
+twos-complement-requires : tie.Need-twos-complement-requires
+twos-complement-requires c κs = search needs
+
+cast-t10 : tie.Need-cast-t10
+cast-t10 c = search needs
+
+cast-t12 : tie.Need-cast-t12
+cast-t12 c = search needs
+
+enum-told-2 : tie.Need-enum-told-2
+enum-told-2 c = search needs
+
+enum-told-3 : tie.Need-enum-told-3
+enum-told-3 c = search needs
+
+enum-told-4 : tie.Need-enum-told-4
+enum-told-4 c = search needs
+
+truth-is : (b : Bool) → boolByte b ≡ truth b
+truth-is true = refl
+truth-is false = refl
+
+returns : tie.Need-returns
+returns c =
+    sym (ap (λ (r : Resolved). payloadOf r (c .before .before .args .place) (c .before .before .args .len)) (c .enum-told .given .1))
+
+returns-2 : tie.Need-returns-2
+returns-2 c =
+    let p = c .before .before .before in
+    ap (λ (n : ℕ). both n 0) (truth-is (c .before .resolved .given .0 .0))
+    ∙ sym (ap (λ (r : Resolved). payloadOf r (p .args .place) (p .args .len)) (c .before .resolved .given .1))
+
+returns-3 : tie.Need-returns-3
+returns-3 c =
+    let p = c .before .before .before .before in
+    let fits : SFits w64 (c .before .before .resolved2 .given .0 .0) = record { sfits = c .before .known-told2 .given .0 .1 } in
+    ap (λ (n : ℕ). both (n / 4294967296) (n % 4294967296))
+    (c .twos-complement .ensures ∙ ap twosComplement (toZ-ofZ fits))
+    ∙ sym (ap (λ (r : Resolved). payloadOf r (p .args .place) (p .args .len)) (c .before .before .resolved2 .given .1))
+
+returns-4 : tie.Need-returns-4
+returns-4 c =
+    sym (ap (λ (r : Resolved). payloadOf r (c .before .before .args .place) (c .before .before .args .len)) (c .enum-told2 .given .1))
+
+returns-5 : tie.Need-returns-5
+returns-5 c =
+    sym (ap (λ (r : Resolved). payloadOf r (c .before .before .args .place) (c .before .before .args .len)) (c .enum-told3 .given .1))
+
+returns-6 : tie.Need-returns-6
+returns-6 c =
+    sym (ap (λ (r : Resolved). payloadOf r (c .before .before .args .place) (c .before .before .args .len)) (c .enum-told4 .given .1))
+
+pub payload-of-spec : {M : Type 1} → statement M
+payload-of-spec =
+    tie.close
+    (tie.spec
+    enum-told
+    enum-known-resolved
+    cast-t8
+    enum-known-resolved-2
+    twos-complement-requires
+    cast-t10
+    cast-t12
+    enum-told-2
+    enum-told-3
+    enum-told-4
+    returns
+    returns-2
+    returns-3
+    returns-4
+    returns-5
+    returns-6)

@@ -1,0 +1,85 @@
+-- `schema::tag::tagged_null` meets its contract, by the form of the value. Assumes nothing.
+use borrow.Author.Needs.{needs}
+use mathlib.Core.Path.{_≡_, _∙_, ap, sym}
+use Rattle.schema.specs.Tag.{taggedNull}
+use Rattle.schema.specs.declared.form.Form.{Form}
+use Rattle.schema.proofs.Forms.{readNull, tagged-null}
+use Rattle.schema.proofs.tag.tagged_null.Statement.{statement}
+use Rattle.schema.proofs.tag.tagged_null.Tie as tie
+
+form-of-requires : tie.Need-form-of-requires
+form-of-requires c κs = search needs
+
+enum-told : tie.Need-enum-told
+enum-told c = search needs
+
+enum-told-2 : tie.Need-enum-told-2
+enum-told-2 c = search needs
+
+enum-told-3 : tie.Need-enum-told-3
+enum-told-3 c = search needs
+
+enum-told-4 : tie.Need-enum-told-4
+enum-told-4 c = search needs
+
+enum-told-5 : tie.Need-enum-told-5
+enum-told-5 c = search needs
+
+enum-told-6 : tie.Need-enum-told-6
+enum-told-6 c = search needs
+
+enum-told-7 : tie.Need-enum-told-7
+enum-told-7 c = search needs
+
+enum-told-8 : tie.Need-enum-told-8
+enum-told-8 c = search needs
+
+-- an arm answers what its form says
+arm : (c : tie.After-form-of) {f : Form} → c .form-of .result ≡ f → readNull f ≡ taggedNull (c .before .before .args .value .now)
+arm c e = ap readNull (sym e ∙ c .form-of .ensures) ∙ sym (tagged-null _)
+
+returns : tie.Need-returns
+returns c = arm (c .before .before) (c .enum-told .given .1)
+
+returns-2 : tie.Need-returns-2
+returns-2 c = arm (c .before .before) (c .enum-told2 .given .1)
+
+returns-3 : tie.Need-returns-3
+returns-3 c = arm (c .before .before) (c .enum-told3 .given .1)
+
+returns-4 : tie.Need-returns-4
+returns-4 c = arm (c .before .before) (c .enum-told4 .given .1)
+
+returns-5 : tie.Need-returns-5
+returns-5 c = arm (c .before .before) (c .enum-told5 .given .1)
+
+returns-6 : tie.Need-returns-6
+returns-6 c = arm (c .before .before) (c .enum-told6 .given .1)
+
+returns-7 : tie.Need-returns-7
+returns-7 c = arm (c .before .before) (c .enum-told7 .given .1)
+
+returns-8 : tie.Need-returns-8
+returns-8 c = arm (c .before .before) (c .enum-told8 .given .1)
+
+pub tagged-null-spec : {M : Type 1} → statement M
+tagged-null-spec =
+    tie.close
+    (tie.spec
+    form-of-requires
+    enum-told
+    enum-told-2
+    enum-told-3
+    enum-told-4
+    enum-told-5
+    enum-told-6
+    enum-told-7
+    enum-told-8
+    returns
+    returns-2
+    returns-3
+    returns-4
+    returns-5
+    returns-6
+    returns-7
+    returns-8)

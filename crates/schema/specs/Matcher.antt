@@ -1,0 +1,57 @@
+-- A matcher that computes, by Brzozowski's derivatives: `derivative b r` matches what may follow the byte b in a match of r.
+-- `accepts r s` is true exactly where `Matches r s` holds (`accepts-sound`, `accepts-complete` of proofs/Derivative.antt);
+-- contracts cite it because it computes. `join` and `either` drop what matches nothing, so that derivatives stay small.
+-- Assumes nothing.
+use Prim.Native.Nat.{ℕ}
+use mathlib.Core.Bool.{Bool, true, false, _&&_, _||_}
+use mathlib.Core.List.{List, [], _∷_}
+use lib.Dec.{leb}
+use Rattle.schema.specs.Regex.{Regex, none, empty, range, seq, alt, star}
+
+abbrev pub pick : Bool → Regex → Regex → Regex
+pick true r q = r
+pick false r q = q
+
+abbrev pub isNone : Regex → Bool
+isNone none = true
+isNone empty = false
+isNone (range lo hi) = false
+isNone (seq r q) = false
+isNone (alt r q) = false
+isNone (star r) = false
+
+abbrev pub isEmpty : Regex → Bool
+isEmpty none = false
+isEmpty empty = true
+isEmpty (range lo hi) = false
+isEmpty (seq r q) = false
+isEmpty (alt r q) = false
+isEmpty (star r) = false
+
+-- `seq` and `alt`, where a part that is `none` or `empty` is left out
+abbrev pub join : Regex → Regex → Regex
+join r q = pick (isNone r) none (pick (isEmpty r) q (seq r q))
+
+abbrev pub either : Regex → Regex → Regex
+either r q = pick (isNone r) q (pick (isNone q) r (alt r q))
+
+-- whether r matches the list of no bytes
+unfoldable pub nullable : Regex → Bool
+nullable none = false
+nullable empty = true
+nullable (range lo hi) = false
+nullable (seq r q) = nullable r && nullable q
+nullable (alt r q) = nullable r || nullable q
+nullable (star r) = true
+
+unfoldable pub derivative : ℕ → Regex → Regex
+derivative b none = none
+derivative b empty = none
+derivative b (range lo hi) = pick (leb lo b && leb b hi) empty none
+derivative b (seq r q) = pick (nullable r) (either (join (derivative b r) q) (derivative b q)) (join (derivative b r) q)
+derivative b (alt r q) = either (derivative b r) (derivative b q)
+derivative b (star r) = join (derivative b r) (star r)
+
+unfoldable pub accepts : Regex → List ℕ → Bool
+accepts r [] = nullable r
+accepts r (b ∷ s) = accepts (derivative b r) s
