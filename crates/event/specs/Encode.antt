@@ -69,6 +69,7 @@ encode e = tagByte e ∷ (highFirst 2 (length (encodeBody e)) ++ encodeBody e)
 
 -- ---- sound events
 
+-- a handle or a suffix
 pub record SoundString (x : List ℕ) : Type 0 where
   pub utf8 : Utf8 x
   pub short : length x ≤ 65_535

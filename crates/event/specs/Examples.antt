@@ -38,7 +38,7 @@ pub record SixEvents : Type 0 where
   -- index 5
   pub alias-event : Worked (alias 5) (6 ∷ 0 ∷ 4 ∷ 0 ∷ 0 ∷ 0 ∷ 5 ∷ []) (Alias 5 7)
 
-six-events : SixEvents
+pub six-events : SixEvents
 unfolding encode encodeBody encodeRest encodeTag encodeString highFirst readEvent readBody readScalar readStartTag readTag readString numberAt isUtf8 allSome charsAfter firstChar charOf multiByte twoBytes
 six-events =
     record {
@@ -93,7 +93,7 @@ pub record Refused : Type 0 where
   -- the suffix is a continuation byte
   pub suffix-not-utf8 : readEvent (5 ∷ 0 ∷ 18 ∷ 0 ∷ 0 ∷ 0 ∷ 3 ∷ 0 ∷ 0 ∷ 0 ∷ 2 ∷ 4 ∷ 0 ∷ 1 ∷ 0 ∷ 1 ∷ 33 ∷ 0 ∷ 1 ∷ 128 ∷ 97 ∷ []) 0 ≡ Malformed
 
-refused : Refused
+pub refused : Refused
 unfolding readEvent readBody readScalar readStartTag readTag readString numberAt isUtf8 allSome charsAfter firstChar charOf multiByte twoBytes
 refused =
     record {
@@ -126,6 +126,6 @@ pub record InARow : Type 0 where
   pub second : readEvent row 8 ≡ Scalar 3 2 2 false Absent (part 22 2) 24
   pub third : readEvent row 24 ≡ SequenceEnd 1 31
 
-in-a-row : InARow
+pub in-a-row : InARow
 unfolding readEvent readBody readScalar readStartTag readTag numberAt isUtf8 allSome charsAfter firstChar charOf multiByte twoBytes
 in-a-row = record { first = refl; second = refl; third = refl }

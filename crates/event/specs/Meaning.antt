@@ -3,6 +3,7 @@
 use Prim.Native.Nat.{ℕ, _+_, _≤_, _<_}
 use mathlib.Core.Path.{_≡_}
 use mathlib.Core.List.{List, _++_}
+use mathlib.Core.Logic.{_⊎_}
 use lib.ListN.{length, drop}
 use Rattle.text.specs.Utf8.{Utf8}
 use Rattle.event.specs.Encode.{Tag, untagged, tagged, YamlEvent, sequenceStart, sequenceEnd, mappingStart, mappingEnd, scalar, alias, encodeTag, encode, Sound}
@@ -107,3 +108,17 @@ Within s i (MappingEnd m n) = Passed s i m n
 Within s i (Scalar m c y f t v n) = ScalarWithin s i m c y t v n
 Within s i (Alias m n) = Passed s i m n
 Within s i Malformed = Unit {0}
+
+-- ---- reading, in one statement
+
+-- r is what reading at the place i of s must answer
+pub record Exact (s : List ℕ) (i : ℕ) (r : Event) : Type 0 where
+  -- a sound event that stands there is answered
+  pub nothing-sound-refused : (e : YamlEvent) → StandsAt s i e → r ≡ placed i e
+  -- and nothing else is
+  pub nothing-else-answered : (r ≡ Malformed) ⊎ Answers s i r
+  pub malformed-none-stands : r ≡ Malformed → (e : YamlEvent) → StandsAt s i e → ⊥
+  -- there is one such event, and the answer says that event
+  pub one-stands : (e f : YamlEvent) → StandsAt s i e → StandsAt s i f → e ≡ f
+  pub parts-are : (e : YamlEvent) → StandsAt s i e → said s r ≡ says e
+  pub within : Within s i r

@@ -148,7 +148,8 @@ module _ (s : List ℕ) (bytes : Bytes s) (e : ℕ) (inside : e ≤ length s) wh
       (λ v. tt)))
       (λ t. tt)
     where
-      suffix : i < e → getD s i 0 ≡ 1 → (h : Part) → FoundString s (i + 1) e h → (r : Text) → StringFound s (h .at + h .len) e r → TagFound s i e (withSuffix h r)
+      suffix : i < e → getD s i 0 ≡ 1 → (h : Part) → FoundString s (i + 1) e h → (r : Text) → StringFound s (h .at + h .len) e r
+          → TagFound s i e (withSuffix h r)
       suffix l b h p (text.Valid x) q = found-present i h x l b p q
       suffix l b h p text.Invalid q = tt
 
@@ -253,7 +254,8 @@ module _ (s : List ℕ) (bytes : Bytes s) (e : ℕ) (inside : e ≤ length s) wh
       go start.Invalid p = inl refl
 
   -- an event whose body is its marker index
-  pub bare-found : (kind m i : ℕ) (event : YamlEvent) → kind ≡ tagByte event → m ≡ markerIndex event → SoundRest event → encodeRest event ≡ [] → e ≡ i
+  bare-found : (kind m i : ℕ) (event : YamlEvent) → kind ≡ tagByte event → m ≡ markerIndex event → SoundRest event → encodeRest event ≡ []
+      → e ≡ i
       → BodyFound s kind m i e (placedBody i e event)
   bare-found kind m i event k n h b z =
       inr
@@ -278,7 +280,9 @@ module _ (s : List ℕ) (bytes : Bytes s) (e : ℕ) (inside : e ≤ length s) wh
       (λ t3. by-event (ltb i e) _ _ (BodyFound s kind m i e) (λ t. inl refl)
       (λ t. bare (let k = ltb-false i e t in omega arith)))))
     where
-      bare : e ≡ i → BodyFound s kind m i e (pickEvent (eqb kind 2) (SequenceEnd m e) (pickEvent (eqb kind 4) (MappingEnd m e) (pickEvent (eqb kind 6) (Alias m e) Malformed)))
+      bare : e ≡ i
+          → BodyFound s kind m i e
+          (pickEvent (eqb kind 2) (SequenceEnd m e) (pickEvent (eqb kind 4) (MappingEnd m e) (pickEvent (eqb kind 6) (Alias m e) Malformed)))
       bare z =
           by-event (eqb kind 2) _ _ (BodyFound s kind m i e) (λ t. bare-found kind m i (sequenceEnd m) (eqb-true kind 2 t) refl tt refl z)
           (λ t2. by-event (eqb kind 4) _ _ (BodyFound s kind m i e) (λ t. bare-found kind m i (mappingEnd m) (eqb-true kind 4 t) refl tt refl z)
@@ -286,12 +290,14 @@ module _ (s : List ℕ) (bytes : Bytes s) (e : ℕ) (inside : e ≤ length s) wh
 
 -- ---- events
 
-body-written : (s : List ℕ) → Bytes s → (i e : ℕ) (x : YamlEvent) → i + 4 ≤ length s → numberAt s i 4 ≡ markerIndex x → drop (i + 4) s ≡ encodeRest x ++ drop e s
+body-written : (s : List ℕ) → Bytes s → (i e : ℕ) (x : YamlEvent) → i + 4 ≤ length s → numberAt s i 4 ≡ markerIndex x
+    → drop (i + 4) s ≡ encodeRest x ++ drop e s
     → drop i s ≡ encodeBody x ++ drop e s
 unfolding encodeBody
 body-written s bytes i e x h m rest = number-written s bytes i 4 h ∙ rw (m, rest, append-assoc)
 
-event-written : (s : List ℕ) → Bytes s → (i e : ℕ) (x : YamlEvent) → i + 3 ≤ length s → getD s i 0 ≡ tagByte x → numberAt s (i + 1) 2 ≡ length (encodeBody x)
+event-written : (s : List ℕ) → Bytes s → (i e : ℕ) (x : YamlEvent) → i + 3 ≤ length s → getD s i 0 ≡ tagByte x
+    → numberAt s (i + 1) 2 ≡ length (encodeBody x)
     → drop (i + 3) s ≡ encodeBody x ++ drop e s
     → drop i s ≡ encode x ++ drop e s
 unfolding encode
@@ -327,7 +333,7 @@ unfolding readEvent
 event-found s bytes i =
     by-event (leb (i + 3) (length s)) _ _ P
     (λ t. by-event (leb (i + 3 + numberAt s (i + 1) 2) (length s)) _ _ P
-    (λ u. by-event (leb 4 (numberAt s (i + 1) 2)) _ _ P (λ v. found _ (leb-true _ _ u) (leb-true _ _ v) (body-found s bytes _ (leb-true _ _ u) _ _ _ (let k = leb-true 4 (numberAt s (i + 1) 2) v in omega arith))) (λ v. inl refl))
+    (λ u. by-event (leb 4 (numberAt s (i + 1) 2)) _ _ P (λ v. body (leb-true _ _ u) (leb-true _ _ v)) (λ v. inl refl))
     (λ u. inl refl))
     (λ t. inl refl)
   where
@@ -338,3 +344,7 @@ event-found s bytes i =
         → BodyFound s (getD s i 0) (numberAt s (i + 3) 4) (i + 3 + 4) (i + 3 + numberAt s (i + 1) 2) r → P r
     found r h k (inl x) = inl x
     found r h k (inr p) = inr (framed-found s bytes i r h k p)
+
+    body : i + 3 + numberAt s (i + 1) 2 ≤ length s → 4 ≤ numberAt s (i + 1) 2
+        → P (readBody s (getD s i 0) (numberAt s (i + 3) 4) (i + 3 + 4) (i + 3 + numberAt s (i + 1) 2))
+    body h k = found _ h k (body-found s bytes (i + 3 + numberAt s (i + 1) 2) h (getD s i 0) (numberAt s (i + 3) 4) (i + 3 + 4) (omega arith))

@@ -12,7 +12,7 @@ use lib.ListN.{length, drop}
 use Rattle.event.specs.Number.{highFirst, Bytes}
 use Rattle.event.specs.Encode.{Tag, untagged, tagged, YamlEvent, sequenceStart, sequenceEnd, mappingStart, mappingEnd, scalar, alias, encodeString, encodeTag, encodeFlag, markerIndex, encodeRest, encode, SoundTag, Sound}
 use Rattle.event.specs.Read.{part, partOf, readEvent}
-use Rattle.event.specs.Meaning.{StandsAt, placedTag, placedBody, placed, Answers, says, saidTag, said, TextParts, Passed, Within}
+use Rattle.event.specs.Meaning.{StandsAt, placedTag, placedBody, placed, Answers, says, saidTag, said, TextParts, Passed, Within, Exact}
 use Rattle.event.specs.EncodeLaws.{stands-after, stands-inside, byte-after, number-after, part-stands, tag-length, rest-length, body-length, event-length}
 use Rattle.event.specs.WrittenIsRead.{rest-stands, event-read}
 use Rattle.event.specs.ReadIsWritten.{event-found}
@@ -65,7 +65,8 @@ module _ (s : List ℕ) where
       → (partOf s (part (i + 1 + 2) (length h)) ≡ h) × (partOf s (part (i + 1 + 2 + length h + 2) (length x)) ≡ x)
   unfolding encodeTag encodeString
   tag-parts i h x u stands =
-      let from : drop (i + 1) s ≡ highFirst 2 (length h) ++ (h ++ (highFirst 2 (length x) ++ (x ++ u))) = byte-after s i 1 _ stands (i + 1) refl ∙ simp append-assoc in
+      let from : drop (i + 1) s ≡ highFirst 2 (length h) ++ (h ++ (highFirst 2 (length x) ++ (x ++ u)))
+      = byte-after s i 1 _ stands (i + 1) refl ∙ simp append-assoc in
       let handle-on = number-after s (i + 1) 2 (length h) _ from (i + 1 + 2) refl in
       let after = stands-after s (i + 1 + 2) h _ handle-on (i + 1 + 2 + length h) refl in
       let suffix-on = number-after s (i + 1 + 2 + length h) 2 (length x) _ after (i + 1 + 2 + length h + 2) refl in
@@ -84,7 +85,8 @@ module _ (s : List ℕ) where
       (record { inside = omega arith; utf8 = rw (parts .0) (sound .0 .utf8) }, record { inside = omega arith; utf8 = rw (parts .1) (sound .1 .utf8) })
 
   -- in the body of a scalar the YAML tag stands after column, style and flag, and the value after the tag
-  tag-stands : (i m c y : ℕ) (f : Bool) (t : Tag) (v u : List ℕ) → drop i s ≡ encodeRest (scalar m c y f t v) ++ u → drop (i + 6) s ≡ encodeTag t ++ (v ++ u)
+  tag-stands : (i m c y : ℕ) (f : Bool) (t : Tag) (v u : List ℕ) → drop i s ≡ encodeRest (scalar m c y f t v) ++ u
+      → drop (i + 6) s ≡ encodeTag t ++ (v ++ u)
   unfolding encodeRest
   tag-stands i m c y f t v u stands =
       let from : drop i s ≡ highFirst 4 c ++ (y ∷ encodeFlag f ∷ (encodeTag t ++ (v ++ u))) = stands ∙ simp append-assoc in
@@ -164,3 +166,16 @@ module _ (s : List ℕ) (i : ℕ) where
       go : (readEvent s i ≡ Malformed) ⊎ Answers s i (readEvent s i) → Within s i (readEvent s i)
       go (inl x) = rw x tt
       go (inr x) = rw (x .answered) (stands-within (x .event) (x .stands))
+
+-- ---- in one statement
+
+pub reads-exactly : (s : List ℕ) → Bytes s → (i : ℕ) → Exact s i (readEvent s i)
+reads-exactly s bytes i =
+    record {
+      nothing-sound-refused = sound-is-read s i;
+      nothing-else-answered = malformed-or-answers s bytes i;
+      malformed-none-stands = malformed-none-stands s i;
+      one-stands = stands-unique s i;
+      parts-are = λ e p. rw (sound-is-read s i e p) (parts-are s i e p);
+      within = answer-within s i bytes;
+    }

@@ -40,10 +40,13 @@ module _ (s : List ℕ) where
   tag-read i e untagged u stands sound h = tag-absent s i e (omega arith) (byte-stands s i 0 u stands)
   tag-read i e (tagged h x) u stands sound fits =
       let size = tag-length h x in
-      let handle : drop (i + 1) s ≡ encodeString h ++ (encodeString x ++ u) = byte-after s i 1 _ stands (i + 1) refl ∙ append-assoc (encodeString h) (encodeString x) u in
+      let handle : drop (i + 1) s ≡ encodeString h ++ (encodeString x ++ u)
+      = byte-after s i 1 _ stands (i + 1) refl ∙ append-assoc (encodeString h) (encodeString x) u in
       let after = stands-after s (i + 1) (encodeString h) (encodeString x ++ u) handle (i + 1 + 2 + length h) (omega (arith, string-length h)) in
       let next : i + 1 + 2 + length h + 2 + length x ≡ i + length (encodeTag (tagged h x)) = omega arith in
-      tag-with-suffix s i e (omega arith) (byte-stands s i 1 _ stands) (part (i + 1 + 2) (length h)) _ (string-read (i + 1) e h _ handle (sound .0) (omega arith)) (string-read (i + 1 + 2 + length h) e x u after (sound .1) (omega arith))
+      let handle-read = string-read (i + 1) e h _ handle (sound .0) (omega arith) in
+      let suffix-read = string-read (i + 1 + 2 + length h) e x u after (sound .1) (omega arith) in
+      tag-with-suffix s i e (omega arith) (byte-stands s i 1 _ stands) (part (i + 1 + 2) (length h)) _ handle-read suffix-read
       ∙ ap (tag.Valid (placedTag i (tagged h x))) next
 
   pub start-tag-read : (i e : ℕ) (t : Tag) (u : List ℕ) → drop i s ≡ encodeTag t ++ u → SoundTag t → e ≡ i + length (encodeTag t)
@@ -75,7 +78,8 @@ module _ (s : List ℕ) where
       let tag-on = byte-after s (i + 5) (encodeFlag f) _ flag-on (i + 6) (omega arith) in
       let value-on = stands-after s (i + 6) (encodeTag t) (v ++ u) tag-on (i + 6 + length (encodeTag t)) refl in
       let value-size : e - (i + 6 + length (encodeTag t)) ≡ length v = omega arith in
-      let utf8 : isUtf8 (partOf s (part (i + 6 + length (encodeTag t)) (length v))) ≡ true = rw (part-stands s (i + 6 + length (encodeTag t)) v u value-on) (utf8-complete (sound .value-utf8)) in
+      let utf8 : isUtf8 (partOf s (part (i + 6 + length (encodeTag t)) (length v))) ≡ true
+      = rw (part-stands s (i + 6 + length (encodeTag t)) v u value-on) (utf8-complete (sound .value-utf8)) in
       let column = number-read s i 4 c _ from (sound .column-fits) in
       let known = sound .style-known in
       let told = flag-known f in

@@ -5,7 +5,7 @@ use Prim.Native.Nat.{_+_, _-_, _≤_}
 use native.Mathlib.Numerals.{add-one}
 use native.Mathlib.Omega.{arith}
 use borrow.Author.Needs.{needs}
-use Rattle.event.specs.Number.{numberAt}
+use Rattle.event.specs.Number.{numberAt, Bytes}
 use Rattle.event.specs.NumberLaws.{number-grows}
 use Rattle.event.proofs.number.number_at.Statement.{statement}
 use Rattle.event.proofs.number.number_at.Tie as tie
@@ -31,14 +31,16 @@ cast-byte c = omega (arith, c .shared-slice-known .given (c .before .before .bef
 
 mul-n : tie.Need-mul-n Inv-loop μ-loop
 mul-n c =
-    let start = c .before .before .before in
-    omega (arith, number-grows (start .args .events .now) (λ i. omega (arith, c .shared-slice-known .given i)) (start .args .at) (c .before .before .loop .k) (omega arith))
+    let given = c .before .before .before .args in
+    let bytes : Bytes (given .events .now) = λ i. omega (arith, c .shared-slice-known .given i) in
+    omega (arith, number-grows (given .events .now) bytes (given .at) (c .before .before .loop .k) (omega arith))
 
 add-n : tie.Need-add-n Inv-loop μ-loop
 add-n c =
-    let start = c .before .before .before in
-    let byte = c .shared-slice-known .given (start .args .at + c .before .before .loop .k) in
-    omega (arith, number-grows (start .args .events .now) (λ i. omega (arith, c .shared-slice-known .given i)) (start .args .at) (c .before .before .loop .k) (omega arith))
+    let given = c .before .before .before .args in
+    let bytes : Bytes (given .events .now) = λ i. omega (arith, c .shared-slice-known .given i) in
+    let byte = bytes (given .at + c .before .before .loop .k) in
+    omega (arith, number-grows (given .events .now) bytes (given .at) (c .before .before .loop .k) (omega arith))
 
 add-k : tie.Need-add-k Inv-loop μ-loop
 add-k c = search needs

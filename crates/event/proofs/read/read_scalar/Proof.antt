@@ -38,7 +38,8 @@ shared-slice-read-flag c = search needs
 returns-3 : tie.Need-returns-3
 returns-3 c =
     let given = c .before .before .before .before .before .before .before .args in
-    sym (scalar-flag-unknown (given .events .now) (given .index) (given .at) (given .end) (omega arith) (c .before .before .if2 .left) (c .if3 .taken))
+    sym
+    (scalar-flag-unknown (given .events .now) (given .index) (given .at) (given .end) (omega arith) (c .before .before .if2 .left) (c .if3 .taken))
 
 add-tag-at : tie.Need-add-tag-at
 add-tag-at c = search needs
@@ -54,20 +55,25 @@ enum-told c = search needs
 
 returns-4 : tie.Need-returns-4
 returns-4 c =
-    let given = c .before .before .before .before .before .before .before .before .before .before .args in
-    sym (scalar-tagged (given .events .now) (given .index) (given .at) (given .end) (omega arith) (c .before .before .before .before .before .if2 .left) (c .before .before .before .if3 .left) ∙ rw (sym (c .before .before .tag-at .ensures) ∙ c .enum-told .given .1))
+    let at-tag = c .before .before in
+    let given = at-tag .before .before .before .before .before .before .before .before .args in
+    sym
+    (scalar-tagged (given .events .now) (given .index) (given .at) (given .end) (omega arith) (at-tag .before .before .before .if2 .left) (at-tag .before .if3 .left)
+    ∙ rw (sym (at-tag .tag-at .ensures) ∙ c .enum-told .given .1))
 
 sub-is-utf8 : tie.Need-sub-is-utf8
 sub-is-utf8 c =
-    let given = c .before .before .before .before .before .before .before .before .before .before .before .args in
+    let at-tag = c .before .before .before in
+    let given = at-tag .before .before .before .before .before .before .before .before .args in
     let t = c .before .tag .given in
-    tag-ended (given .events .now) (given .at + 6) (given .end) (t .0 .0) (t .0 .1 .0) (sym (c .before .before .before .tag-at .ensures) ∙ t .1)
+    tag-ended (given .events .now) (given .at + 6) (given .end) (t .0 .0) (t .0 .1 .0) (sym (at-tag .tag-at .ensures) ∙ t .1)
 
 part-is-utf8-start : tie.Need-part-is-utf8-start
 part-is-utf8-start c =
-    let given = c .before .before .before .before .before .before .before .before .before .before .before .args in
+    let at-tag = c .before .before .before in
+    let given = at-tag .before .before .before .before .before .before .before .before .args in
     let t = c .before .tag .given in
-    let ends = tag-ended (given .events .now) (given .at + 6) (given .end) (t .0 .0) (t .0 .1 .0) (sym (c .before .before .before .tag-at .ensures) ∙ t .1) in
+    let ends = tag-ended (given .events .now) (given .at + 6) (given .end) (t .0 .0) (t .0 .1 .0) (sym (at-tag .tag-at .ensures) ∙ t .1) in
     search needs
 
 part-is-utf8-end : tie.Need-part-is-utf8-end
@@ -78,23 +84,30 @@ is-utf8-requires c κs = search needs
 
 sub-t21 : tie.Need-sub-t21
 sub-t21 c =
-    let given = c .before .before .before .before .before .before .before .before .before .before .before .before .before .before .args in
+    let at-tag = c .before .before .before .before .before .before in
+    let given = at-tag .before .before .before .before .before .before .before .before .args in
     let t = c .before .before .before .before .tag .given in
-    tag-ended (given .events .now) (given .at + 6) (given .end) (t .0 .0) (t .0 .1 .0) (sym (c .before .before .before .before .before .before .tag-at .ensures) ∙ t .1)
+    tag-ended (given .events .now) (given .at + 6) (given .end) (t .0 .0) (t .0 .1 .0) (sym (at-tag .tag-at .ensures) ∙ t .1)
 
 returns-5 : tie.Need-returns-5
 returns-5 c =
-    let given = c .before .before .before .before .before .before .before .before .before .before .before .before .before .before .args in
+    let at-tag = c .before .before .before .before .before .before in
+    let given = at-tag .before .before .before .before .before .before .before .before .args in
     sym
-    (scalar-tagged (given .events .now) (given .index) (given .at) (given .end) (omega arith) (c .before .before .before .before .before .before .before .before .before .if2 .left) (c .before .before .before .before .before .before .before .if3 .left)
-    ∙ rw (sym (c .before .before .before .before .before .before .tag-at .ensures) ∙ c .before .before .before .before .tag .given .1, sym (c .before .is-utf8 .ensures) ∙ c .if4 .taken, sym (c .before .before .before .before .before .before .before .before .before .before .before .number-at .ensures)))
+    (scalar-tagged (given .events .now) (given .index) (given .at) (given .end) (omega arith) (at-tag .before .before .before .if2 .left) (at-tag .before .if3 .left)
+    ∙ rw (
+      sym (at-tag .tag-at .ensures) ∙ c .before .before .before .before .tag .given .1,
+      sym (c .before .is-utf8 .ensures) ∙ c .if4 .taken,
+      sym (at-tag .before .before .before .before .before .number-at .ensures),
+    ))
 
 returns-6 : tie.Need-returns-6
 returns-6 c =
-    let given = c .before .before .before .before .before .before .before .before .before .before .before .before .before .before .args in
+    let at-tag = c .before .before .before .before .before .before in
+    let given = at-tag .before .before .before .before .before .before .before .before .args in
     sym
-    (scalar-tagged (given .events .now) (given .index) (given .at) (given .end) (omega arith) (c .before .before .before .before .before .before .before .before .before .if2 .left) (c .before .before .before .before .before .before .before .if3 .left)
-    ∙ rw (sym (c .before .before .before .before .before .before .tag-at .ensures) ∙ c .before .before .before .before .tag .given .1, sym (c .before .is-utf8 .ensures) ∙ c .if4 .left))
+    (scalar-tagged (given .events .now) (given .index) (given .at) (given .end) (omega arith) (at-tag .before .before .before .if2 .left) (at-tag .before .if3 .left)
+    ∙ rw (sym (at-tag .tag-at .ensures) ∙ c .before .before .before .before .tag .given .1, sym (c .before .is-utf8 .ensures) ∙ c .if4 .left))
 
 pub read-scalar-spec : {M : Type 1} → statement M
 read-scalar-spec =

@@ -23,12 +23,14 @@ returns c =
 returns-2 : tie.Need-returns-2
 unfolding readStartTag
 returns-2 c =
-    sym (ap (wholeTag (c .before .before .before .before .before .before .args .end)) (sym (c .before .before .before .before .tag-at .ensures) ∙ c .before .before .tag .given .1) ∙ rw (eq-eqb _ _ (c .if1 .taken)))
+    let found = sym (c .before .before .before .before .tag-at .ensures) ∙ c .before .before .tag .given .1 in
+    sym (ap (wholeTag (c .before .before .before .before .before .before .args .end)) found ∙ rw (eq-eqb _ _ (c .if1 .taken)))
 
 returns-3 : tie.Need-returns-3
 unfolding readStartTag
 returns-3 c =
-    sym (ap (wholeTag (c .before .before .before .before .before .before .args .end)) (sym (c .before .before .before .before .tag-at .ensures) ∙ c .before .before .tag .given .1) ∙ rw (ne-eqb _ _ (c .if1 .left)))
+    let found = sym (c .before .before .before .before .tag-at .ensures) ∙ c .before .before .tag .given .1 in
+    sym (ap (wholeTag (c .before .before .before .before .before .before .args .end)) found ∙ rw (ne-eqb _ _ (c .if1 .left)))
 
 pub start-tag-spec : {M : Type 1} → statement M
 start-tag-spec =
