@@ -140,20 +140,26 @@ module _ {s : List ℕ} {lead trimmed len : ℕ} (r : Counting s lead trimmed le
     pub line-stops : k .code ≡ newline → told lead trimmed len ≡ lineOf (codes s)
     line-stops e = all-counted (ap (λ (cs : List ℕ). firstOf (lines cs)) (a .forward) ∙ first-newline (k .code) (codes (drop (len + k .len) s)) e)
 
+    -- what is left of the line after it
+    abbrev more : List ℕ
+    more = firstOf (lines (codes (drop (len + k .len) s)))
+
     module _ (n : k .code ≡ newline → ⊥) where
-      left : firstOf (lines (codes (drop len s))) ≡ k .code ∷ firstOf (lines (codes (drop (len + k .len) s)))
+      left : firstOf (lines (codes (drop len s))) ≡ k .code ∷ more
       left = ap (λ (cs : List ℕ). firstOf (lines cs)) (a .forward) ∙ first-cons (k .code) (codes (drop (len + k .len) s)) n
 
       -- the character joins the line
-      joins : (lead' trimmed' : ℕ) → (trimmed' ≡ 0 → lead' ≡ len + k .len) → counted lead trimmed len (k .code ∷ firstOf (lines (codes (drop (len + k .len) s)))) ≡ counted lead' trimmed' (len + k .len) (firstOf (lines (codes (drop (len + k .len) s)))) → Counting s lead' trimmed' (len + k .len)
+      joins : (lead' trimmed' : ℕ) → (trimmed' ≡ 0 → lead' ≡ len + k .len)
+          → counted lead trimmed len (k .code ∷ more) ≡ counted lead' trimmed' (len + k .len) more
+          → Counting s lead' trimmed' (len + k .len)
       joins lead' trimmed' b e = record { boundary = a .next; blank = b; same = sym (ap (counted lead trimmed len) left ∙ e) ∙ r .same }
 
       -- as leading white space, as white space after other characters, and as one of those
       pub line-leads : isWhiteSpace (k .code) ≡ true → trimmed ≡ 0 → Counting s (len + k .len) trimmed (len + k .len)
-      line-leads e t = joins (len + k .len) trimmed (λ y. refl) (lead-on lead trimmed len (k .len) (k .code) _ (a .size) e t (r .blank t))
+      line-leads e t = joins (len + k .len) trimmed (λ y. refl) (lead-on lead trimmed len (k .len) (k .code) more (a .size) e t (r .blank t))
 
       pub line-spaces : isWhiteSpace (k .code) ≡ true → (trimmed ≡ 0 → ⊥) → Counting s lead trimmed (len + k .len)
-      line-spaces e t = joins lead trimmed (λ y. absurd (t y)) (white-on lead trimmed len (k .len) (k .code) _ (a .size) e t)
+      line-spaces e t = joins lead trimmed (λ y. absurd (t y)) (white-on lead trimmed len (k .len) (k .code) more (a .size) e t)
 
       pub line-goes-on : isWhiteSpace (k .code) ≡ false → Counting s lead (len + k .len) (len + k .len)
-      line-goes-on e = joins lead (len + k .len) (λ y. absurd (let h = a .some in omega arith)) (content-on lead trimmed len (k .len) (k .code) _ (a .size) e)
+      line-goes-on e = joins lead (len + k .len) (λ y. absurd (let h = a .some in omega arith)) (content-on lead trimmed len (k .len) (k .code) more (a .size) e)

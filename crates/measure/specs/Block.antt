@@ -21,11 +21,12 @@ abbrev pub before : ℕ → List (List ℕ) → List (List ℕ)
 before c [] = (c ∷ []) ∷ []
 before c (l ∷ ls) = (c ∷ l) ∷ ls
 
--- the lines, without their newlines
+-- the lines, without their newlines (S7)
 unfoldable pub lines : List ℕ → List (List ℕ)
 lines [] = [] ∷ []
 lines (c ∷ cs) = pickLines (eqb c newline) ([] ∷ lines cs) (before c (lines cs))
 
+-- nothing but white space, by code points (W1)
 unfoldable pub isBlank : List ℕ → Bool
 isBlank [] = true
 isBlank (c ∷ cs) = isWhiteSpace c && isBlank cs
@@ -35,7 +36,7 @@ unfoldable pub trimmedLen : List ℕ → ℕ
 trimmedLen [] = 0
 trimmedLen (c ∷ cs) = pickLength (isBlank (c ∷ cs)) 0 (length (encode c) + trimmedLen cs)
 
--- whether a line that is not the first ends the block
+-- whether a line that is not the first ends the block: it is not blank and not indented up to the column (S7)
 unfoldable pub endsBlock : ℕ → List ℕ → Bool
 endsBlock column l = not (isBlank l) && ltb (bytesOf (whiteSpaceRun l)) column
 
@@ -54,7 +55,7 @@ unfoldable pub blockReach : ℕ → List (List ℕ) → ℕ
 blockReach column [] = 0
 blockReach column (l ∷ ls) = pastLine l (laterReach column ls)
 
--- the length of a block scalar
+-- the length of a block scalar (P5)
 unfoldable pub blockLen : List ℕ → ℕ → ℕ
 blockLen rest column = blockReach column (lines (codes rest))
 
@@ -63,8 +64,8 @@ abbrev pub firstOf : List (List ℕ) → List ℕ
 firstOf [] = []
 firstOf (l ∷ ls) = l
 
--- a line as a measure tells it. The bytes of leading white space are told of a line that is not blank; those of a blank one are
--- all of it
+-- the first line in numbers: its leading white space, which is all of a blank line; up to its last character that is no white
+-- space; and all of it
 unfoldable pub lineOf : List ℕ → Line
 lineOf cs =
     record {

@@ -11,13 +11,9 @@ use Rattle.measure.specs.Run.{newline, bytesOf, whiteSpaceRun, afterRun,
 abbrev pub blank : ℕ
 blank = 0x20
 
--- a character that a folded line break can become
+-- a character that a folded line break can become: a blank or a newline (S5)
 unfoldable pub isFold : ℕ → Bool
 isFold c = eqb c blank || eqb c newline
-
--- whether a byte stands at a place
-unfoldable pub hasByte : List ℕ → ℕ → ℕ → Bool
-hasByte s i b = ltb i (length s) && eqb (getD s i 0) b
 
 pub data Reach : Type 0 where
   -- the value does not line up with the rest
@@ -45,11 +41,11 @@ unfoldable pub beginsWith : ℕ → List ℕ → Bool
 beginsWith c [] = false
 beginsWith c (d ∷ ds) = eqb c d
 
--- whether the character c of the value takes the white-space run that the rest begins with
+-- whether the character c of the value takes the white-space run that the rest begins with: only if that holds a newline (S5)
 unfoldable pub takesRun : ℕ → List ℕ → Bool
 takesRun c rest = isFold c && holdsNewline (whiteSpaceRun rest)
 
--- of the value's characters and the rest's
+-- of the value's characters and the rest's: a character takes a run, or is equal, or nothing matches (S5)
 unfoldable pub plainReach : List ℕ → List ℕ → Reach
 plainReach [] rest = reaches 0
 plainReach (c ∷ cs) rest =
@@ -62,6 +58,10 @@ abbrev pub reachOr : ℕ → Reach → ℕ
 reachOr n unmatched = n
 reachOr n (reaches m) = m
 
--- the length of a plain scalar; the value's where the two do not line up
+-- the length of a plain scalar; the value's where the two do not line up (P3)
 unfoldable pub plainLen : List ℕ → List ℕ → ℕ
 plainLen rest value = reachOr (length value) (plainReach (codes value) (codes rest))
+
+-- whether a text has the byte b at a place
+unfoldable pub hasByte : List ℕ → ℕ → ℕ → Bool
+hasByte s i b = ltb i (length s) && eqb (getD s i 0) b

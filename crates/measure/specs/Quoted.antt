@@ -26,12 +26,12 @@ abbrev pub further : ℕ → Quoted → Quoted
 further n (Found m) = Found (n + m)
 further n Missing = Missing
 
--- two bytes that are passed together: in double quotes a backslash and any byte, in single ones `''`
+-- two bytes that are passed together: in double quotes a backslash and any byte, in single ones `''` (S6)
 unfoldable pub passedTogether : ℕ → ℕ → ℕ → Bool
 passedTogether quote a b =
     (eqb quote doubleQuote && eqb a backslash) || (eqb quote singleQuote && (eqb a quote && eqb b quote))
 
--- the bytes from inside a quoted scalar through its closing mark
+-- the bytes from inside a quoted scalar through its closing mark (S6)
 unfoldable pub toClosing : ℕ → List ℕ → Quoted
 toClosing quote [] = Missing
 toClosing quote (a ∷ []) = pickQuoted (eqb a quote) (Found 1) Missing
@@ -39,6 +39,7 @@ toClosing quote (a ∷ b ∷ s) =
     pickQuoted (passedTogether quote a b) (further 2 (toClosing quote s))
     (pickQuoted (eqb a quote) (Found 1) (further 1 (toClosing quote (b ∷ s))))
 
+-- the length of a quoted scalar, from its opening mark through its closing one (P4)
 unfoldable pub quotedLen : List ℕ → ℕ → Quoted
 quotedLen [] quote = Missing
 quotedLen (a ∷ s) quote = pickQuoted (eqb a quote) (further 1 (toClosing quote s)) Missing
@@ -47,6 +48,6 @@ abbrev pub foundOr : ℕ → Quoted → ℕ
 foundOr n (Found m) = m
 foundOr n Missing = n
 
--- the length of a quoted scalar; the value's where a mark is missing
+-- the same, or the value's length where a mark is missing (S8)
 unfoldable pub quotedOrValueLen : List ℕ → List ℕ → ℕ → ℕ
 quotedOrValueLen rest value quote = foundOr (length value) (quotedLen rest quote)

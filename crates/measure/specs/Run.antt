@@ -17,7 +17,7 @@ newline = 0xa
 abbrev pub bytesOf : List ℕ → ℕ
 bytesOf cs = length (encodeAll cs)
 
--- the white space that the characters begin with
+-- the white space that the characters begin with (W1)
 unfoldable pub whiteSpaceRun : List ℕ → List ℕ
 whiteSpaceRun [] = []
 whiteSpaceRun (c ∷ cs) = pickBytes (isWhiteSpace c) (c ∷ whiteSpaceRun cs) []
@@ -31,7 +31,7 @@ unfoldable pub holdsNewline : List ℕ → Bool
 holdsNewline [] = false
 holdsNewline (c ∷ cs) = eqb c newline || holdsNewline cs
 
--- the run that the characters begin with, as a measure tells it
+-- the run that the characters begin with, in numbers
 unfoldable pub runOf : List ℕ → Run
 runOf cs = record { len = bytesOf (whiteSpaceRun cs); newline = holdsNewline (whiteSpaceRun cs) }
 

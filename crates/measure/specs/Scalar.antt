@@ -25,7 +25,7 @@ literal = 3
 abbrev pub folded : ℕ
 folded = 4
 
--- before the cut
+-- before the cut: plain, single-quoted, double-quoted, or a block, which is 0 on an empty span (S5 to S8)
 unfoldable pub styleLen : List ℕ → List ℕ → ℕ → Bool → ℕ → ℕ
 styleLen rest value style emptySpan column =
     pickLength (eqb style plain) (plainLen rest value)
@@ -33,5 +33,6 @@ styleLen rest value style emptySpan column =
     (pickLength (eqb style doubleQuoted) (quotedOrValueLen rest value doubleQuote)
     (pickLength emptySpan 0 (blockLen rest column))))
 
+-- cut to the text left (S4)
 unfoldable pub scalarLen : List ℕ → List ℕ → ℕ → Bool → ℕ → ℕ
 scalarLen rest value style emptySpan column = min (styleLen rest value style emptySpan column) (length rest)

@@ -8,14 +8,14 @@ use text::white_space::is_white_space;
 
 // A line without its newline, in bytes: its leading white space, up to its last character that is no white space (0 where it is
 // blank), and all of it.
-pub struct Line {
-    pub lead: usize,
-    pub trimmed: usize,
-    pub len: usize,
+struct Line {
+    lead: usize,
+    trimmed: usize,
+    len: usize,
 }
 
 // The line that a text begins with.
-pub fn first_line(tail: &[u8]) -> Line
+fn first_line(tail: &[u8]) -> Line
     requires { ⌜ Utf8 (now tail) ⌝ }
     ensures { λ r. ⌜ r ≡ lineOf (codes (now (tail .entry))) ⌝ }
 {

@@ -31,7 +31,8 @@ fn has_byte(s: &[u8], i: usize, b: u8) -> bool
 // The length in bytes of a plain scalar that stands at the start of `rest`: up to the last character that is equal in the value,
 // or the value's own length where the two do not line up.
 //
-// `known` is where the white space that was last looked at ends: up to there no newline follows, and it is not looked at again.
+// `at` and `v` are how far the rest and the value are matched. The first unequal byte ends the whole measure. `known` is where
+// the white space that was last looked at ends: no newline stands before it, so it is not looked at again.
 pub fn plain_scalar_len(rest: &[u8], value: &[u8]) -> usize
     requires { ⌜ Utf8 (now rest) ⌝ }
     requires { ⌜ Utf8 (now value) ⌝ }

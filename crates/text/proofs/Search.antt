@@ -132,3 +132,21 @@ member-spelt (r ∷ rs) c t =
 pub white-space-found : (c : ℕ) → find (spelt whiteSpace) c ≡ isWhiteSpace c
 unfolding whiteSpace isWhiteSpace
 white-space-found c = find-member (spelt whiteSpace) c tt ∙ member-spelt whiteSpace c tt
+
+-- from U+0021 to U+0084 there is none
+pub none-between : (c : ℕ) → 0x20 < c → c < 0x85 → isWhiteSpace c ≡ false
+unfolding isWhiteSpace isIn whiteSpace
+none-between c l h =
+    rw (
+      above-inside 0x9 0xd c (omega arith),
+      above-inside 0x20 0x20 c l,
+      below-inside 0x85 0x85 c h,
+      below-inside 0xa0 0xa0 c (omega arith),
+      below-inside 0x1680 0x1680 c (omega arith),
+      below-inside 0x2000 0x200a c (omega arith),
+      below-inside 0x2028 0x2028 c (omega arith),
+      below-inside 0x2029 0x2029 c (omega arith),
+      below-inside 0x202f 0x202f c (omega arith),
+      below-inside 0x205f 0x205f c (omega arith),
+      below-inside 0x3000 0x3000 c (omega arith),
+    )

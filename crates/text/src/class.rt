@@ -8,8 +8,6 @@ const DECIMAL_DIGIT: u8 = 2;
 
 const HEX_DIGIT: u8 = 4;
 
-const CONTINUATION: u8 = 8;
-
 // The entry of a byte is the sum of its classes.
 const CLASSES: [u8; 256] = [
     0,
@@ -297,9 +295,13 @@ pub fn is_hex_digit(b: u8) -> bool
     class_of(b) & HEX_DIGIT != 0
 }
 
-// Whether `b` continues a character that an earlier byte began.
+// Whether `b` continues a character that an earlier byte began. By comparison and not by the table: every character asks it, and the
+// compiler lays a constant array out anew at each use.
 pub fn is_continuation(b: u8) -> bool
     ensures { λ r. ⌜ r ≡ isContinuation b ⌝ }
 {
-    class_of(b) & CONTINUATION != 0
+    if b < 0x80 {
+        return false;
+    }
+    b < 0xc0
 }

@@ -33,10 +33,20 @@ const WHITE_SPACE: [u32; 25] = [
     0x3000,
 ];
 
+// Between these two, where most text lies, there is no white space.
+const BLANK: u32 = 0x20;
+
+const NEXT_LINE: u32 = 0x85;
+
 // Whether a code point is white space. The table rises, so the first entry that is not below it decides.
 pub fn is_white_space(code: u32) -> bool
     ensures { λ r. ⌜ r ≡ isWhiteSpace code ⌝ }
 {
+    if BLANK < code {
+        if code < NEXT_LINE {
+            return false;
+        }
+    }
     let mut i = 0;
     while i < WHITE_SPACE_COUNT {
         let entry = WHITE_SPACE[i];

@@ -3,10 +3,11 @@
 use borrow.Author.Needs.{needs}
 use mathlib.Core.Path.{_≡_, _∙_, ap}
 use mathlib.Core.Logic.{⊎-elim}
-use Prim.Native.Nat.{_-_}
+use mathlib.Core.List.{List}
+use Prim.Native.Nat.{ℕ, _-_}
 use native.Mathlib.Omega.{arith}
 use lib.ListN.{length, drop}
-use Rattle.text.specs.Utf8.{codes}
+use Rattle.text.specs.Utf8.{Utf8, codes}
 use Rattle.text.specs.Utf8Laws.{boundary-start}
 use Rattle.measure.specs.Block.{lineOf}
 use Rattle.measure.proofs.Read.{part-is, part-utf8}
@@ -20,12 +21,22 @@ Inv-loop rest column end₀ at₀ end at = Measuring rest column at end
 abbrev μ-loop : tie.MeasureT-loop
 μ-loop rest column end₀ at₀ end at = length rest - at
 
--- the line that was read at `at`
-line-here : (c : tie.After-first-line2 Inv-loop μ-loop) → c .first-line2 .result ≡ lineOf (codes (drop (c .before .before .before .loop .at) (c .before .before .before .before .before .before .before .args .rest .now)))
-line-here c = c .first-line2 .ensures ∙ ap (λ l. lineOf (codes l)) (part-is (c .before .before .before .before .before .before .before .args .rest .now) (c .before .before .before .loop .at))
+-- a line was read; what stands there
+module _ (c : tie.After-first-line2 Inv-loop μ-loop) where
+  abbrev rest-now : List ℕ
+  rest-now = c .before .before .before .before .before .before .before .args .rest .now
 
-fits-here : (c : tie.After-first-line2 Inv-loop μ-loop) → Fitting (c .before .before .before .before .before .before .before .args .rest .now) (c .before .before .before .loop .at) (c .first-line2 .result)
-fits-here c = line-fits (c .before .before .before .before .before .before .before .pre) (c .before .before .before .loop .inv .place (c .before .before .loop-test .taken)) (line-here c)
+  abbrev at-now : ℕ
+  at-now = c .before .before .before .loop .at
+
+  rest-utf8 : Utf8 rest-now
+  rest-utf8 = c .before .before .before .before .before .before .before .pre
+
+  line-here : c .first-line2 .result ≡ lineOf (codes (drop at-now rest-now))
+  line-here = c .first-line2 .ensures ∙ ap (λ l. lineOf (codes l)) (part-is rest-now at-now)
+
+  fits-here : Fitting rest-now at-now (c .first-line2 .result)
+  fits-here = line-fits rest-utf8 (c .before .before .before .loop .inv .place (c .before .before .loop-test .taken)) line-here
 
 first-line-requires : tie.Need-first-line-requires Inv-loop μ-loop
 first-line-requires c κs = c .before .pre
@@ -50,9 +61,8 @@ first-line-requires-2 c κs = part-utf8 (c .before .before .before .before .befo
 
 returns : tie.Need-returns Inv-loop μ-loop
 returns c =
-    let at-line = c .before .before .before .before in
-    let at-loop = at-line .before .before .before in
-    block-ends (at-loop .before .before .before .before .pre) (at-loop .loop .inv) (at-line .before .before .loop-test .taken) (line-here at-line) (c .before .before .if1 .taken) (c .if2 .taken)
+    let at = c .before .before .before .before in
+    block-ends (rest-utf8 at) (at .before .before .before .loop .inv) (at .before .before .loop-test .taken) (line-here at) (c .before .before .if1 .taken) (c .if2 .taken)
 
 add-end : tie.Need-add-end Inv-loop μ-loop
 add-end c = let f = fits-here (c .before .before .before .before .before) in omega arith
@@ -68,12 +78,12 @@ loop-less c = let h = c .before .before .before .before .before .loop-test .take
 
 loop-again : tie.Need-loop-again Inv-loop μ-loop
 loop-again c =
-    let at-line = c .before .before .before in
-    let at-loop = at-line .before .before .before in
-    let u = at-loop .before .before .before .before .pre in
-    let h = at-line .before .before .loop-test .taken in
-    ⊎-elim (λ w. rw (w .4) (block-content u (at-loop .loop .inv) h (line-here at-line) (w .0 .taken) (w .2 .left)))
-    (λ w. rw (w .1) (block-blank u (at-loop .loop .inv) h (line-here at-line) (w .0 .left))) (c .before .if1 .came)
+    let at = c .before .before .before in
+    let r = at .before .before .before .loop .inv in
+    let h = at .before .before .loop-test .taken in
+    ⊎-elim (λ w. rw (w .4) (block-content (rest-utf8 at) r h (line-here at) (w .0 .taken) (w .2 .left)))
+    (λ w. rw (w .1) (block-blank (rest-utf8 at) r h (line-here at) (w .0 .left)))
+    (c .before .if1 .came)
 
 returns-2 : tie.Need-returns-2 Inv-loop μ-loop
 returns-2 c = block-at-end (c .before .loop .inv) (c .loop-test .left)

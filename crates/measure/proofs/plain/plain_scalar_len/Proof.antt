@@ -4,11 +4,12 @@
 use borrow.Author.Needs.{needs}
 use mathlib.Core.Path.{_≡_, refl, sym, _∙_}
 use mathlib.Core.Logic.{⊎-elim}
-use Prim.Native.Nat.{_-_, _≤_}
+use mathlib.Core.List.{List}
+use Prim.Native.Nat.{ℕ, _+_, _-_, _≤_}
 use native.Mathlib.Omega.{arith}
 use borrow.Author.Tests.{not-true, not-false}
 use lib.ListN.{length, drop}
-use Rattle.text.specs.Utf8.{codes}
+use Rattle.text.specs.Utf8.{Utf8, codes}
 use Rattle.text.specs.Utf8Laws.{Char-at}
 use Rattle.measure.specs.Run.{runOf}
 use Rattle.measure.proofs.Read.{char-read, part-utf8}
@@ -30,25 +31,64 @@ abbrev μ-characters : tie.MeasureT-characters
 
 -- ---- what is known where
 
--- the character of the value
-char-here : (c : tie.After-first-char Inv-loop μ-loop Inv-characters μ-characters) → Char-at (c .before .before .before .before .before .args .value .now) (c .before .before .characters .v) (c .first-char .result)
-char-here c = char-read (c .before .before .before .before .before .pre .1) (c .before .before .characters .inv .value-place) (c .before .characters-test .taken) (c .first-char .ensures)
+-- the character of the value was read; what stands there
+abbrev Read : Type 0
+Read = tie.After-first-char Inv-loop μ-loop Inv-characters μ-characters
 
--- the run of the rest
-run-here : (c : tie.After-white-space-run Inv-loop μ-loop Inv-characters μ-characters) → c .white-space-run .result ≡ runOf (codes (drop (c .before .before .before .before .before .before .before .characters .at) (c .before .before .before .before .before .before .before .before .before .before .args .rest .now)))
-run-here c = run-read (c .before .before .before .before .before .before .before .before .before .before .args .rest .now) (c .before .before .before .before .before .before .before .characters .at) (c .white-space-run .ensures)
+module _ (c : Read) where
+  abbrev rest-now : List ℕ
+  rest-now = c .before .before .before .before .before .args .rest .now
 
--- the next character takes no run: by one of three ways
-comparing : (c : tie.Joined1 Inv-loop μ-loop Inv-characters μ-characters) → Comparing (c .before .before .before .before .before .before .args .rest .now) (c .before .before .before .before .before .before .args .value .now) (c .before .before .before .characters .at) (c .before .before .before .characters .end) (c .if1 .known) (c .before .before .before .characters .v) (c .before .first-char .result)
+  abbrev value-now : List ℕ
+  value-now = c .before .before .before .before .before .args .value .now
+
+  abbrev at-now : ℕ
+  at-now = c .before .before .characters .at
+
+  abbrev end-now : ℕ
+  end-now = c .before .before .characters .end
+
+  abbrev v-now : ℕ
+  v-now = c .before .before .characters .v
+
+  rest-utf8 : Utf8 rest-now
+  rest-utf8 = c .before .before .before .before .before .pre .0
+
+  value-utf8 : Utf8 value-now
+  value-utf8 = c .before .before .before .before .before .pre .1
+
+  char-here : Char-at value-now v-now (c .first-char .result)
+  char-here = char-read value-utf8 (c .before .before .characters .inv .value-place) (c .before .characters-test .taken) (c .first-char .ensures)
+
+-- the run of the rest was read
+module _ (c : tie.After-white-space-run Inv-loop μ-loop Inv-characters μ-characters) where
+  abbrev at-char : Read
+  at-char = c .before .before .before .before .before
+
+  run-here : c .white-space-run .result ≡ runOf (codes (drop (at-now at-char) (rest-now at-char)))
+  run-here = run-read (rest-now at-char) (at-now at-char) (c .white-space-run .ensures)
+
+  run-room : at-now at-char + c .white-space-run .result .len ≤ length (rest-now at-char)
+  run-room = run-fits (rest-utf8 at-char) (at-char .before .before .characters .inv .rest-place) run-here
+
+-- the next character takes no run, by one of three ways: the run was looked at now, it is no blank and no newline, or the run was
+-- looked at before
+comparing : (c : tie.Joined1 Inv-loop μ-loop Inv-characters μ-characters) → Comparing (rest-now (c .before)) (value-now (c .before)) (at-now (c .before)) (end-now (c .before)) (c .if1 .known) (v-now (c .before)) (c .before .first-char .result)
 comparing c =
     let r = c .before .before .before .characters .inv in
-    ⊎-elim (λ w. rw (w .7) (compare-looked r (run-read (c .before .before .before .before .before .before .args .rest .now) (c .before .before .before .characters .at) (w .4 .ensures)) (w .5 .left)))
+    ⊎-elim (λ w. rw (w .7) (compare-looked r (run-read (rest-now (c .before)) (at-now (c .before)) (w .4 .ensures)) (w .5 .left)))
     (λ w. ⊎-elim (λ x. rw (x .3) (compare-other r (sym (x .1 .ensures) ∙ x .2 .left))) (λ x. rw (x .1) (compare-known r (x .0 .left))) w)
     (c .if1 .came)
 
 -- all its bytes are equal
-equal-here : (c : tie.After-struct-known5 Inv-loop μ-loop Inv-characters μ-characters) → Equal (c .before .before .before .before .before .before .before .before .before .before .args .rest .now) (c .before .before .before .before .before .before .before .characters .at) (c .before .before .before .before .before .before .before .before .before .before .args .value .now) (c .before .before .before .before .before .before .before .characters .v) (c .before .before .before .before .before .first-char .result .len)
-equal-here c = equal-all (c .before .before .before .before .before .before .before .before .before .before .args .rest .now) (c .before .before .before .before .before .before .before .characters .at) (c .before .before .before .before .before .before .before .before .before .before .args .value .now) (c .before .before .before .before .before .before .before .characters .v) (c .before .before .before .loop .inv .1) (c .before .before .before .loop .inv .0) (c .before .if4 .left)
+module _ (c : tie.After-struct-known5 Inv-loop μ-loop Inv-characters μ-characters) where
+  abbrev at-equal : Read
+  at-equal = c .before .before .before .before .before
+
+  equal-here : Equal (rest-now at-equal) (at-now at-equal) (value-now at-equal) (v-now at-equal) (at-equal .first-char .result .len)
+  equal-here =
+      let inner = c .before .before .before .loop in
+      equal-all (rest-now at-equal) (at-now at-equal) (value-now at-equal) (v-now at-equal) (inner .inv .1) (inner .inv .0) (c .before .if4 .left)
 
 -- ---- the answers
 
@@ -77,7 +117,7 @@ white-space-run-requires :
 white-space-run-requires c κs = part-utf8 (c .before .before .before .before .before .before .before .before .before .pre .0) (c .before .before .before .before .before .before .characters .inv .rest-place)
 
 add-at : tie.Need-add-at Inv-loop μ-loop Inv-characters μ-characters
-add-at c = let f = run-fits (c .before .before .before .before .before .before .before .before .before .before .before .before .pre .0) (c .before .before .before .before .before .before .before .before .before .characters .inv .rest-place) (run-here (c .before .before)) in omega arith
+add-at c = let f = run-room (c .before .before) in omega arith
 
 add-v : tie.Need-add-v Inv-loop μ-loop Inv-characters μ-characters
 add-v c = let a = char-here (c .before .before .before .before .before .before .before .before) in omega arith
@@ -87,19 +127,26 @@ characters-less c = let a = char-here (c .before .before .before .before .before
 
 characters-again : tie.Need-characters-again Inv-loop μ-loop Inv-characters μ-characters
 characters-again c =
-    let at-char = c .before .before .before .before .before .before .before .before in
-    let start = at-char .before .before .before .before .before in
-    match-run (start .pre .0) (start .pre .1) (at-char .before .before .characters .inv) (char-here at-char)
-    (c .before .before .before .before .before .before .before .if1 .taken) (run-here (c .before .before .before)) (sym (c .before .before .before .before .before .before .is-fold .ensures) ∙ c .before .before .before .before .before .if2 .taken) (c .before .before .if3 .taken)
+    let at = c .before .before .before .before .before .before .before .before in
+    let fold = sym (c .before .before .before .before .before .before .is-fold .ensures) ∙ c .before .before .before .before .before .if2 .taken in
+    match-run (rest-utf8 at) (value-utf8 at) (at .before .before .characters .inv) (char-here at) (c .before .before .before .before .before .before .before .if1 .taken)
+    (run-here (c .before .before .before)) fold (c .before .before .if3 .taken)
 
 add-known : tie.Need-add-known Inv-loop μ-loop Inv-characters μ-characters
-add-known c = let f = run-fits (c .before .before .before .before .before .before .before .before .before .before .before .before .pre .0) (c .before .before .before .before .before .before .before .before .before .characters .inv .rest-place) (run-here (c .before .before)) in omega arith
+add-known c = let f = run-room (c .before .before) in omega arith
 
 loop-holds : tie.Need-loop-holds Inv-loop μ-loop Inv-characters μ-characters
 loop-holds c = (omega arith, refl)
 
 add-has-byte : tie.Need-add-has-byte Inv-loop μ-loop Inv-characters μ-characters
-add-has-byte c = let a = char-here (c .before .before .before .before) in let b = c .before .before .before .before .before .before .characters .inv .rest-place .within in let l = c .before .before .before .before .before .before .before .before .before .good .0 .1 in let m = c .before .before .before .before .before .before .before .before .before .good .1 .0 .1 in omega arith
+add-has-byte c =
+    let at = c .before .before .before .before in
+    let start = at .before .before .before .before .before in
+    let a = char-here at in
+    let b = at .before .before .characters .inv .rest-place .within in
+    let l = start .good .0 .1 in
+    let m = start .good .1 .0 .1 in
+    omega arith
 
 add-has-byte-2 : tie.Need-add-has-byte-2 Inv-loop μ-loop Inv-characters μ-characters
 add-has-byte-2 c = let a = char-here (c .before .before .before .before) in omega arith
@@ -119,16 +166,16 @@ loop-less c = omega arith
 
 loop-again : tie.Need-loop-again Inv-loop μ-loop Inv-characters μ-characters
 loop-again c =
-    let at-char = c .before .before .before .before .before .before .before in
-    let start = at-char .before .before .before .before .before in
-    let a = char-here at-char in
-    (omega arith, equal-more (start .args .rest .now) (at-char .before .before .characters .at) (start .args .value .now) (at-char .before .before .characters .v) (c .before .before .before .before .before .loop .k) (c .before .before .before .before .before .loop .inv .1) (omega arith) (sym (c .before .has-byte .ensures) ∙ not-false _ (c .if5 .left)))
+    let at = c .before .before .before .before .before .before .before in
+    let inner = c .before .before .before .before .before .loop in
+    let a = char-here at in
+    let same = sym (c .before .has-byte .ensures) ∙ not-false _ (c .if5 .left) in
+    (omega arith, equal-more (rest-now at) (at-now at) (value-now at) (v-now at) (inner .k) (inner .inv .1) (omega arith) same)
 
 add-at-2 : tie.Need-add-at-2 Inv-loop μ-loop Inv-characters μ-characters
 add-at-2 c =
-    let at-char = c .before .before .before .before .before in
-    let start = at-char .before .before .before .before .before in
-    let b = equal-char (start .pre .0) (at-char .before .before .characters .inv .rest-place) (start .pre .1) (char-here at-char) (equal-here c) in
+    let at = c .before .before .before .before .before in
+    let b = equal-char (rest-utf8 at) (at .before .before .characters .inv .rest-place) (value-utf8 at) (char-here at) (equal-here c) in
     omega arith
 
 add-v-2 : tie.Need-add-v-2 Inv-loop μ-loop Inv-characters μ-characters
@@ -139,18 +186,17 @@ characters-less-2 c = let a = char-here (c .before .before .before .before .befo
 
 characters-again-2 : tie.Need-characters-again-2 Inv-loop μ-loop Inv-characters μ-characters
 characters-again-2 c =
-    let at-char = c .before .before .before .before .before .before in
-    let start = at-char .before .before .before .before .before in
-    match-equal (start .pre .0) (start .pre .1) (comparing (c .before .before .before .before .before)) (char-here at-char) (equal-here (c .before))
+    let at = c .before .before .before .before .before .before in
+    match-equal (rest-utf8 at) (value-utf8 at) (comparing (c .before .before .before .before .before)) (char-here at) (equal-here (c .before))
 
 returns : tie.Need-returns Inv-loop μ-loop Inv-characters μ-characters
 returns c = match-at-end (c .before .characters .inv) (c .characters-test .left)
 
 returns-2 : tie.Need-returns-2 Inv-loop μ-loop Inv-characters μ-characters
 returns-2 c =
-    let at-char = c .before .before .before .before .before .before .before in
-    let start = at-char .before .before .before .before .before in
-    match-fails (start .pre .0) (start .pre .1) (comparing (c .before .before .before .before .before .before)) (char-here at-char) (c .before .before .before .before .before .loop .k) (c .before .before .before .if4 .taken) (sym (c .before .has-byte .ensures) ∙ not-true _ (c .if5 .taken))
+    let at = c .before .before .before .before .before .before .before in
+    let differs = sym (c .before .has-byte .ensures) ∙ not-true _ (c .if5 .taken) in
+    match-fails (rest-utf8 at) (value-utf8 at) (comparing (c .before .before .before .before .before .before)) (char-here at) (c .before .before .before .before .before .loop .k) (c .before .before .before .if4 .taken) differs
 
 pub plain-scalar-len-spec : {M : Type 1} → statement M
 plain-scalar-len-spec =

@@ -1,7 +1,6 @@
 -- `measure::quoted::quoted_scalar_len` meets its contract. The loop's invariant: the closing mark is found from here where it is found
 -- from the start, as many bytes further on as were passed. The measure is what is left. Assumes nothing.
 use mathlib.Core.Path.{_≡_, sym, _∙_, ap}
-use mathlib.Core.Bool.{Bool}
 use mathlib.Core.List.{List}
 use Prim.Native.Nat.{ℕ, _+_, _-_}
 use native.Mathlib.Omega.{arith}
@@ -17,14 +16,19 @@ Inv-loop rest quote i₀ i = further i (toClosing quote (drop i rest)) ≡ quote
 abbrev μ-loop : tie.MeasureT-loop
 μ-loop rest quote i₀ i = length rest - i
 
--- what was asked of the two bytes at i
-abbrev Asked : (rest : List ℕ) (quote i : ℕ) → Bool → Type 0
-Asked rest quote i t = t ≡ passedTogether quote (getD rest i 0) (getD rest (i + 1) 0)
+-- the two bytes at i were looked at; what stands there
+module _ (c : tie.After-passed-together Inv-loop μ-loop) where
+  abbrev rest-now : List ℕ
+  rest-now = c .before .before .before .before .before .before .before .before .before .args .rest .now
 
-asked : (c : tie.After-passed-together Inv-loop μ-loop) → Asked (c .before .before .before .before .before .before .before .before .before .args .rest .now) (c .before .before .before .before .before .before .before .before .before .args .quote) (c .before .before .before .before .loop .i) (c .passed-together .result)
-asked c =
-    let start = c .before .before .before .before .before .before .before .before .before in
-    c .passed-together .ensures ∙ ap (passedTogether (start .args .quote) (getD (start .args .rest .now) (c .before .before .before .before .loop .i) 0)) (c .before .byte-at .ensures)
+  abbrev quote-now : ℕ
+  quote-now = c .before .before .before .before .before .before .before .before .before .args .quote
+
+  abbrev i-now : ℕ
+  i-now = c .before .before .before .before .loop .i
+
+  asked : c .passed-together .result ≡ passedTogether quote-now (getD rest-now i-now 0) (getD rest-now (i-now + 1) 0)
+  asked = c .passed-together .ensures ∙ ap (passedTogether quote-now (getD rest-now i-now 0)) (c .before .byte-at .ensures)
 
 returns : tie.Need-returns Inv-loop μ-loop
 returns c = none-opens (c .before .before .args .rest .now) (c .before .before .args .quote) (c .if1 .taken)
@@ -58,18 +62,16 @@ loop-less c = omega arith
 
 loop-again : tie.Need-loop-again Inv-loop μ-loop
 loop-again c =
-    let at-loop = c .before .before .before .before .before in
-    let start = at-loop .before .before .before .before .before in
-    passes-two (start .args .rest .now) (start .args .quote) (at-loop .loop .i) (c .before .before .before .before .loop-test .taken) (sym (asked (c .before)) ∙ c .if3 .taken) ∙ at-loop .loop .inv
+    let at = c .before in
+    passes-two (rest-now at) (quote-now at) (i-now at) (at .before .before .before .loop-test .taken) (sym (asked at) ∙ c .if3 .taken) ∙ at .before .before .before .before .loop .inv
 
 add-t15 : tie.Need-add-t15 Inv-loop μ-loop
 add-t15 c = omega arith
 
 returns-3 : tie.Need-returns-3 Inv-loop μ-loop
 returns-3 c =
-    let at-loop = c .before .before .before .before .before .before in
-    let start = at-loop .before .before .before .before .before in
-    closes (start .args .rest .now) (start .args .quote) (at-loop .loop .i) (c .before .before .before .before .before .loop-test .taken) (sym (asked (c .before .before)) ∙ c .before .if3 .left) (c .if4 .taken) ∙ at-loop .loop .inv
+    let at = c .before .before in
+    closes (rest-now at) (quote-now at) (i-now at) (at .before .before .before .loop-test .taken) (sym (asked at) ∙ c .before .if3 .left) (c .if4 .taken) ∙ at .before .before .before .before .loop .inv
 
 add-i-2 : tie.Need-add-i-2 Inv-loop μ-loop
 add-i-2 c = omega arith
@@ -79,9 +81,8 @@ loop-less-2 c = omega arith
 
 loop-again-2 : tie.Need-loop-again-2 Inv-loop μ-loop
 loop-again-2 c =
-    let at-loop = c .before .before .before .before .before .before in
-    let start = at-loop .before .before .before .before .before in
-    passes-one (start .args .rest .now) (start .args .quote) (at-loop .loop .i) (c .before .before .before .before .before .loop-test .taken) (sym (asked (c .before .before)) ∙ c .before .if3 .left) (c .if4 .left) ∙ at-loop .loop .inv
+    let at = c .before .before in
+    passes-one (rest-now at) (quote-now at) (i-now at) (at .before .before .before .loop-test .taken) (sym (asked at) ∙ c .before .if3 .left) (c .if4 .left) ∙ at .before .before .before .before .loop .inv
 
 returns-4 : tie.Need-returns-4 Inv-loop μ-loop
 returns-4 c =

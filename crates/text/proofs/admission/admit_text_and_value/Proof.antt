@@ -1,6 +1,5 @@
 -- `text::admission::admit_text_and_value` meets its contract: the value's length first, then the text, then the value's bytes.
 -- Assumes nothing.
-use borrow.Author.Needs.{needs}
 use mathlib.Core.Path.{sym, _∙_}
 use borrow.Author.Tests.{lt-ltb, le-ltb}
 use Rattle.text.proofs.Admit.{both-long, both-admitted, both-too-long, both-not-utf8}

@@ -1,19 +1,16 @@
--- `text::class::is_continuation` meets its contract: one computed test over the 256 bytes. Assumes nothing.
-use borrow.Author.Needs.{needs}
-use Rattle.text.specs.Class.{classOf, isContinuation}
-use Rattle.text.proofs.Table.{Answers, answer}
+-- `text::class::is_continuation` meets its contract: each return by the test that leads to it. Assumes nothing.
+use mathlib.Core.Path.{sym}
+use borrow.Author.Tests.{le-leb}
+use lib.Dec.{leb·suc-suc}
+use Rattle.text.specs.Bytes.{below-inside}
 use Rattle.text.proofs.class.is_continuation.Statement.{statement}
 use Rattle.text.proofs.class.is_continuation.Tie as tie
 
-answers : Answers 8 isContinuation
-unfolding classOf
-answers = tt
-
-class-of-requires : tie.Need-class-of-requires
-class-of-requires c κs = search needs
-
 returns : tie.Need-returns
-returns c = answer 8 isContinuation answers (c .before .args .b) (c .class-of .result) (c .before .fits .b .fits) (c .class-of .ensures)
+returns c = sym (below-inside 128 191 (c .before .args .b) (c .if1 .taken))
+
+returns-2 : tie.Need-returns-2
+returns-2 c = rw (le-leb 128 (c .before .args .b) (c .if1 .left)) (leb·suc-suc (c .before .args .b) 191)
 
 pub is-continuation-spec : {M : Type 1} → statement M
-is-continuation-spec = tie.close (tie.spec class-of-requires returns)
+is-continuation-spec = tie.close (tie.spec returns returns-2)
