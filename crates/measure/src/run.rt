@@ -13,6 +13,7 @@ pub struct Run {
     pub newline: bool,
 }
 
+// The run that `tail` begins with; each of its characters is looked at once.
 pub fn white_space_run(tail: &[u8]) -> Run
     requires { ⌜ Utf8 (now tail) ⌝ }
     ensures { λ r. ⌜ r ≡ runOf (codes (now (tail .entry))) ⌝ }
