@@ -2,7 +2,7 @@
 -- those of the state in which the automaton ends (`ended`), so that what holds of the flags of every state, by a computed
 -- test, holds of every scalar (`by-states`). Assumes nothing.
 use mathlib.Core.Path.{_≡_, refl, sym, _∙_, ap, subst}
-use mathlib.Core.Bool.{Bool, false}
+use mathlib.Core.Bool.{Bool, true, false}
 use mathlib.Core.List.{List, [], _∷_, map}
 use Prim.Native.Nat.{ℕ, suc, _+_, _<_, _≤_}
 use native.Mathlib.Numerals.{add-one}
@@ -14,10 +14,10 @@ use lib.Seq.{drop-cons}
 use Rattle.text.proofs.Table.{all, all-at}
 use Rattle.schema.specs.Regex.{Regex, none}
 use Rattle.schema.specs.Matcher.{nullable, derivative, accepts}
-use Rattle.schema.specs.Form.{formOf, pickForm}
+use Rattle.schema.specs.Form.{formOf, pickForm, beginsNoRow}
 use Rattle.schema.specs.declared.form.Form.{Form}
 use Rattle.schema.specs.declared.form.Form.the-variants.{Null, True, False, Decimal, Octal, Hexadecimal, Float, Other}
-use Rattle.schema.proofs.Automaton.{rows, awaits, texts, forms, step, step-low, step-is}
+use Rattle.schema.proofs.Automaton.{rows, awaits, texts, symbols, next, forms, step, step-low, step-is}
 
 -- a scalar of bytes
 abbrev pub Bytes : List ℕ → Type 0
@@ -180,3 +180,16 @@ module _ (s : List ℕ) (i q : ℕ) (h : i < length s) (l : q < 48) (f : Bytes s
 pub at-end : (s : List ℕ) (i q : ℕ) → length s ≤ i → q < 48 → accepted (awaits q) (drop i s) ≡ flags s
     → formOfLetter (getD forms q 0) ≡ formOf s
 at-end s i q h l e = letter-is q s l (ap (accepted (awaits q)) (sym (drop-of-length-le s h)) ∙ e)
+
+-- ---- letters that no row begins with
+
+abbrev pick : Bool → Bool → Bool → Bool
+pick true a b = a
+pick false a b = b
+
+letters-stop : T (all 256 (λ b. pick (beginsNoRow b) (eqb (step 3 b) 2) true))
+unfolding beginsNoRow symbols next
+letters-stop = tt
+
+pub letter-stops : (b : ℕ) → b < 256 → beginsNoRow b ≡ true → step 3 b ≡ 2
+letter-stops b h e = eqb→eq (step 3 b) 2 (rw e at (all-at 256 (λ b. pick (beginsNoRow b) (eqb (step 3 b) 2) true) letters-stop b h))

@@ -1,6 +1,7 @@
 // Which form of the core schema's table a scalar has: one pass of an automaton over its bytes. (P2.)
 ghost use mathlib.Core.Path.{_≡_};
-ghost use Rattle.schema.specs.Form.{formOf};
+ghost use Rattle.text.specs.Class.{inside};
+ghost use Rattle.schema.specs.Form.{formOf, beginsNoRow};
 
 // `Float` is a number with a point or an exponent, an infinity, or not a number.
 pub enum Form {
@@ -93,8 +94,57 @@ const DEAD: usize = 2;
 // The form of a scalar that ends in each state, by a letter.
 const FORMS: [u8; 48] = *b"...ndd.r..r.o.x....r....r......n......t........f";
 
-// The form of `value`: that of the first row of the table that matches it.
+fn is_between(low: u8, high: u8, b: u8) -> bool
+    ensures { λ r. ⌜ r ≡ inside low high b ⌝ }
+{
+    if low <= b {
+        return b <= high;
+    }
+    false
+}
+
+// Whether `b` is a letter that no row begins with: any but f, n and t.
+fn begins_no_row(b: u8) -> bool
+    ensures { λ r. ⌜ r ≡ beginsNoRow b ⌝ }
+{
+    if is_between(b'a', b'e', b) {
+        return true;
+    }
+    if is_between(b'g', b'm', b) {
+        return true;
+    }
+    if is_between(b'o', b's', b) {
+        return true;
+    }
+    if is_between(b'u', b'z', b) {
+        return true;
+    }
+    if is_between(b'A', b'E', b) {
+        return true;
+    }
+    if is_between(b'G', b'M', b) {
+        return true;
+    }
+    if is_between(b'O', b'S', b) {
+        return true;
+    }
+    is_between(b'U', b'Z', b)
+}
+
+// The form of `value`: that of the first row of the table that matches it. Most scalars are words, and their first letter tells.
 pub fn form_of(value: &[u8]) -> Form
+    ensures { λ r. ⌜ r ≡ formOf (now (value .entry)) ⌝ }
+{
+    if 0 < value.len() {
+        if begins_no_row(value[0]) {
+            return Form::Other;
+        }
+    }
+    scanned(value)
+}
+
+// The same by the automaton.
+fn scanned(value: &[u8]) -> Form
     ensures { λ r. ⌜ r ≡ formOf (now (value .entry)) ⌝ }
 {
     let symbols = SYMBOLS;
