@@ -1,8 +1,8 @@
 -- The framing of an answered case, as the oracle's page gives it. All numbers are four bytes, high byte first.
 use Prim.Native.Nat.{ℕ, _+_, _-_, _*_}
 use mathlib.Core.Bool.{Bool, true, false, _&&_}
-use mathlib.Core.List.{List, []}
-use lib.Dec.{leb}
+use mathlib.Core.List.{List, [], _∷_}
+use lib.Dec.{leb, ltb, eqb}
 use lib.ListN.{length, take, drop, getD}
 use Rattle.replay.specs.declared.case.Part.{Part}
 use Rattle.replay.specs.declared.case.Case.{Case}
@@ -43,3 +43,16 @@ layout s =
       records = span (roomsAt s + 24) (recordsLen s);
       pieces = span (piecesCountAt s + 4) (4 * number s (piecesCountAt s));
     }
+
+-- the numbers are those that the bytes hold, and zero past them
+unfoldable pub sameNumbers : List ℕ → List ℕ → Bool
+sameNumbers [] s = eqb (length s) 0
+sameNumbers (n ∷ ns) s = eqb n (number s 0) && sameNumbers ns (drop 4 s)
+
+abbrev pub pickPlace : Bool → ℕ → ℕ → ℕ
+pickPlace true a b = a
+pickPlace false a b = b
+
+-- the place of the number after the one at i, in n bytes
+abbrev pub furtherOf : ℕ → ℕ → ℕ
+furtherOf i n = pickPlace (ltb i n) (i + 4) i

@@ -1,6 +1,7 @@
 // The parts of an answered case, as places in its bytes.
 ghost use mathlib.Core.Path.{_≡_};
-ghost use Rattle.replay.specs.Case.{number, partOf, layout};
+ghost use lib.ListN.{length};
+ghost use Rattle.replay.specs.Case.{number, partOf, layout, sameNumbers, furtherOf};
 use text::utf8::byte_at;
 
 pub struct Part {
@@ -99,4 +100,30 @@ pub fn case_of(s: &[u8]) -> Case
         records,
         pieces,
     }
+}
+
+// Whether the numbers of a buffer are those of a list, four bytes each, and zero past them.
+pub fn same_numbers(buffer: &[u32], list: &[u8]) -> bool
+    ensures { λ r. ⌜ r ≡ sameNumbers (now (buffer .entry)) (now (list .entry)) ⌝ }
+{
+    let mut i = 0;
+    let mut at = 0;
+    while i < buffer.len() {
+        if buffer[i] != number_at(list, at) {
+            return false;
+        }
+        i += 1;
+        at = further(list, at);
+    }
+    list.len() <= at
+}
+
+// The place of the next number; past the end there is no other.
+fn further(list: &[u8], at: usize) -> usize
+    ensures { λ r. ⌜ r ≡ furtherOf at (length (now (list .entry))) ⌝ }
+{
+    if at < list.len() {
+        return at + 4;
+    }
+    at
 }

@@ -6,6 +6,8 @@ pub enum Verdict {
     Same,
     // The original panicked, so there is nothing to match.
     Panicked,
+    // The program has no room for it.
+    TooLarge,
     Different,
 }
 
@@ -47,16 +49,13 @@ pub fn counted(mut t: Tally, v: Verdict) -> Tally {
         Verdict::Panicked => {
             t.panicked = more(t.panicked);
         }
+        Verdict::TooLarge => {
+            t.passed = more(t.passed);
+        }
         Verdict::Different => {
             t.different = more(t.different);
         }
     }
-    t
-}
-
-// A case that was passed over.
-pub fn passed_over(mut t: Tally) -> Tally {
-    t.passed = more(t.passed);
     t
 }
 

@@ -75,7 +75,7 @@ fn step(space: &mut [u8], tally: Tally) -> Tally {
             let v = verdict(replay::case::bytes_of(space, Part { at: 0, len }));
             replay::tally::counted(tally, v)
         }
-        Next::TooLarge => replay::tally::passed_over(tally),
+        Next::TooLarge => replay::tally::counted(tally, Verdict::TooLarge),
         Next::End => replay::tally::closed(tally, false),
         Next::Broken => replay::tally::closed(tally, true),
     }

@@ -1,0 +1,81 @@
+-- `replay::case::same_numbers` meets its contract. The loop's invariant: the rest of the buffer and of the list compare as the whole
+-- does. The measure is what is left of the buffer. Assumes nothing.
+use borrow.Author.Needs.{needs}
+use mathlib.Core.Path.{_≡_, refl, sym, _∙_, ap}
+use Prim.Native.Nat.{ℕ, _+_, _-_}
+use native.Mathlib.Omega.{arith}
+use lib.ListN.{length, drop}
+use Rattle.replay.specs.Case.{sameNumbers}
+use Rattle.replay.proofs.Numbers.{numbers-differ, numbers-go-on, numbers-end}
+use Rattle.replay.proofs.case.same_numbers.Statement.{statement}
+use Rattle.replay.proofs.case.same_numbers.Tie as tie
+
+abbrev Inv-loop : tie.InvT-loop
+Inv-loop buffer list i₀ at₀ i at = sameNumbers (drop i buffer) (drop at list) ≡ sameNumbers buffer list
+
+abbrev μ-loop : tie.MeasureT-loop
+μ-loop buffer list i₀ at₀ i at = length buffer - i
+
+loop-holds : tie.Need-loop-holds Inv-loop μ-loop
+loop-holds c = refl
+
+mul-if1 : tie.Need-mul-if1 Inv-loop μ-loop
+mul-if1 c = search needs
+
+shared-slice-read-if1 : tie.Need-shared-slice-read-if1 Inv-loop μ-loop
+shared-slice-read-if1 c = omega arith
+
+number-at-requires : tie.Need-number-at-requires Inv-loop μ-loop
+number-at-requires c κs = tt
+
+returns : tie.Need-returns Inv-loop μ-loop
+returns c =
+    let buffer = c .before .before .before .before .before .before .before .args .buffer .now in
+    let list = c .before .before .before .before .before .before .before .args .list .now in
+    let i = c .before .before .before .before .loop .i in
+    let at = c .before .before .before .before .loop .at in
+    sym (numbers-differ buffer list i at (c .before .before .before .loop-test .taken) (λ e. c .if1 .taken (e ∙ sym (c .before .number-at .ensures)))) ∙ c .before .before .before .before .loop .inv
+
+add-i : tie.Need-add-i Inv-loop μ-loop
+add-i c = omega arith
+
+further-requires : tie.Need-further-requires Inv-loop μ-loop
+further-requires c κs = tt
+
+loop-less : tie.Need-loop-less Inv-loop μ-loop
+loop-less c = omega arith
+
+loop-again : tie.Need-loop-again Inv-loop μ-loop
+loop-again c =
+    let buffer = c .before .before .before .before .before .before .before .before .args .buffer .now in
+    let list = c .before .before .before .before .before .before .before .before .args .list .now in
+    let i = c .before .before .before .before .before .loop .i in
+    let at = c .before .before .before .before .before .loop .at in
+    ap (λ (k : ℕ). sameNumbers (drop (i + 1) buffer) (drop k list)) (c .further .ensures)
+    ∙ sym (numbers-go-on buffer list i at (c .before .before .before .before .loop-test .taken) (c .before .if1 .left ∙ c .before .before .number-at .ensures))
+    ∙ c .before .before .before .before .before .loop .inv
+
+returns-2 : tie.Need-returns-2 Inv-loop μ-loop
+returns-2 c =
+    let buffer = c .before .before .before .before .args .buffer .now in
+    let list = c .before .before .before .before .args .list .now in
+    let i = c .before .loop .i in
+    let at = c .before .loop .at in
+    sym (numbers-end buffer list i at (c .loop-test .left)) ∙ c .before .loop .inv
+
+pub same-numbers-spec : {M : Type 1} → statement M
+same-numbers-spec =
+    tie.close
+    (tie.spec
+    Inv-loop
+    μ-loop
+    loop-holds
+    mul-if1
+    shared-slice-read-if1
+    number-at-requires
+    returns
+    add-i
+    further-requires
+    loop-less
+    loop-again
+    returns-2)
