@@ -1,0 +1,15 @@
+-- Lemmas that serve several functions, by subject.
+-- entries laid out one after the other
+mod Layouts
+-- pieces laid out, a part lent and back
+mod Pieces
+-- the frames of the stack
+mod Frames
+-- texts, boundaries, starts
+mod Starts
+-- the rows, and what holds after each event
+mod Turns
+-- the run, from the head of the loop
+mod Heads
+-- from the inner calls to the public promises
+mod Wholes

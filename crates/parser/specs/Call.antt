@@ -1,0 +1,87 @@
+-- The two public calls, whole: what each comes to, and what it promises of its answer and of every lent number (R0 to R2, RZ, RS, B1).
+use mathlib.Core.Path.{_≡_}
+use Prim.Native.Nat.{ℕ}
+use mathlib.Core.Bool.{Bool, true, false}
+use mathlib.Core.List.{List, [], _∷_}
+use lib.Dec.{ltb}
+use lib.ListN.{length, replicate}
+use Rattle.text.specs.Admission.{admission, admissionOfBoth, admissionNumber}
+use Rattle.text.specs.declared.admission.Admission.{Admission}
+use Rattle.text.specs.declared.admission.Admission.the-variants.{Admitted, TooLong, NotUtf8}
+use Rattle.measure.specs.Scalar.{folded}
+use Rattle.event.specs.Read.{eventsLimit}
+use Rattle.event.specs.declared.tag.YamlTag.the-variants.{Absent}
+use Rattle.parser.specs.Pick.{pick}
+use Rattle.parser.specs.Record.{zeroNode}
+use Rattle.provenance.specs.Reading.{Piece}
+use Rattle.parser.specs.Machine.{State, empty, Outcome, built, refused, scalarAt, scalarKept, follow, runAll}
+use Rattle.parser.specs.Layout.{laidNodes, laidPieces, recordRoom, pieceRoom}
+use Rattle.parser.specs.declared.record.Node.{Node}
+use Rattle.parser.specs.declared.answer.Answer.{Answer}
+use Rattle.parser.specs.declared.answer.Answer.the-variants.{Built, Refused}
+use Rattle.parser.specs.declared.one.ScalarAnswer.{ScalarAnswer}
+
+-- ---- the table
+
+-- document 01's number and values for each case of an answer
+abbrev pub returned : Answer → List ℕ
+returned (Built nodes pieces) = 0 ∷ nodes ∷ pieces ∷ []
+returned (Refused number place) = number ∷ place ∷ []
+
+-- and for each case of what a call comes to
+abbrev pub tableRow : Outcome → List ℕ
+tableRow (built xs ps) = 0 ∷ length xs ∷ length ps ∷ []
+tableRow (refused number place) = number ∷ place ∷ []
+
+-- the records afterwards, in a buffer of `size` numbers: all zero on a refusal (RZ)
+abbrev pub recordsOf : ℕ → Outcome → List ℕ
+recordsOf size (built xs ps) = laidNodes size xs
+recordsOf size (refused number place) = replicate size 0
+
+-- the pieces afterwards
+abbrev pub piecesOf : ℕ → Outcome → List ℕ
+piecesOf size (built xs ps) = laidPieces size ps
+piecesOf size (refused number place) = replicate size 0
+
+-- the record that a call on one scalar hands back
+abbrev pub recordOf : Outcome → Node
+recordOf (built [] ps) = zeroNode
+recordOf (built (x ∷ xs) ps) = x
+recordOf (refused number place) = zeroNode
+
+-- ---- what the calls come to
+
+-- a text that is refused, or what comes of it
+abbrev pub admitted : Admission → Outcome → Outcome
+admitted (Admitted ascii) o = o
+admitted TooLong o = refused (admissionNumber TooLong) 0
+admitted NotUtf8 o = refused (admissionNumber NotUtf8) 0
+
+-- `build`, with buffers of so many numbers
+unfoldable pub building : List ℕ → List ℕ → ℕ → ℕ → Outcome
+building text events size pieceSize =
+    pick (ltb eventsLimit (length events)) (refused 1 0)
+    (admitted (admission text) (runAll text events (recordRoom size) (pieceRoom pieceSize)))
+
+-- one scalar, its text and value admitted: it awaits nothing, has no tag, and its value's place is 0
+unfoldable pub oneScalar : List ℕ → ℕ → ℕ → ℕ → Bool → List ℕ → ℕ → Outcome
+oneScalar text index column style emptySpan value pieceSize =
+    pick (ltb folded style) (refused 3 0)
+    (follow (scalarKept text [] (pieceRoom pieceSize) (scalarAt text false index column style emptySpan value 0) Absent empty) (λ (st : State). built (st .nodes) (st .pieces)) 0)
+
+-- the call on one scalar
+unfoldable pub readingScalar : List ℕ → ℕ → ℕ → ℕ → Bool → List ℕ → ℕ → Outcome
+readingScalar text index column style emptySpan value pieceSize =
+    admitted (admissionOfBoth text value) (oneScalar text index column style emptySpan value pieceSize)
+
+-- ---- what the calls promise
+
+pub record Promised (size pieceSize : ℕ) (o : Outcome) (r : Answer) (records pieces : List ℕ) : Type 0 where
+  pub answer : returned r ≡ tableRow o
+  pub all-records : records ≡ recordsOf size o
+  pub all-pieces : pieces ≡ piecesOf pieceSize o
+
+pub record PromisedScalar (pieceSize : ℕ) (o : Outcome) (r : ScalarAnswer) (pieces : List ℕ) : Type 0 where
+  pub answer : returned (r .answer) ≡ tableRow o
+  pub one-record : r .node ≡ recordOf o
+  pub all-pieces : pieces ≡ piecesOf pieceSize o

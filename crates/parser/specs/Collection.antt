@@ -1,0 +1,71 @@
+-- Open collections, and the record of one that ends (E2, N2, S2, S3).
+use Prim.Native.Nat.{ℕ, _+_, _-_, _/_, _%_}
+use mathlib.Core.Bool.{Bool, true, false, _&&_, not}
+use mathlib.Core.List.{List, [], _∷_}
+use lib.Dec.{eqb, ltb}
+use lib.ListN.{getD}
+use Rattle.schema.specs.Record.{both}
+use Rattle.parser.specs.Pick.{pick}
+use Rattle.parser.specs.Record.{extent, noList}
+use Rattle.parser.specs.Scalar.{stepPast, tagInfo}
+use Rattle.parser.specs.declared.record.Node.{Node}
+use Rattle.parser.specs.declared.stack.Open.{Open}
+use Rattle.parser.specs.declared.stack.Suffix.{Suffix}
+
+-- ---- children
+
+-- the innermost open collection has a child more, which starts at byte i; an array's items and a hash's keys and values alike (N2)
+abbrev pub withChild : ℕ → List Open → List Open
+withChild i [] = []
+withChild i (o ∷ os) =
+    record {
+      mapping = o .mapping;
+      start = o .start;
+      suffix = o .suffix;
+      children = o .children + 1;
+      first = pick (eqb (o .children) 0) i (o .first);
+      before = o .before;
+    }
+    ∷ os
+
+-- whether the next node is the value of the innermost mapping's last key
+abbrev pub awaitsValue : List Open → Bool
+awaitsValue [] = false
+awaitsValue (o ∷ os) = o .mapping && eqb (o .children % 2) 1
+
+-- whether an end of this kind ends the collection: it is of that kind, and no key is without its value (R4)
+unfoldable pub closes : Bool → Open → Bool
+closes mapping o = pick mapping (o .mapping && eqb (o .children % 2) 0) (not (o .mapping))
+
+-- ---- span
+
+-- where the end's marker stands at byte i: plus 1 on the closing bracket (S2)
+unfoldable pub collectionEnd : List ℕ → Bool → ℕ → ℕ
+collectionEnd text mapping i = stepPast text (pick mapping 0x7d 0x5d) i
+
+-- a mapping not standing on `{` starts at its first key, if it has one (S3)
+unfoldable pub collectionStart : List ℕ → Open → ℕ
+collectionStart text o =
+    pick (o .mapping && (ltb 0 (o .children) && not (eqb (getD text (o .start) 0) 0x7b))) (o .first) (o .start)
+
+-- ---- record
+
+-- children of an array, pairs of a hash
+unfoldable pub members : Open → ℕ
+members o = pick (o .mapping) (o .children / 2) (o .children)
+
+-- the record of a collection that starts at byte s and ends at byte e, after n nodes; a negative length is 0 (S3)
+unfoldable pub collectionOver : List ℕ → Open → ℕ → ℕ → ℕ → Node
+collectionOver text o s e n =
+    record {
+      kind = pick (o .mapping) 8 7;
+      extent = extent s (s + (e - s));
+      tag = tagInfo text s (o .suffix);
+      subtree = n - o .before + 1;
+      list = noList;
+      payload = both (members o) 0;
+    }
+
+-- of one whose end's marker stands at byte i
+unfoldable pub collectionNode : List ℕ → Open → ℕ → ℕ → Node
+collectionNode text o i n = collectionOver text o (collectionStart text o) (collectionEnd text (o .mapping) i) n

@@ -1,0 +1,19 @@
+-- The definitions that the contracts of `parser` cite, in reading order, and the laws that callers go by.
+-- a choice by a test
+pub mod Pick
+-- the twelve numbers of a record
+pub mod Record
+-- a scalar's start, span, pieces and record
+pub mod Scalar
+-- open collections, and the record of one that ends
+pub mod Collection
+-- the machine over lists: state, step, run, ending
+pub mod Machine
+-- the equations of the run
+pub mod RunLaws
+-- nodes and pieces laid out in the buffers
+pub mod Layout
+-- the two public calls
+pub mod Call
+-- what the code's values hold of the machine's state: for the inner calls
+pub mod Held

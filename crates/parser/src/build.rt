@@ -1,0 +1,138 @@
+// The call on a whole document. (01: the table; R0 to R9, RO, RZ, B1.)
+ghost use mathlib.Core.Path.{_≡_};
+ghost use Prim.Native.Nat.{_/_, _≤_};
+ghost use lib.ListN.{length, replicate};
+ghost use Rattle.parser.specs.Machine.{runAll, nextPlace};
+ghost use Rattle.parser.specs.Layout.{pieceWidth, recordRoom};
+ghost use Rattle.parser.specs.Call.{building, Promised};
+ghost use Rattle.parser.specs.Held.{Given, Filled};
+use crate::answer::Answer;
+use crate::answer::Counts;
+use crate::answer::Move;
+use crate::answer::root_done;
+use crate::buffer::clear;
+use crate::buffer::usable;
+use crate::on_event::on_event;
+use event::read::EVENTS_LIMIT;
+use event::read::Event;
+use event::read::read_event;
+use text::admission::Admission;
+use text::admission::admit_text;
+use text::offset::START;
+
+// The place after an event.
+fn next_place(e: Event) -> usize
+    ensures { λ r. ⌜ r ≡ nextPlace e ⌝ }
+{
+    match e {
+        Event::SequenceStart {
+            index: _,
+            tag: _,
+            next,
+        } => next,
+        Event::SequenceEnd { index: _, next } => next,
+        Event::MappingStart {
+            index: _,
+            tag: _,
+            next,
+        } => next,
+        Event::MappingEnd { index: _, next } => next,
+        Event::Scalar {
+            index: _,
+            column: _,
+            style: _,
+            empty_span: _,
+            tag: _,
+            value: _,
+            next,
+        } => next,
+        Event::Alias { index: _, next } => next,
+        Event::Malformed => 0,
+    }
+}
+
+// All events in order, into buffers that are zero.
+fn fill(text: &[u8], ascii: bool, events: &[u8], records: &mut [u32], pieces: &mut [u32]) -> Answer
+    requires { ⌜ Given (now text) ascii ⌝ }
+    requires { ⌜ length (now events) ≤ 4194304 ⌝ }
+    requires { ⌜ (now records ≡ replicate (length (now records)) 0) × (now pieces ≡ replicate (length (now pieces)) 0) × (length (now pieces) ≤ 17179869176) ⌝ }
+    ensures { λ r. ⌜ Filled (length (now (records .entry))) (length (now (pieces .entry))) (runAll (now (text .entry)) (now (events .entry)) (recordRoom (length (now (records .entry)))) (length (now (pieces .entry)) / pieceWidth)) r (now (records .exit)) (now (pieces .exit)) ⌝ }
+{
+    let mut stack = [0u32; 448];
+    let mut c = Counts {
+        nodes: 0,
+        depth: 0,
+        used: 0,
+        cursor: START,
+    };
+    let mut at = 0;
+    let mut number = 0;
+    while at < events.len() {
+        let e = read_event(events, at);
+        match on_event(text, ascii, events, &mut stack, records, pieces, c, e) {
+            Move::Stop(n) => {
+                return Answer::Refused {
+                    number: n,
+                    place: number,
+                };
+            }
+            Move::Go(d) => {
+                c = d;
+            }
+        }
+        at = next_place(e);
+        number += 1;
+    }
+    if root_done(c) {
+        return Answer::Built {
+            nodes: c.nodes,
+            pieces: c.used,
+        };
+    }
+    Answer::Refused {
+        number: 9,
+        place: number,
+    }
+}
+
+// The events of a document over its text: the records of its nodes, in the order in which they are complete, and the pieces of its
+// scalars. What it answers and every number of both buffers afterwards is `building`; on a refusal they are all zero.
+pub fn build(text: &[u8], events: &[u8], records: &mut [u32], pieces: &mut [u32]) -> Answer
+    ensures { λ r. ⌜ Promised (length (now (records .entry))) (length (now (pieces .entry))) (building (now (text .entry)) (now (events .entry)) (length (now (records .entry))) (length (now (pieces .entry)))) r (now (records .exit)) (now (pieces .exit)) ⌝ }
+{
+    clear(records);
+    clear(pieces);
+    if EVENTS_LIMIT < events.len() {
+        return Answer::Refused {
+            number: 1,
+            place: 0,
+        };
+    }
+    match admit_text(text) {
+        Admission::TooLong => Answer::Refused {
+            number: 1,
+            place: 0,
+        },
+        Admission::NotUtf8 => Answer::Refused {
+            number: 2,
+            place: 0,
+        },
+        Admission::Admitted { ascii } => {
+            let n = usable(pieces.len());
+            match fill(text, ascii, events, records, &mut pieces[..n]) {
+                Answer::Built {
+                    nodes,
+                    pieces: kept,
+                } => Answer::Built {
+                    nodes,
+                    pieces: kept,
+                },
+                Answer::Refused { number, place } => {
+                    clear(records);
+                    clear(pieces);
+                    Answer::Refused { number, place }
+                }
+            }
+        }
+    }
+}

@@ -1,0 +1,69 @@
+-- Laws of tests, of choices, and of the parts that are handed on. Assumes nothing.
+use mathlib.Core.Path.{_≡_, refl}
+use mathlib.Core.Bool.{Bool, true, false, _&&_, _||_}
+use mathlib.Core.List.{List, [], _∷_}
+use Prim.Native.Nat.{ℕ, zero, suc, _-_, _≤_, _<_}
+use native.Mathlib.Decide.{decLe}
+use native.Mathlib.Nat.{lt-of-not-le}
+use native.Mathlib.Omega.{arith}
+use lib.ListN.{length, take, drop, getD, length-drop, drop-of-length-le}
+use lib.Seq.{take-all}
+use Rattle.provenance.specs.Run.{pick}
+
+pub clash : true ≡ false → ⊥
+clash e = let z : _≡_ {A = ℕ} 0 1 = cc in omega arith
+
+pub by-test : (P : Bool → Type 0) (t : Bool) → P true → P false → P t
+by-test P true f g = f
+by-test P false f g = g
+
+pub by-answer : {X : Type 0} (t : Bool) → (t ≡ true → X) → (t ≡ false → X) → X
+by-answer true f g = f refl
+by-answer false f g = g refl
+
+-- one order or the other
+pub by-order : {X : Type 0} (a b : ℕ) → (a < b → X) → (b ≤ a → X) → X
+by-order a b f g = elim (decLe b a) [ yes h ↦ g h | no h ↦ f (lt-of-not-le h) ]
+
+pub and-both : (a b : Bool) → a && b ≡ true → (a ≡ true) × (b ≡ true)
+and-both true b h = (refl, h)
+and-both false b h = absurd (let z : true ≡ false = (let q : false ≡ true = h in cc) in clash z)
+
+pub and-no : (t : Bool) → t && false ≡ false
+and-no true = refl
+and-no false = refl
+
+pub or-yes : (t : Bool) → t || true ≡ true
+or-yes true = refl
+or-yes false = refl
+
+pub or-no : (t : Bool) → t || false ≡ t
+or-no true = refl
+or-no false = refl
+
+-- what a choice that came out as t says of the question
+pub picked : {A : Type 0} (t : Bool) (x y w : A) → (y ≡ w → ⊥) → pick t x y ≡ w → (t ≡ true) × (x ≡ w)
+picked true x y w n h = (refl, h)
+picked false x y w n h = absurd (n h)
+
+pub passed : {A : Type 0} (t : Bool) (x y w : A) → (x ≡ w → ⊥) → pick t x y ≡ w → (t ≡ false) × (y ≡ w)
+passed true x y w n h = absurd (n h)
+passed false x y w n h = (refl, h)
+
+pub either : {A X : Type 0} (t : Bool) (x y w : A) → pick t x y ≡ w → (x ≡ w → X) → (y ≡ w → X) → X
+either true x y w h f g = f h
+either false x y w h f g = g h
+
+-- a part from k on, handed on
+pub part-is : (l : List ℕ) (k : ℕ) → take (length l - k) (drop k l) ≡ drop k l
+part-is l k = take-all (length l - k) (drop k l) (let e = length-drop k l in omega arith)
+
+-- the byte past the end is 0
+pub byte-past : (l : List ℕ) (i : ℕ) → length l ≤ i → getD l i 0 ≡ 0
+byte-past [] i h = refl
+byte-past (x ∷ xs) zero h = absurd (omega arith)
+byte-past (x ∷ xs) (suc i) h = byte-past xs i (omega arith)
+
+-- a byte that is not 0 stands inside
+pub byte-inside : (l : List ℕ) (i b : ℕ) → getD l i 0 ≡ b → 0 < b → i < length l
+byte-inside l i b e h = by-order i (length l) (λ lt. lt) (λ le. let z = byte-past l i le in absurd (omega arith))

@@ -1,0 +1,309 @@
+-- A turn of the walk's loop, on plain values, over any fair step function. Assumes nothing.
+--
+-- The pieces of a reading are laid as the walk writes them: a verbatim run stays open until a replacement or the value's end closes it.
+-- `Laid` proves that these are the joined pieces of the steps.
+use mathlib.Core.Path.{_≡_, refl, sym, ap, _∙_, subst}
+use mathlib.Core.Bool.{Bool, true, false}
+use mathlib.Core.Logic.{_⊎_, inl, inr, ⊎-elim}
+use mathlib.Core.List.{List, [], _∷_, _++_, append-nil, append-assoc}
+use Prim.{Unit, tt}
+use Prim.Native.Nat.{ℕ, zero, suc, _+_, _-_, _*_, _/_, _≤_, _<_, min}
+use native.Mathlib.Omega.{arith}
+use lib.Dec.{ltb}
+use lib.ListN.{length, take, drop, set, replicate, length-append, length-set, length-replicate}
+use lib.Seq.{set-at, drop-at}
+use borrow.Author.Tests.{lt-ltb, le-ltb}
+use Rattle.provenance.specs.declared.step.Step.{Step}
+use Rattle.provenance.specs.declared.step.Step.the-variants.{Verbatim, Replacement, NoStep}
+use Rattle.provenance.specs.Run.{pick}
+use Rattle.provenance.specs.Reading.{Reads, Fits, sourceLen, contentLen, Piece, piece, verbatim, replacement}
+use Rattle.provenance.specs.Layout.{pieceSize, room, zeros, numbers, filled}
+use Rattle.provenance.specs.Writing.{fourAt, putPiece, putOpen, countOpen, putReplacement, clearedTo, writtenLen}
+use Rattle.provenance.proofs.Tests.{by-order}
+use Rattle.provenance.proofs.Steps.{Fair}
+
+-- ---- the pieces as they are laid
+
+-- the verbatim run from..s of the text, if it is not empty
+abbrev pub closed : ℕ → ℕ → List Piece
+closed from s = pick (ltb from s) (piece verbatim from s (s - from) ∷ []) []
+
+-- the pieces of steps whose first stands at s, with the verbatim run from..s open
+unfoldable pub laid : ℕ → ℕ → List Step → List Piece
+laid from s [] = closed from s
+laid from s (Verbatim n ∷ ts) = laid from (s + n) ts
+laid from s (Replacement a b ∷ ts) = closed from s ++ (piece replacement s (s + a) b ∷ laid (s + a) (s + a) ts)
+laid from s (NoStep ∷ ts) = []
+
+-- the run that is open in the source, closed in the text
+closed-at : (base from s : ℕ) → closed (base + from) (base + s) ≡ pick (ltb from s) (piece verbatim (base + from) (base + s) (s - from) ∷ []) []
+closed-at base from s =
+    by-order from s
+    (λ lt.
+    let q : base + s - (base + from) ≡ s - from = omega arith in
+    let h : base + from < base + s = omega arith in
+    rw (lt-ltb _ _ lt, lt-ltb _ _ h, q))
+    (λ le. let h : base + s ≤ base + from = omega arith in rw (le-ltb _ _ le, le-ltb _ _ h))
+
+-- ---- the buffer
+
+-- the pieces ps were written into a buffer of m numbers: as many as fit stand at its front, and all behind them is zero
+pub record Kept (m : ℕ) (ps : List Piece) (buf : List ℕ) : Type 0 where
+  pub size : length buf ≡ m
+  pub kept : length ps * pieceSize ≤ m → buf ≡ filled m ps
+  pub behind : drop (writtenLen (length ps) m) buf ≡ zeros (m - writtenLen (length ps) m)
+
+pub numbers-length : (ps : List Piece) → length (numbers ps) ≡ length ps * pieceSize
+unfolding numbers
+numbers-length [] = refl
+numbers-length (p ∷ ps) = let i = numbers-length ps in omega arith
+
+numbers-append : (ps qs : List Piece) → numbers (ps ++ qs) ≡ numbers ps ++ numbers qs
+unfolding numbers
+numbers-append [] qs = refl
+numbers-append (p ∷ ps) qs = ap (λ (l : List ℕ). p .kind ∷ p .start ∷ p .end ∷ p .content ∷ l) (numbers-append ps qs)
+
+numbers-one : (p : Piece) → numbers (p ∷ []) ≡ p .kind ∷ p .start ∷ p .end ∷ p .content ∷ []
+unfolding numbers
+numbers-one p = refl
+
+numbers-none : numbers [] ≡ []
+unfolding numbers
+numbers-none = refl
+
+-- what fits needs no more numbers than there are, and what does not fit fills the room
+written-fits : (n m : ℕ) → n * pieceSize ≤ m → writtenLen n m ≡ n * pieceSize
+unfolding writtenLen
+written-fits n m h =
+    by-order n (room m) (λ lt. rw (lt-ltb _ _ lt)) (λ le. let e : room m ≡ n = omega arith in rw (le-ltb _ _ le) (ap (λ (k : ℕ). k * pieceSize) e))
+
+written-full : (n m : ℕ) → room m ≤ n → writtenLen n m ≡ room m * pieceSize
+unfolding writtenLen
+written-full n m h = rw (le-ltb _ _ h)
+
+pub written-within : (n m : ℕ) → writtenLen n m ≤ m
+unfolding writtenLen
+written-within n m = by-order n (room m) (λ lt. rw (lt-ltb _ _ lt) (omega arith)) (λ le. rw (le-ltb _ _ le) (omega arith))
+
+pub within-of : (k n m : ℕ) → k ≡ writtenLen n m → k ≤ m
+within-of k n m e = let w = written-within n m in omega arith
+
+filled-behind : (m : ℕ) (ps : List Piece) (buf : List ℕ) → length ps * pieceSize ≤ m → buf ≡ filled m ps
+    → drop (writtenLen (length ps) m) buf ≡ zeros (m - writtenLen (length ps) m)
+filled-behind m ps buf h e =
+    rw (written-fits (length ps) m h, e) (drop-at (numbers ps) (zeros (m - length ps * pieceSize)) (length ps * pieceSize) (numbers-length ps))
+
+set-after : (xs pre : List ℕ) (y : ℕ) (ys : List ℕ) (a n : ℕ) → length xs + length pre ≡ n → set (xs ++ (pre ++ y ∷ ys)) n a ≡ xs ++ (pre ++ a ∷ ys)
+set-after xs pre y ys a n h =
+    ap (λ (l : List ℕ). set l n a) (sym (append-assoc xs pre (y ∷ ys)))
+    ∙ set-at (xs ++ pre) y ys a n (length-append xs pre ∙ h)
+    ∙ append-assoc xs pre (a ∷ ys)
+
+-- four stores behind a front of that length, where four zeros are
+four-after : (xs zs : List ℕ) (i : ℕ) (p : Piece) → length xs ≡ i
+    → fourAt (xs ++ (0 ∷ 0 ∷ 0 ∷ 0 ∷ zs)) i p ≡ xs ++ (p .kind ∷ p .start ∷ p .end ∷ p .content ∷ zs)
+four-after xs zs i p h =
+    ap (λ (l : List ℕ). set (set (set l (i + 1) (p .start)) (i + 2) (p .end)) (i + 3) (p .content)) (set-after xs [] 0 (0 ∷ 0 ∷ 0 ∷ zs) (p .kind) i (omega arith))
+    ∙ ap (λ (l : List ℕ). set (set l (i + 2) (p .end)) (i + 3) (p .content)) (set-after xs (p .kind ∷ []) 0 (0 ∷ 0 ∷ zs) (p .start) (i + 1) (omega arith))
+    ∙ ap (λ (l : List ℕ). set l (i + 3) (p .content)) (set-after xs (p .kind ∷ p .start ∷ []) 0 (0 ∷ zs) (p .end) (i + 2) (omega arith))
+    ∙ set-after xs (p .kind ∷ p .start ∷ p .end ∷ []) 0 zs (p .content) (i + 3) (omega arith)
+
+zeros-four : (r : ℕ) → zeros (4 + r) ≡ 0 ∷ 0 ∷ 0 ∷ 0 ∷ zeros r
+zeros-four r = let e : 4 + r ≡ suc (suc (suc (suc r))) = omega arith in ap (λ (k : ℕ). zeros k) e
+
+put-fits : (m : ℕ) (ps : List Piece) (buf : List ℕ) (p : Piece) → length ps * 4 + 4 ≤ m → buf ≡ filled m ps → fourAt buf (length ps * pieceSize) p ≡ filled m (ps ++ (p ∷ []))
+put-fits m ps buf p fits h =
+    let r : ℕ = m - (length ps * 4 + 4) in
+    let e : m - length ps * pieceSize ≡ 4 + r = omega arith in
+    let e′ : m - length (ps ++ (p ∷ [])) * pieceSize ≡ r = (let q = length-append ps (p ∷ []) in omega arith) in
+    ap (λ (l : List ℕ). fourAt l (length ps * pieceSize) p) (h ∙ ap (λ (k : ℕ). numbers ps ++ zeros k) e ∙ ap (λ (l : List ℕ). numbers ps ++ l) (zeros-four r))
+    ∙ four-after (numbers ps) (zeros r) (length ps * pieceSize) p (numbers-length ps)
+    ∙ sym (append-assoc (numbers ps) (p .kind ∷ p .start ∷ p .end ∷ p .content ∷ []) (zeros r))
+    ∙ ap (λ (l : List ℕ). (numbers ps ++ l) ++ zeros r) (sym (numbers-one p))
+    ∙ ap (λ (l : List ℕ). l ++ zeros r) (sym (numbers-append ps (p ∷ [])))
+    ∙ ap (λ (k : ℕ). numbers (ps ++ (p ∷ [])) ++ zeros k) (sym e′)
+
+pub put-kept : (m : ℕ) (ps : List Piece) (buf : List ℕ) (p : Piece) → Kept m ps buf → Kept m (ps ++ (p ∷ [])) (putPiece buf (length ps) p)
+unfolding putPiece
+put-kept m ps buf p h =
+    let sz = h .size in
+    let more = length-append ps (p ∷ []) in
+    by-order (length ps) (room (length buf))
+    (λ lt.
+    let fits : length ps * 4 + 4 ≤ m = omega arith in
+    let is : fourAt buf (length ps * pieceSize) p ≡ filled m (ps ++ (p ∷ [])) = put-fits m ps buf p fits (h .kept (omega arith)) in
+    rw (lt-ltb _ _ lt)
+    (record {
+      size = simp length-set (h .size);
+      kept = λ _. is;
+      behind = filled-behind m (ps ++ (p ∷ [])) _ (omega arith) is;
+    }))
+    (λ le.
+    let same : writtenLen (length (ps ++ (p ∷ []))) m ≡ writtenLen (length ps) m = written-full (length (ps ++ (p ∷ []))) m (omega arith) ∙ sym (written-full (length ps) m (omega arith)) in
+    rw (le-ltb _ _ le)
+    (record {
+      size = h .size;
+      kept = λ over. absurd (omega arith);
+      behind = ap (λ (k : ℕ). drop k buf) same ∙ h .behind ∙ ap (λ (k : ℕ). zeros (m - k)) (sym same);
+    }))
+
+open-kept : (m : ℕ) (ps : List Piece) (buf : List ℕ) (base from s : ℕ) → Kept m ps buf
+    → Kept m (ps ++ closed (base + from) (base + s)) (putOpen buf (length ps) base from s)
+unfolding putOpen
+open-kept m ps buf base from s h =
+    rw (closed-at base from s)
+    (by-order from s
+    (λ lt. rw (lt-ltb _ _ lt) (put-kept m ps buf (piece verbatim (base + from) (base + s) (s - from)) h))
+    (λ le. rw (le-ltb _ _ le) (rw append-nil h)))
+
+open-count : (ps : List Piece) (base from s : ℕ) → length (ps ++ closed (base + from) (base + s)) ≡ countOpen (length ps) from s
+open-count ps base from s =
+    rw (closed-at base from s)
+    (by-order from s (λ lt. rw (lt-ltb _ _ lt) (length-append ps _)) (λ le. rw (le-ltb _ _ le) (rw append-nil)))
+
+pub count-more : (n from s : ℕ) → countOpen n from s ≤ n + 1
+count-more n from s = by-order from s (λ lt. rw (lt-ltb _ _ lt) (omega arith)) (λ le. rw (le-ltb _ _ le) (omega arith))
+
+count-within : (n from s : ℕ) → n ≤ from → from ≤ s → countOpen n from s ≤ s
+count-within n from s h k = by-order from s (λ lt. rw (lt-ltb _ _ lt) (omega arith)) (λ le. rw (le-ltb _ _ le) (omega arith))
+
+regroup : (w f : List Piece) (p : Piece) (l : List Piece) → w ++ (f ++ (p ∷ l)) ≡ ((w ++ f) ++ (p ∷ [])) ++ l
+regroup w f p l = simp append-assoc
+
+-- what was written, cleared
+pub clear-all : (m : ℕ) (ps : List Piece) (buf : List ℕ) (k : ℕ) → Kept m ps buf → k ≡ writtenLen (length ps) m → clearedTo k buf ≡ zeros m
+clear-all m ps buf k h e =
+    let w = written-within (length ps) m in
+    let q : k + (m - k) ≡ m = omega arith in
+    ap (λ (l : List ℕ). zeros k ++ l) (ap (λ (j : ℕ). drop j buf) e ∙ h .behind ∙ ap (λ (j : ℕ). zeros (m - j)) (sym e))
+    ∙ lib.ListN.replicate-append-replicate k (m - k) 0
+    ∙ ap (λ (j : ℕ). zeros j) q
+
+-- ---- the walk
+
+module _ (at : ℕ → ℕ → Step) (L len base m : ℕ) where
+  -- a reading from here on gives one from the start, and the other way round; its pieces are those written and those of the rest
+  pub record Going (buf : List ℕ) (s v from n : ℕ) : Type 0 where
+    pub written : List Piece
+    pub count : length written ≡ n
+    pub held : Kept m written buf
+    pub on : (ts : List Step) → Reads at len s v ts → (us : List Step) × Reads at len 0 0 us × (laid base base us ≡ written ++ laid (base + from) (base + s) ts)
+    pub back : (us : List Step) → Reads at len 0 0 us → (ts : List Step) × Reads at len s v ts × (laid base base us ≡ written ++ laid (base + from) (base + s) ts)
+    pub in-run : from ≤ s
+    pub in-source : s ≤ L + 4
+    pub in-value : v ≤ len + 2
+    pub few : n ≤ from + 1
+    pub fewer : v < len → n ≤ from
+
+  pub begins : (buf : List ℕ) → length buf ≡ m → buf ≡ zeros m → Going buf 0 0 0 0
+  begins buf z e =
+      let q : m - 0 ≡ m = omega arith in
+      let b : base + 0 ≡ base = omega arith in
+      let all : buf ≡ filled m [] = e ∙ sym (ap (λ (l : List ℕ). l ++ zeros (m - 0)) numbers-none ∙ ap (λ (k : ℕ). zeros k) q) in
+      record {
+        written = [];
+        count = refl;
+        held = record { size = z; kept = λ _. all; behind = filled-behind m [] buf (omega arith) all };
+        on = λ ts r. (ts, r, rw b);
+        back = λ us r. (us, r, rw b);
+        in-run = omega arith;
+        in-source = omega arith;
+        in-value = omega arith;
+        few = omega arith;
+        fewer = λ _. omega arith;
+      }
+
+  -- a reading goes on by the step that stands there
+  next : (s v : ℕ) (t : Step) (ts : List Step) → v < len → at s v ≡ t → Reads at len s v ts
+      → (us : List Step) × (ts ≡ t ∷ us) × Reads at len (s + sourceLen t) (v + contentLen t) us
+  unfolding Reads
+  next s v t [] h e r = absurd (omega arith)
+  next s v t (u ∷ us) h e r =
+      let q : u ≡ t = sym (r .1) ∙ e in
+      (us, ap (λ (x : Step). x ∷ us) q, subst (λ (x : Step). Reads at len (s + sourceLen x) (v + contentLen x) us) q (r .3))
+
+  module _ (fair : Fair at L len) (buf : List ℕ) (s v from n : ℕ) (h : Going buf s v from n) where
+    -- with the open run written
+    abbrev W : List Piece
+    W = h .written ++ closed (base + from) (base + s)
+
+    count-W : countOpen n from s ≡ length W
+    count-W = ap (λ (k : ℕ). countOpen k from s) (sym (h .count)) ∙ sym (open-count (h .written) base from s)
+
+    kept-W : Kept m W (putOpen buf n base from s)
+    kept-W = subst (λ (k : ℕ). Kept m W (putOpen buf k base from s)) (h .count) (open-kept m (h .written) buf base from s (h .held))
+
+    module _ (more : v < len) where
+      pub on-verbatim : (k : ℕ) → at s v ≡ Verbatim k → Going buf (s + k) (v + k) from n
+      unfolding Reads laid
+      on-verbatim k e =
+          let b = fair .same s v k more e in
+          let q : base + (s + k) ≡ base + s + k = omega arith in
+          let few′ = h .few in
+          let fewer′ = h .fewer more in
+          let run = h .in-run in
+          record {
+            written = h .written;
+            count = h .count;
+            held = h .held;
+            on = λ ts r. rw q (h .on (Verbatim k ∷ ts) (more, e, tt, r));
+            back = λ us r.
+                let g = h .back us r in
+                let x = next s v (Verbatim k) (g .0) more e (g .1) in
+                (x .0, x .2, rw q (g .2 ∙ ap (λ (l : List Step). h .written ++ laid (base + from) (base + s) l) (x .1)));
+            in-run = omega arith;
+            in-source = omega arith;
+            in-value = omega arith;
+            few = omega arith;
+            fewer = λ _. fewer′;
+          }
+
+      pub on-replacement : (a b : ℕ) (e : at s v ≡ Replacement a b) (n′ : ℕ) (buf′ : List ℕ)
+          → n′ ≡ countOpen n from s + 1 → buf′ ≡ putReplacement buf n base from s a b → Going buf′ (s + a) (v + b) (s + a) n′
+      unfolding Reads laid putReplacement
+      on-replacement a b e n′ buf′ en eb =
+          let p : Piece = piece replacement (base + s) (base + s + a) b in
+          let q : base + (s + a) ≡ base + s + a = omega arith in
+          let c : countOpen n from s ≡ length W = count-W in
+          let le : countOpen n from s ≤ s = count-within n from s (h .fewer more) (h .in-run) in
+          let bounds = fair .other s v a b more e in
+          let size = length-append W (p ∷ []) in
+          record {
+            written = W ++ (p ∷ []);
+            count = omega arith;
+            held =
+                subst (λ (l : List ℕ). Kept m (W ++ (p ∷ [])) l) (sym (eb ∙ ap (λ (k : ℕ). putPiece (putOpen buf n base from s) k p) c))
+                (put-kept m W (putOpen buf n base from s) p kept-W);
+            on = λ ts r.
+                let g = h .on (Replacement a b ∷ ts) (more, e, tt, r) in
+                (g .0, g .1, rw q (g .2 ∙ regroup (h .written) (closed (base + from) (base + s)) p (laid (base + s + a) (base + s + a) ts)));
+            back = λ us r.
+                let g = h .back us r in
+                let x = next s v (Replacement a b) (g .0) more e (g .1) in
+                (x .0, x .2, rw q (g .2 ∙ ap (λ (l : List Step). h .written ++ laid (base + from) (base + s) l) (x .1) ∙ regroup (h .written) (closed (base + from) (base + s)) p (laid (base + s + a) (base + s + a) (x .0))));
+            in-run = omega arith;
+            in-source = ⊎-elim (λ w. omega arith) (λ w. let i = h .in-source in omega arith) (bounds .1);
+            in-value = bounds .0;
+            few = omega arith;
+            fewer = λ lt. ⊎-elim (λ w. omega arith) (λ w. absurd (omega arith)) (bounds .1);
+          }
+
+      -- stuck short of the value's end: no reading at all
+      pub on-none : at s v ≡ NoStep → (us : List Step) → Reads at len 0 0 us → ⊥
+      unfolding Reads
+      on-none e us r =
+          let g = h .back us r in
+          let x = next s v NoStep (g .0) more e (g .1) in
+          subst (λ (l : List Step). Reads at len s v l) (x .1) (g .1) .2
+
+    -- at the value's end: the reading, and all its pieces
+    module _ (end : len ≤ v) where
+      pub at-end : (us : List Step) × Reads at len 0 0 us × (laid base base us ≡ W)
+      unfolding Reads laid
+      at-end = h .on [] end
+
+      pub end-count : length (laid base base (at-end .0)) ≡ countOpen n from s
+      end-count = ap length (at-end .2) ∙ sym count-W
+
+      pub end-kept : Kept m (laid base base (at-end .0)) (putOpen buf n base from s)
+      end-kept = subst (λ (l : List Piece). Kept m l (putOpen buf n base from s)) (sym (at-end .2)) kept-W

@@ -1,0 +1,31 @@
+-- `provenance::escape::code_content` meets its contract: it asks for the surrogates. Assumes nothing.
+use borrow.Author.Tests.{lt-ltb, le-ltb, le-leb, lt-leb, eq-eqb, ne-eqb, not-true, not-false}
+use Rattle.provenance.specs.Escape.{codeContent}
+use borrow.Author.Needs.{needs}
+use Rattle.provenance.proofs.escape.code_content.Statement.{statement}
+use Rattle.provenance.proofs.escape.code_content.Tie as tie
+use Rattle.provenance.proofs.escape.code_content.Reads as reads
+use Rattle.provenance.proofs.escape.code_content.Lts as lts
+use Rattle.provenance.proofs.escape.encoded_len.Reads as encoded-len-reads
+
+encoded-len-requires : tie.Need-encoded-len-requires
+encoded-len-requires c κs = search needs
+
+returns : tie.Need-returns
+unfolding codeContent
+returns c = rw (lt-leb _ _ (c .before .if1 .taken)) (c .encoded-len .ensures)
+
+returns-2 : tie.Need-returns-2
+unfolding codeContent
+returns-2 c = rw (le-leb _ _ (c .before .if1 .left), le-leb _ _ (c .if2 .taken))
+
+encoded-len-requires-2 : tie.Need-encoded-len-requires-2
+encoded-len-requires-2 c κs = search needs
+
+returns-3 : tie.Need-returns-3
+unfolding codeContent
+returns-3 c = rw (le-leb _ _ (c .before .before .if1 .left), lt-leb _ _ (c .before .if2 .left)) (c .encoded-len2 .ensures)
+
+pub code-content-spec : {M : Type 1} → statement M
+code-content-spec =
+    tie.close (tie.spec encoded-len-requires returns returns-2 encoded-len-requires-2 returns-3)

@@ -1,0 +1,23 @@
+-- `provenance::escape::encoded_len` meets its contract: it asks as the encoding does. Assumes nothing.
+use borrow.Author.Tests.{lt-ltb, le-ltb, le-leb, lt-leb, eq-eqb, ne-eqb, not-true, not-false}
+use native.Mathlib.Omega.{arith}
+use Rattle.text.specs.Utf8.{encode}
+use Rattle.provenance.proofs.escape.encoded_len.Statement.{statement}
+use Rattle.provenance.proofs.escape.encoded_len.Tie as tie
+use Rattle.provenance.proofs.escape.encoded_len.Reads as reads
+use Rattle.provenance.proofs.escape.encoded_len.Lts as lts
+
+returns : tie.Need-returns
+unfolding encode
+returns c = rw (lt-ltb _ _ (c .if1 .taken))
+
+returns-2 : tie.Need-returns-2
+unfolding encode
+returns-2 c = rw (le-ltb _ _ (c .before .if1 .left), lt-ltb _ _ (c .if2 .taken))
+
+returns-3 : tie.Need-returns-3
+unfolding encode
+returns-3 c = rw (le-ltb _ _ (c .before .if1 .left), le-ltb _ _ (c .if2 .left), lt-ltb _ _ (c .before .before .pre))
+
+pub encoded-len-spec : {M : Type 1} → statement M
+encoded-len-spec = tie.close (tie.spec returns returns-2 returns-3)

@@ -1,0 +1,35 @@
+-- `provenance::escape::escape_len` meets its contract: the table is the style's. Assumes nothing.
+use mathlib.Core.Path.{_≡_, refl, sym, ap, _∙_}
+use Rattle.provenance.proofs.Escapes.{by-single, by-double, by-neither}
+use borrow.Author.Needs.{needs}
+use Rattle.provenance.proofs.escape.escape_len.Statement.{statement}
+use Rattle.provenance.proofs.escape.escape_len.Tie as tie
+use Rattle.provenance.proofs.escape.escape_len.Reads as reads
+use Rattle.provenance.proofs.escape.escape_len.Lts as lts
+use Rattle.provenance.proofs.escape.double_quote_escape.Reads as double-quote-escape-reads
+use Rattle.provenance.proofs.escape.single_quote_escape.Reads as single-quote-escape-reads
+
+single-quote-escape-requires : tie.Need-single-quote-escape-requires
+single-quote-escape-requires c κs = search needs
+
+returns : tie.Need-returns
+returns c = by-single (c .before .before .before .args .style) (c .before .before .before .args .tail .now) _ (c .before .if1 .taken) (c .single-quote-escape .ensures)
+
+double-quote-escape-requires : tie.Need-double-quote-escape-requires
+double-quote-escape-requires c κs = search needs
+
+returns-2 : tie.Need-returns-2
+returns-2 c = by-double (c .before .before .before .before .args .style) (c .before .before .before .before .args .tail .now) _ (c .before .before .if1 .left) (c .before .if2 .taken) (c .double-quote-escape .ensures)
+
+returns-3 : tie.Need-returns-3
+returns-3 c = by-neither (c .before .before .before .args .style) (c .before .before .before .args .tail .now) _ (c .before .if1 .left) (c .if2 .left) refl
+
+pub escape-len-spec : {M : Type 1} → statement M
+escape-len-spec =
+    tie.close
+    (tie.spec
+    single-quote-escape-requires
+    returns
+    double-quote-escape-requires
+    returns-2
+    returns-3)

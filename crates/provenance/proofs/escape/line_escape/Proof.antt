@@ -1,0 +1,28 @@
+-- `provenance::escape::line_escape` meets its contract: the run is what the call says. Assumes nothing.
+use mathlib.Core.Path.{_≡_, refl, sym, ap, _∙_}
+use native.Mathlib.Omega.{arith}
+use Prim.Native.Nat.{ℕ, _+_}
+use lib.ListN.{length}
+use Rattle.provenance.specs.declared.run.Run.{Run}
+use Rattle.provenance.specs.declared.escape.Escape.the-variants.{Takes}
+use Rattle.provenance.specs.Run.{whiteRun}
+use Rattle.provenance.proofs.Runs.{run-within}
+use Rattle.provenance.proofs.Takes.{numbers-of}
+use borrow.Author.Needs.{needs}
+use Rattle.provenance.proofs.escape.line_escape.Statement.{statement}
+use Rattle.provenance.proofs.escape.line_escape.Tie as tie
+use Rattle.provenance.proofs.escape.line_escape.Reads as reads
+use Rattle.provenance.proofs.escape.line_escape.Lts as lts
+use Rattle.provenance.proofs.run.white_space_run.Reads as white-space-run-reads
+
+white-space-run-requires : tie.Need-white-space-run-requires
+white-space-run-requires c κs = search needs
+
+add-t3 : tie.Need-add-t3
+add-t3 c = let n = numbers-of _ (c .before .before .before .args .after .now) (c .before .white-space-run .ensures) .0 in let w = run-within (c .before .before .before .args .after .now) in omega arith
+
+returns : tie.Need-returns
+returns c = ap (λ (k : ℕ). Takes (1 + k) 0) (numbers-of _ (c .before .before .before .args .after .now) (c .before .white-space-run .ensures) .0)
+
+pub line-escape-spec : {M : Type 1} → statement M
+line-escape-spec = tie.close (tie.spec white-space-run-requires add-t3 returns)

@@ -1,0 +1,71 @@
+-- `provenance::scalar::scalar_provenance` meets its contract: the rest of the text is handed on where the walk can start. Assumes nothing.
+use mathlib.Core.Path.{_≡_, refl, sym, ap, _∙_}
+use borrow.Author.Tests.{lt-ltb, le-ltb, le-leb, lt-leb, eq-eqb, ne-eqb, not-true, not-false}
+use native.Mathlib.Omega.{arith}
+use Prim.Native.Nat.{ℕ, _≤_}
+use lib.ListN.{length, drop, length-drop}
+use Rattle.provenance.specs.Start.{walkStart}
+use Rattle.provenance.specs.Grammar.{rulesOf}
+use Rattle.text.specs.Boundary.{isBoundary}
+use Rattle.text.specs.Utf8Laws.{is-boundary}
+use Rattle.provenance.proofs.Tests.{part-is}
+use Rattle.provenance.proofs.Starts.{cannot-start, can-start}
+use borrow.Author.Needs.{needs}
+use Rattle.provenance.proofs.scalar.scalar_provenance.Statement.{statement}
+use Rattle.provenance.proofs.scalar.scalar_provenance.Tie as tie
+use Rattle.provenance.proofs.scalar.scalar_provenance.Reads as reads
+use Rattle.provenance.proofs.scalar.scalar_provenance.Lts as lts
+use Rattle.provenance.proofs.start.walk_start.Reads as walk-start-reads
+use Rattle.provenance.proofs.walk.walk_scalar_provenance.Reads as walk-scalar-provenance-reads
+use Rattle.text.proofs.utf8.is_boundary.Reads as is-boundary-reads
+
+walk-start-requires : tie.Need-walk-start-requires
+walk-start-requires c κs = search needs
+
+is-boundary-requires : tie.Need-is-boundary-requires
+is-boundary-requires c κs = search needs
+
+returns : tie.Need-returns
+returns c =
+    let a = c .before .before .before .before .before .before .args in
+    cannot-start (a .text .now) (a .start) (a .len) (a .value .now) (a .style) (a .column) (a .pieces .now) (c .before .before .before .before .before .before .pre .1) (c .before .before .walk-start .result) (c .before .before .walk-start .ensures) (sym (c .before .is-boundary .ensures) ∙ not-true _ (c .if1 .taken))
+
+sub-walk-scalar-provenance : tie.Need-sub-walk-scalar-provenance
+sub-walk-scalar-provenance c = let h = is-boundary (sym (c .before .is-boundary .ensures) ∙ not-false _ (c .if1 .left)) .within in omega arith
+
+part-walk-scalar-provenance-start : tie.Need-part-walk-scalar-provenance-start
+part-walk-scalar-provenance-start c = let h = is-boundary (sym (c .before .is-boundary .ensures) ∙ not-false _ (c .if1 .left)) .within in omega arith
+
+part-walk-scalar-provenance-end : tie.Need-part-walk-scalar-provenance-end
+part-walk-scalar-provenance-end c = search needs
+
+walk-scalar-provenance-requires : tie.Need-walk-scalar-provenance-requires
+walk-scalar-provenance-requires c κs =
+    let a = c .before .before .before .before .before .before .before .before .args in
+    let h = is-boundary (sym (c .before .before .before .is-boundary .ensures) ∙ not-false _ (c .before .before .if1 .left)) .within in
+    let d = length-drop (c .before .before .before .before .walk-start .result) (a .text .now) in
+    (rw (part-is (a .text .now) (c .before .before .before .before .walk-start .result)) (omega arith, omega arith, omega arith, omega arith), c .before .before .before .before .before .before .before .before .pre .1)
+
+same-length : tie.Need-same-length
+same-length c = search needs
+
+returns-2 : tie.Need-returns-2
+returns-2 c =
+    let a = c .before .before .before .before .before .before .before .before .before .before .before .args in
+    let w = c .before .before .walk-scalar-provenance in
+    can-start (a .text .now) (a .start) (a .len) (a .value .now) (a .style) (a .column) (length (a .pieces .now)) (c .before .before .before .before .before .before .before .walk-start .result) (c .before .before .before .before .before .before .before .walk-start .ensures) (sym (c .before .before .before .before .before .before .is-boundary .ensures) ∙ not-false _ (c .before .before .before .before .before .if1 .left))
+    _ _ (rw (part-is (a .text .now) (c .before .before .before .before .before .before .before .walk-start .result)) at (w .ensures))
+
+pub scalar-provenance-spec : {M : Type 1} → statement M
+scalar-provenance-spec =
+    tie.close
+    (tie.spec
+    walk-start-requires
+    is-boundary-requires
+    returns
+    sub-walk-scalar-provenance
+    part-walk-scalar-provenance-start
+    part-walk-scalar-provenance-end
+    walk-scalar-provenance-requires
+    same-length
+    returns-2)

@@ -1,0 +1,33 @@
+-- `provenance::start::at_empty_block_header` meets its contract: both questions are asked. Assumes nothing.
+use mathlib.Core.Path.{_≡_, refl, sym, ap, _∙_}
+use Prim.Native.Nat.{ℕ}
+use Rattle.provenance.specs.Start.{isHeader}
+use Rattle.provenance.proofs.Starts.{header-yes, header-no}
+use borrow.Author.Needs.{needs}
+use Rattle.provenance.proofs.start.at_empty_block_header.Statement.{statement}
+use Rattle.provenance.proofs.start.at_empty_block_header.Tie as tie
+use Rattle.provenance.proofs.start.at_empty_block_header.Reads as reads
+use Rattle.provenance.proofs.start.at_empty_block_header.Lts as lts
+use Rattle.provenance.proofs.run.only_newlines.Reads as only-newlines-reads
+use Rattle.provenance.proofs.start.is_header.Reads as is-header-reads
+use Rattle.text.proofs.utf8.byte_at.Reads as byte-at-reads
+
+byte-at-requires : tie.Need-byte-at-requires
+byte-at-requires c κs = search needs
+
+is-header-requires : tie.Need-is-header-requires
+is-header-requires c κs = search needs
+
+only-newlines-requires : tie.Need-only-newlines-requires
+only-newlines-requires c κs = search needs
+
+returns : tie.Need-returns
+returns c = header-yes (c .before .before .before .before .before .before .args .rest .now) (c .before .before .before .before .before .before .args .value .now) (ap (λ (b : ℕ). isHeader b) (sym (c .before .before .before .byte-at .ensures)) ∙ sym (c .before .before .is-header .ensures) ∙ c .before .if1 .taken) _ (c .only-newlines .ensures)
+
+returns-2 : tie.Need-returns-2
+returns-2 c = header-no (c .before .before .before .before .before .args .rest .now) (c .before .before .before .before .before .args .value .now) (ap (λ (b : ℕ). isHeader b) (sym (c .before .before .byte-at .ensures)) ∙ sym (c .before .is-header .ensures) ∙ c .if1 .left)
+
+pub at-empty-block-header-spec : {M : Type 1} → statement M
+at-empty-block-header-spec =
+    tie.close
+    (tie.spec byte-at-requires is-header-requires only-newlines-requires returns returns-2)

@@ -1,0 +1,82 @@
+-- `provenance::step::break_run` meets its contract: the run is looked at where it is not known and may begin a break. Assumes nothing.
+use mathlib.Core.Path.{_≡_, refl, sym, ap, _∙_}
+use borrow.Author.Tests.{lt-ltb, le-ltb, le-leb, lt-leb, eq-eqb, ne-eqb, not-true, not-false}
+use native.Mathlib.Omega.{arith}
+use Prim.Native.Nat.{_<_}
+use mathlib.Core.Bool.{true}
+use lib.ListN.{length, getD}
+use Rattle.provenance.specs.Grammar.{isBlock, opensBreak}
+use Rattle.provenance.proofs.Tests.{part-is}
+use Rattle.provenance.proofs.Takes.{opens-told, opens-inside, run-closed, run-opened}
+use borrow.Author.Needs.{needs}
+use Rattle.provenance.proofs.step.break_run.Statement.{statement}
+use Rattle.provenance.proofs.step.break_run.Tie as tie
+use Rattle.provenance.proofs.step.break_run.Reads as reads
+use Rattle.provenance.proofs.step.break_run.Lts as lts
+use Rattle.provenance.proofs.run.white_space_run.Reads as white-space-run-reads
+use Rattle.provenance.proofs.step.is_block.Reads as is-block-reads
+use Rattle.provenance.proofs.step.opens_break.Reads as opens-break-reads
+use Rattle.text.proofs.utf8.byte_at.Reads as byte-at-reads
+
+returns : tie.Need-returns
+returns c = rw (lt-ltb _ _ (c .if1 .taken))
+
+is-block-requires : tie.Need-is-block-requires
+is-block-requires c κs = search needs
+
+byte-at-requires : tie.Need-byte-at-requires
+byte-at-requires c κs = search needs
+
+byte-at-requires-2 : tie.Need-byte-at-requires-2
+byte-at-requires-2 c κs = search needs
+
+opens-break-requires : tie.Need-opens-break-requires
+opens-break-requires c κs = search needs
+
+returns-2 : tie.Need-returns-2
+returns-2 c =
+    let a = c .before .before .before .before .before .before .before .before .args in
+    let opens = opens-told _ _ (isBlock (a .style)) _ (getD (a .src .now) (a .s) 0) _ (getD (a .value .now) (a .v) 0) (c .before .opens-break .ensures) (c .before .before .before .before .is-block .ensures) (c .before .before .before .byte-at .ensures) (c .before .before .byte-at2 .ensures) in
+    run-closed (isBlock (a .style)) (a .src .now) (a .value .now) (a .s) (a .v) (a .known) (c .before .before .before .before .before .if1 .left) (opens ∙ not-true _ (c .if2 .taken))
+
+sub-white-space-run : tie.Need-sub-white-space-run
+sub-white-space-run c =
+    let a = c .before .before .before .before .before .before .before .before .args in
+    let opens = opens-told _ _ (isBlock (a .style)) _ (getD (a .src .now) (a .s) 0) _ (getD (a .value .now) (a .v) 0) (c .before .opens-break .ensures) (c .before .before .before .before .is-block .ensures) (c .before .before .before .byte-at .ensures) (c .before .before .byte-at2 .ensures) in
+    let h : a .s < length (a .src .now) = opens-inside (isBlock (a .style)) (a .src .now) (a .s) (getD (a .value .now) (a .v) 0) (opens ∙ not-false _ (c .if2 .left)) in
+    omega arith
+
+part-white-space-run-start : tie.Need-part-white-space-run-start
+part-white-space-run-start c =
+    let a = c .before .before .before .before .before .before .before .before .args in
+    let opens = opens-told _ _ (isBlock (a .style)) _ (getD (a .src .now) (a .s) 0) _ (getD (a .value .now) (a .v) 0) (c .before .opens-break .ensures) (c .before .before .before .before .is-block .ensures) (c .before .before .before .byte-at .ensures) (c .before .before .byte-at2 .ensures) in
+    let h : a .s < length (a .src .now) = opens-inside (isBlock (a .style)) (a .src .now) (a .s) (getD (a .value .now) (a .v) 0) (opens ∙ not-false _ (c .if2 .left)) in
+    omega arith
+
+part-white-space-run-end : tie.Need-part-white-space-run-end
+part-white-space-run-end c = search needs
+
+white-space-run-requires : tie.Need-white-space-run-requires
+white-space-run-requires c κs = search needs
+
+returns-3 : tie.Need-returns-3
+returns-3 c =
+    let a = c .before .before .before .before .before .before .before .before .before .before .args in
+    let opens = opens-told _ _ (isBlock (a .style)) _ (getD (a .src .now) (a .s) 0) _ (getD (a .value .now) (a .v) 0) (c .before .before .before .opens-break .ensures) (c .before .before .before .before .before .before .is-block .ensures) (c .before .before .before .before .before .byte-at .ensures) (c .before .before .before .before .byte-at2 .ensures) in
+    run-opened (isBlock (a .style)) (a .src .now) (a .value .now) (a .s) (a .v) (a .known) (c .before .before .before .before .before .before .before .if1 .left) (opens ∙ not-false _ (c .before .before .if2 .left)) _ (rw (part-is (a .src .now) (a .s)) at (c .white-space-run .ensures))
+
+pub break-run-spec : {M : Type 1} → statement M
+break-run-spec =
+    tie.close
+    (tie.spec
+    returns
+    is-block-requires
+    byte-at-requires
+    byte-at-requires-2
+    opens-break-requires
+    returns-2
+    sub-white-space-run
+    part-white-space-run-start
+    part-white-space-run-end
+    white-space-run-requires
+    returns-3)

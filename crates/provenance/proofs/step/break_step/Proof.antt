@@ -1,0 +1,178 @@
+-- `provenance::step::break_step` meets its contract: the two sides have the lengths that the calls say, and are compared. Assumes nothing.
+use mathlib.Core.Path.{_≡_, refl, sym, ap, _∙_}
+use native.Mathlib.Omega.{arith}
+use Prim.Native.Nat.{ℕ, _+_, _-_, _≤_}
+use lib.ListN.{length, take, drop, length-drop}
+use Rattle.provenance.specs.Run.{whiteRun, newlinesIn}
+use Rattle.provenance.proofs.Tests.{part-is}
+use Rattle.provenance.proofs.Runs.{run-within, last-within}
+use Rattle.provenance.proofs.Takes.{numbers-of, cut-of, blanks-of, cut-inside, blanks-inside, pair-same, pair-other}
+use borrow.Author.Needs.{needs}
+use Rattle.provenance.proofs.step.break_step.Statement.{statement}
+use Rattle.provenance.proofs.step.break_step.Tie as tie
+use Rattle.provenance.proofs.step.break_step.Reads as reads
+use Rattle.provenance.proofs.step.break_step.Lts as lts
+use Rattle.check.proofs.same.Reads as same-reads
+use Rattle.provenance.proofs.run.blanks.Reads as blanks-reads
+use Rattle.provenance.proofs.run.cut_len.Reads as cut-len-reads
+
+cut-len-requires : tie.Need-cut-len-requires
+cut-len-requires c κs =
+    let a = c .before .before .args in
+    let n = numbers-of (a .run) (drop (a .s) (a .src .now)) (c .before .before .pre .1) .2 in
+    let w = last-within (whiteRun (drop (a .s) (a .src .now))) in
+    let r = run-within (drop (a .s) (a .src .now)) in
+    let d = length-drop (a .s) (a .src .now) in
+    (omega arith, omega arith)
+
+sub-blanks : tie.Need-sub-blanks
+sub-blanks c = search needs
+
+part-blanks-start : tie.Need-part-blanks-start
+part-blanks-start c = search needs
+
+part-blanks-end : tie.Need-part-blanks-end
+part-blanks-end c = search needs
+
+blanks-requires : tie.Need-blanks-requires
+blanks-requires c κs = search needs
+
+add-source-end : tie.Need-add-source-end
+add-source-end c =
+    let a = c .before .before .before .before .before .args in
+    let ea = cut-of (a .block) (a .column) (a .run) (drop (a .s) (a .src .now)) (c .before .before .cut-len .result) (c .before .before .cut-len .ensures) (c .before .before .before .before .before .pre .1) in
+    let eb = blanks-of (a .run) (drop (a .s) (a .src .now)) (drop (a .v) (a .value .now)) (c .blanks .result) (rw (part-is (a .value .now) (a .v)) at (c .blanks .ensures)) (c .before .before .before .before .before .pre .1) in
+    let ia = cut-inside (a .block) (a .column) (drop (a .s) (a .src .now)) in
+    let ib = blanks-inside (newlinesIn (whiteRun (drop (a .s) (a .src .now)))) (drop (a .v) (a .value .now)) in
+    let da = length-drop (a .s) (a .src .now) in
+    let db = length-drop (a .v) (a .value .now) in
+    omega arith
+
+add-value-end : tie.Need-add-value-end
+add-value-end c =
+    let a = c .before .before .before .before .before .args in
+    let ea = cut-of (a .block) (a .column) (a .run) (drop (a .s) (a .src .now)) (c .before .before .cut-len .result) (c .before .before .cut-len .ensures) (c .before .before .before .before .before .pre .1) in
+    let eb = blanks-of (a .run) (drop (a .s) (a .src .now)) (drop (a .v) (a .value .now)) (c .blanks .result) (rw (part-is (a .value .now) (a .v)) at (c .blanks .ensures)) (c .before .before .before .before .before .pre .1) in
+    let ia = cut-inside (a .block) (a .column) (drop (a .s) (a .src .now)) in
+    let ib = blanks-inside (newlinesIn (whiteRun (drop (a .s) (a .src .now)))) (drop (a .v) (a .value .now)) in
+    let da = length-drop (a .s) (a .src .now) in
+    let db = length-drop (a .v) (a .value .now) in
+    omega arith
+
+sub-same : tie.Need-sub-same
+sub-same c =
+    let a = c .before .before .before .before .before .args in
+    let ea = cut-of (a .block) (a .column) (a .run) (drop (a .s) (a .src .now)) (c .before .before .cut-len .result) (c .before .before .cut-len .ensures) (c .before .before .before .before .before .pre .1) in
+    let eb = blanks-of (a .run) (drop (a .s) (a .src .now)) (drop (a .v) (a .value .now)) (c .blanks .result) (rw (part-is (a .value .now) (a .v)) at (c .blanks .ensures)) (c .before .before .before .before .before .pre .1) in
+    let ia = cut-inside (a .block) (a .column) (drop (a .s) (a .src .now)) in
+    let ib = blanks-inside (newlinesIn (whiteRun (drop (a .s) (a .src .now)))) (drop (a .v) (a .value .now)) in
+    let da = length-drop (a .s) (a .src .now) in
+    let db = length-drop (a .v) (a .value .now) in
+    omega arith
+
+part-same-start : tie.Need-part-same-start
+part-same-start c =
+    let a = c .before .before .before .before .before .args in
+    let ea = cut-of (a .block) (a .column) (a .run) (drop (a .s) (a .src .now)) (c .before .before .cut-len .result) (c .before .before .cut-len .ensures) (c .before .before .before .before .before .pre .1) in
+    let eb = blanks-of (a .run) (drop (a .s) (a .src .now)) (drop (a .v) (a .value .now)) (c .blanks .result) (rw (part-is (a .value .now) (a .v)) at (c .blanks .ensures)) (c .before .before .before .before .before .pre .1) in
+    let ia = cut-inside (a .block) (a .column) (drop (a .s) (a .src .now)) in
+    let ib = blanks-inside (newlinesIn (whiteRun (drop (a .s) (a .src .now)))) (drop (a .v) (a .value .now)) in
+    let da = length-drop (a .s) (a .src .now) in
+    let db = length-drop (a .v) (a .value .now) in
+    omega arith
+
+part-same-end : tie.Need-part-same-end
+part-same-end c =
+    let a = c .before .before .before .before .before .args in
+    let ea = cut-of (a .block) (a .column) (a .run) (drop (a .s) (a .src .now)) (c .before .before .cut-len .result) (c .before .before .cut-len .ensures) (c .before .before .before .before .before .pre .1) in
+    let eb = blanks-of (a .run) (drop (a .s) (a .src .now)) (drop (a .v) (a .value .now)) (c .blanks .result) (rw (part-is (a .value .now) (a .v)) at (c .blanks .ensures)) (c .before .before .before .before .before .pre .1) in
+    let ia = cut-inside (a .block) (a .column) (drop (a .s) (a .src .now)) in
+    let ib = blanks-inside (newlinesIn (whiteRun (drop (a .s) (a .src .now)))) (drop (a .v) (a .value .now)) in
+    let da = length-drop (a .s) (a .src .now) in
+    let db = length-drop (a .v) (a .value .now) in
+    omega arith
+
+sub-same-2 : tie.Need-sub-same-2
+sub-same-2 c =
+    let a = c .before .before .before .before .before .before .args in
+    let ea = cut-of (a .block) (a .column) (a .run) (drop (a .s) (a .src .now)) (c .before .before .before .cut-len .result) (c .before .before .before .cut-len .ensures) (c .before .before .before .before .before .before .pre .1) in
+    let eb = blanks-of (a .run) (drop (a .s) (a .src .now)) (drop (a .v) (a .value .now)) (c .before .blanks .result) (rw (part-is (a .value .now) (a .v)) at (c .before .blanks .ensures)) (c .before .before .before .before .before .before .pre .1) in
+    let ia = cut-inside (a .block) (a .column) (drop (a .s) (a .src .now)) in
+    let ib = blanks-inside (newlinesIn (whiteRun (drop (a .s) (a .src .now)))) (drop (a .v) (a .value .now)) in
+    let da = length-drop (a .s) (a .src .now) in
+    let db = length-drop (a .v) (a .value .now) in
+    omega arith
+
+part-same-start-2 : tie.Need-part-same-start-2
+part-same-start-2 c =
+    let a = c .before .before .before .before .before .before .args in
+    let ea = cut-of (a .block) (a .column) (a .run) (drop (a .s) (a .src .now)) (c .before .before .before .cut-len .result) (c .before .before .before .cut-len .ensures) (c .before .before .before .before .before .before .pre .1) in
+    let eb = blanks-of (a .run) (drop (a .s) (a .src .now)) (drop (a .v) (a .value .now)) (c .before .blanks .result) (rw (part-is (a .value .now) (a .v)) at (c .before .blanks .ensures)) (c .before .before .before .before .before .before .pre .1) in
+    let ia = cut-inside (a .block) (a .column) (drop (a .s) (a .src .now)) in
+    let ib = blanks-inside (newlinesIn (whiteRun (drop (a .s) (a .src .now)))) (drop (a .v) (a .value .now)) in
+    let da = length-drop (a .s) (a .src .now) in
+    let db = length-drop (a .v) (a .value .now) in
+    omega arith
+
+part-same-end-2 : tie.Need-part-same-end-2
+part-same-end-2 c =
+    let a = c .before .before .before .before .before .before .args in
+    let ea = cut-of (a .block) (a .column) (a .run) (drop (a .s) (a .src .now)) (c .before .before .before .cut-len .result) (c .before .before .before .cut-len .ensures) (c .before .before .before .before .before .before .pre .1) in
+    let eb = blanks-of (a .run) (drop (a .s) (a .src .now)) (drop (a .v) (a .value .now)) (c .before .blanks .result) (rw (part-is (a .value .now) (a .v)) at (c .before .blanks .ensures)) (c .before .before .before .before .before .before .pre .1) in
+    let ia = cut-inside (a .block) (a .column) (drop (a .s) (a .src .now)) in
+    let ib = blanks-inside (newlinesIn (whiteRun (drop (a .s) (a .src .now)))) (drop (a .v) (a .value .now)) in
+    let da = length-drop (a .s) (a .src .now) in
+    let db = length-drop (a .v) (a .value .now) in
+    omega arith
+
+same-requires : tie.Need-same-requires
+same-requires c κs = search needs
+
+returns : tie.Need-returns
+returns c =
+    let a = c .before .before .before .before .before .before .before .before .before .args in
+    let ea = cut-of (a .block) (a .column) (a .run) (drop (a .s) (a .src .now)) (c .before .before .before .before .before .before .cut-len .result) (c .before .before .before .before .before .before .cut-len .ensures) (c .before .before .before .before .before .before .before .before .before .pre .1) in
+    let eb = blanks-of (a .run) (drop (a .s) (a .src .now)) (drop (a .v) (a .value .now)) (c .before .before .before .before .blanks .result) (rw (part-is (a .value .now) (a .v)) at (c .before .before .before .before .blanks .ensures)) (c .before .before .before .before .before .before .before .before .before .pre .1) in
+    let ia = cut-inside (a .block) (a .column) (drop (a .s) (a .src .now)) in
+    let ib = blanks-inside (newlinesIn (whiteRun (drop (a .s) (a .src .now)))) (drop (a .v) (a .value .now)) in
+    let da = length-drop (a .s) (a .src .now) in
+    let db = length-drop (a .v) (a .value .now) in
+    let qa : a .s + c .before .before .before .before .before .before .cut-len .result - a .s ≡ c .before .before .before .before .before .before .cut-len .result = omega arith in
+    let qb : a .v + c .before .before .before .before .blanks .result - a .v ≡ c .before .before .before .before .blanks .result = omega arith in
+    let same = rw (qa, qb) at (c .before .same .ensures) in
+    pair-same (a .block) (a .column) (drop (a .s) (a .src .now)) (drop (a .v) (a .value .now)) _ _ ea eb (same .0 (c .if1 .taken))
+
+returns-2 : tie.Need-returns-2
+returns-2 c =
+    let a = c .before .before .before .before .before .before .before .before .before .args in
+    let ea = cut-of (a .block) (a .column) (a .run) (drop (a .s) (a .src .now)) (c .before .before .before .before .before .before .cut-len .result) (c .before .before .before .before .before .before .cut-len .ensures) (c .before .before .before .before .before .before .before .before .before .pre .1) in
+    let eb = blanks-of (a .run) (drop (a .s) (a .src .now)) (drop (a .v) (a .value .now)) (c .before .before .before .before .blanks .result) (rw (part-is (a .value .now) (a .v)) at (c .before .before .before .before .blanks .ensures)) (c .before .before .before .before .before .before .before .before .before .pre .1) in
+    let ia = cut-inside (a .block) (a .column) (drop (a .s) (a .src .now)) in
+    let ib = blanks-inside (newlinesIn (whiteRun (drop (a .s) (a .src .now)))) (drop (a .v) (a .value .now)) in
+    let da = length-drop (a .s) (a .src .now) in
+    let db = length-drop (a .v) (a .value .now) in
+    let qa : a .s + c .before .before .before .before .before .before .cut-len .result - a .s ≡ c .before .before .before .before .before .before .cut-len .result = omega arith in
+    let qb : a .v + c .before .before .before .before .blanks .result - a .v ≡ c .before .before .before .before .blanks .result = omega arith in
+    let same = rw (qa, qb) at (c .before .same .ensures) in
+    pair-other (a .block) (a .column) (drop (a .s) (a .src .now)) (drop (a .v) (a .value .now)) _ _ ea eb (c .before .same .result) (same .1) (c .if1 .left)
+
+pub break-step-spec : {M : Type 1} → statement M
+break-step-spec =
+    tie.close
+    (tie.spec
+    cut-len-requires
+    sub-blanks
+    part-blanks-start
+    part-blanks-end
+    blanks-requires
+    add-source-end
+    add-value-end
+    sub-same
+    part-same-start
+    part-same-end
+    sub-same-2
+    part-same-start-2
+    part-same-end-2
+    same-requires
+    returns
+    returns-2)

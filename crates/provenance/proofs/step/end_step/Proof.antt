@@ -1,0 +1,21 @@
+-- `provenance::step::end_step` meets its contract: only newlines may be left. Assumes nothing.
+use mathlib.Core.Path.{_≡_, refl, sym, ap, _∙_}
+use Rattle.provenance.proofs.Takes.{end-fits, end-not}
+use borrow.Author.Needs.{needs}
+use Rattle.provenance.proofs.step.end_step.Statement.{statement}
+use Rattle.provenance.proofs.step.end_step.Tie as tie
+use Rattle.provenance.proofs.step.end_step.Reads as reads
+use Rattle.provenance.proofs.step.end_step.Lts as lts
+use Rattle.provenance.proofs.run.only_newlines.Reads as only-newlines-reads
+
+only-newlines-requires : tie.Need-only-newlines-requires
+only-newlines-requires c κs = search needs
+
+returns : tie.Need-returns
+returns c = end-fits (c .before .before .before .args .tail .now) (sym (c .before .only-newlines .ensures) ∙ c .if1 .taken)
+
+returns-2 : tie.Need-returns-2
+returns-2 c = end-not (c .before .before .before .args .tail .now) (sym (c .before .only-newlines .ensures) ∙ c .if1 .left)
+
+pub end-step-spec : {M : Type 1} → statement M
+end-step-spec = tie.close (tie.spec only-newlines-requires returns returns-2)

@@ -1,0 +1,40 @@
+-- `provenance::step::opens_break` meets its contract: first the value's byte, then the source's. Assumes nothing.
+use mathlib.Core.Path.{_≡_, refl, sym, ap, _∙_}
+use borrow.Author.Tests.{lt-ltb, le-ltb, le-leb, lt-leb, eq-eqb, ne-eqb, not-true, not-false}
+use Rattle.provenance.proofs.Takes.{opens-not, opens-wide, opens-newline, opens-return}
+use borrow.Author.Needs.{needs}
+use Rattle.provenance.proofs.step.opens_break.Statement.{statement}
+use Rattle.provenance.proofs.step.opens_break.Tie as tie
+use Rattle.provenance.proofs.step.opens_break.Reads as reads
+use Rattle.provenance.proofs.step.opens_break.Lts as lts
+use Rattle.provenance.proofs.step.is_break_byte.Reads as is-break-byte-reads
+use Rattle.text.proofs.class.is_white_space_byte.Reads as is-white-space-byte-reads
+
+is-break-byte-requires : tie.Need-is-break-byte-requires
+is-break-byte-requires c κs = search needs
+
+returns : tie.Need-returns
+returns c = opens-not (c .before .before .args .block) (c .before .before .args .b) (c .before .before .args .c) (sym (c .before .is-break-byte .ensures) ∙ not-true _ (c .if1 .taken))
+
+is-white-space-byte-requires : tie.Need-is-white-space-byte-requires
+is-white-space-byte-requires c κs = search needs
+
+returns-2 : tie.Need-returns-2
+returns-2 c = c .is-white-space-byte .ensures ∙ opens-wide (c .before .before .before .before .args .block) (c .before .before .before .before .args .b) (c .before .before .before .before .args .c) (sym (c .before .before .before .is-break-byte .ensures) ∙ not-false _ (c .before .before .if1 .left)) (not-true _ (c .before .if2 .taken))
+
+returns-3 : tie.Need-returns-3
+returns-3 c = opens-newline (c .before .before .before .before .args .block) (c .before .before .before .before .args .b) (c .before .before .before .before .args .c) (sym (c .before .before .before .is-break-byte .ensures) ∙ not-false _ (c .before .before .if1 .left)) (not-false _ (c .before .if2 .left)) (c .if3 .taken)
+
+returns-4 : tie.Need-returns-4
+returns-4 c = opens-return (c .before .before .before .before .args .block) (c .before .before .before .before .args .b) (c .before .before .before .before .args .c) (sym (c .before .before .before .is-break-byte .ensures) ∙ not-false _ (c .before .before .if1 .left)) (not-false _ (c .before .if2 .left)) (c .if3 .left)
+
+pub opens-break-spec : {M : Type 1} → statement M
+opens-break-spec =
+    tie.close
+    (tie.spec
+    is-break-byte-requires
+    returns
+    is-white-space-byte-requires
+    returns-2
+    returns-3
+    returns-4)

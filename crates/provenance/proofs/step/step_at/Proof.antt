@@ -1,0 +1,126 @@
+-- `provenance::step::step_at` meets its contract: the four steps in turn, the first as the run tells it. Assumes nothing.
+use mathlib.Core.Path.{_≡_, refl, sym, ap, _∙_}
+use native.Mathlib.Omega.{arith}
+use Prim.Native.Nat.{ℕ, suc, _≤_, _<_}
+use lib.ListN.{length, drop, drop-of-length-le}
+use lib.Seq.{drop-cons}
+use mathlib.Core.Bool.{Bool}
+use Rattle.provenance.specs.Run.{whiteRun}
+use Rattle.provenance.specs.Grammar.{isBlock, rulesOf, breakPair}
+use Rattle.provenance.proofs.Tests.{part-is}
+use Rattle.provenance.proofs.Escapes.{escape-nowhere}
+use Rattle.provenance.proofs.Takes.{found, found-inside, step-break, step-escape, step-end, step-equal, step-nothing}
+use borrow.Author.Needs.{needs}
+use Rattle.provenance.proofs.step.step_at.Statement.{statement}
+use Rattle.provenance.proofs.step.step_at.Tie as tie
+use Rattle.provenance.proofs.step.step_at.Reads as reads
+use Rattle.provenance.proofs.step.step_at.Lts as lts
+use Rattle.provenance.proofs.escape.escape_len.Reads as escape-len-reads
+use Rattle.provenance.proofs.step.break_step.Reads as break-step-reads
+use Rattle.provenance.proofs.step.end_step.Reads as end-step-reads
+use Rattle.provenance.proofs.step.is_block.Reads as is-block-reads
+
+is-block-requires : tie.Need-is-block-requires
+is-block-requires c κs = search needs
+
+break-step-requires : tie.Need-break-step-requires
+break-step-requires c κs =
+    let a = c .before .before .before .before .before .args in
+    let e = c .before .before .before .before .before .pre .1 .fits (c .before .if1 .taken) in
+    let i = found-inside (isBlock (a .style)) (a .src .now) (drop (a .v) (a .value .now)) (a .s) (a .run) e (c .before .if1 .taken) in
+    ((omega arith, omega arith, omega arith, omega arith), found (isBlock (a .style)) (drop (a .s) (a .src .now)) (drop (a .v) (a .value .now)) (a .run) e (c .before .if1 .taken) .1)
+
+returns : tie.Need-returns
+returns c =
+    let a = c .before .before .before .before .before .before .args in
+    let h = c .before .before .if1 .taken in
+    step-break (rulesOf (a .style) (a .column)) (drop (a .s) (a .src .now)) (drop (a .v) (a .value .now)) (a .run) (c .before .before .before .before .before .before .pre .1 .fits h) h _
+    (c .break-step .ensures ∙ ap (λ (t : Bool). breakPair t (a .column) (whiteRun (drop (a .s) (a .src .now))) (drop (a .v) (a .value .now))) (c .before .is-block .ensures))
+
+sub-end-step : tie.Need-sub-end-step
+sub-end-step c = search needs
+
+part-end-step-start : tie.Need-part-end-step-start
+part-end-step-start c = search needs
+
+part-end-step-end : tie.Need-part-end-step-end
+part-end-step-end c = search needs
+
+end-step-requires : tie.Need-end-step-requires
+end-step-requires c κs = search needs
+
+returns-2 : tie.Need-returns-2
+returns-2 c =
+    let a = c .before .before .before .before .before .before .before .args in
+    let z = c .before .before .before .before .before .before .before .pre .1 .falls (omega arith) in
+    let n = drop-of-length-le (a .src .now) (c .before .before .if2 .taken) in
+    step-end (rulesOf (a .style) (a .column)) (drop (a .s) (a .src .now)) (drop (a .v) (a .value .now)) z _ refl (rw n (escape-nowhere (a .style))) n _
+    (rw (part-is (a .value .now) (a .v)) at (c .end-step .ensures))
+
+sub-escape-len : tie.Need-sub-escape-len
+sub-escape-len c = search needs
+
+part-escape-len-start : tie.Need-part-escape-len-start
+part-escape-len-start c = search needs
+
+part-escape-len-end : tie.Need-part-escape-len-end
+part-escape-len-end c = search needs
+
+escape-len-requires : tie.Need-escape-len-requires
+escape-len-requires c κs = search needs
+
+enum-known-e : tie.Need-enum-known-e
+enum-known-e c = search needs
+
+returns-3 : tie.Need-returns-3
+returns-3 c =
+    let a = c .before .before .before .before .before .before .before .before .before .before .args in
+    let z = c .before .before .before .before .before .before .before .before .before .before .pre .1 .falls (omega arith) in
+    step-escape (rulesOf (a .style) (a .column)) (drop (a .s) (a .src .now)) (drop (a .v) (a .value .now)) z _ _ _ (rw (part-is (a .src .now) (a .s)) at (c .before .before .before .escape-len .ensures)) (c .before .e .given .1)
+
+enum-told : tie.Need-enum-told
+enum-told c = search needs
+
+shared-slice-read-if3 : tie.Need-shared-slice-read-if3
+shared-slice-read-if3 c = search needs
+
+shared-slice-read-if3-2 : tie.Need-shared-slice-read-if3-2
+shared-slice-read-if3-2 c = search needs
+
+returns-4 : tie.Need-returns-4
+returns-4 c =
+    let a = c .before .before .before .before .before .before .before .before .before .before .before .before .args in
+    let z = c .before .before .before .before .before .before .before .before .before .before .before .before .pre .1 .falls (omega arith) in
+    step-equal (rulesOf (a .style) (a .column)) (drop (a .s) (a .src .now)) (drop (a .v) (a .value .now)) z _ (rw (part-is (a .src .now) (a .s)) at (c .before .before .before .before .before .escape-len .ensures)) (c .before .before .before .enum-told .given .1)
+    _ _ _ _ (drop-cons (a .src .now) (a .s) 0 (c .before .before .before .before .before .before .before .if2 .left)) (drop-cons (a .value .now) (a .v) 0 (c .before .before .before .before .before .before .before .before .before .before .before .before .pre .0 .1)) (c .if3 .taken)
+
+returns-5 : tie.Need-returns-5
+returns-5 c =
+    let a = c .before .before .before .before .before .before .before .before .before .before .before .before .args in
+    let z = c .before .before .before .before .before .before .before .before .before .before .before .before .pre .1 .falls (omega arith) in
+    step-nothing (rulesOf (a .style) (a .column)) (drop (a .s) (a .src .now)) (drop (a .v) (a .value .now)) z _ (rw (part-is (a .src .now) (a .s)) at (c .before .before .before .before .before .escape-len .ensures)) (c .before .before .before .enum-told .given .1)
+    _ _ _ _ (drop-cons (a .src .now) (a .s) 0 (c .before .before .before .before .before .before .before .if2 .left)) (drop-cons (a .value .now) (a .v) 0 (c .before .before .before .before .before .before .before .before .before .before .before .before .pre .0 .1)) (c .if3 .left)
+
+pub step-at-spec : {M : Type 1} → statement M
+step-at-spec =
+    tie.close
+    (tie.spec
+    is-block-requires
+    break-step-requires
+    returns
+    sub-end-step
+    part-end-step-start
+    part-end-step-end
+    end-step-requires
+    returns-2
+    sub-escape-len
+    part-escape-len-start
+    part-escape-len-end
+    escape-len-requires
+    enum-known-e
+    returns-3
+    enum-told
+    shared-slice-read-if3
+    shared-slice-read-if3-2
+    returns-4
+    returns-5)

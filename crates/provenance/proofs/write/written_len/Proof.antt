@@ -1,0 +1,33 @@
+-- `provenance::write::written_len` meets its contract: the smaller of two numbers is what the test says. Assumes nothing.
+use mathlib.Core.Path.{_≡_, refl, sym, ap, _∙_}
+use borrow.Author.Tests.{lt-ltb, le-ltb, le-leb, lt-leb, eq-eqb, ne-eqb, not-true, not-false}
+use native.Mathlib.Omega.{arith}
+use Prim.Native.Nat.{ℕ, _*_}
+use Rattle.provenance.specs.Layout.{room}
+use Rattle.provenance.specs.Writing.{writtenLen}
+use borrow.Author.Needs.{needs}
+use Rattle.provenance.proofs.write.written_len.Statement.{statement}
+use Rattle.provenance.proofs.write.written_len.Tie as tie
+use Rattle.provenance.proofs.write.written_len.Reads as reads
+use Rattle.provenance.proofs.write.written_len.Lts as lts
+use Rattle.provenance.proofs.write.room.Reads as room-reads
+
+room-requires : tie.Need-room-requires
+room-requires c κs = search needs
+
+mul-result : tie.Need-mul-result
+mul-result c = search needs
+
+returns : tie.Need-returns
+unfolding writtenLen
+returns c = rw (lt-ltb (c .before .before .args .n) (room (c .before .before .args .size)) (let e = c .before .room .ensures in let h = c .if1 .taken in omega arith))
+
+mul-result-2 : tie.Need-mul-result-2
+mul-result-2 c = search needs
+
+returns-2 : tie.Need-returns-2
+unfolding writtenLen
+returns-2 c = rw (le-ltb (c .before .before .args .n) (room (c .before .before .args .size)) (let e = c .before .room .ensures in let h = c .if1 .left in omega arith)) (ap (λ (k : ℕ). k * 4) (c .before .room .ensures))
+
+pub written-len-spec : {M : Type 1} → statement M
+written-len-spec = tie.close (tie.spec room-requires mul-result returns mul-result-2 returns-2)

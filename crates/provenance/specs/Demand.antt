@@ -1,0 +1,81 @@
+-- Demand 3, as one record with a field for each of its clauses, over any rules: a text, the walk's first byte in it, a value, and the
+-- size of the buffer. What the walk answers and leaves is `answerOf` and `bufferOf` of its piece list, as the contract of
+-- `scalar::scalar_provenance` says. That it holds is `demand3` and `demand3-of-scalars` in `proofs/Demand3.antt`.
+use Prim.{Unit, tt}
+use Prim.Native.Nat.{ℕ, _+_, _≤_, _<_}
+use mathlib.Core.Path.{_≡_}
+use mathlib.Core.Logic.{_⊎_}
+use mathlib.Core.List.{List, [], _∷_}
+use lib.ListN.{length, take, drop}
+use Rattle.text.specs.Boundary.{Boundary}
+use Rattle.provenance.specs.declared.step.Step.{Step}
+use Rattle.provenance.specs.declared.step.Step.the-variants.{Verbatim, Replacement, NoStep}
+use Rattle.provenance.specs.declared.walk.Walked.{Walked}
+use Rattle.provenance.specs.declared.walk.Walked.the-variants.{Listed, NoRoom, NoList}
+use Rattle.provenance.specs.Grammar.{Rules, breakStep, escapeStep}
+use Rattle.provenance.specs.Reading.{Reading, sourceLen, contentLen, Piece, verbatim, piecesOf}
+use Rattle.provenance.specs.Layout.{room, zeros, filled, answerOf, bufferOf}
+use Rattle.provenance.specs.Start.{listFrom}
+
+-- accepted: ended with a list, even an empty one, or with 8 (S13)
+abbrev pub Accepts : Walked → Type 0
+Accepts (Listed n) = Unit {0}
+Accepts NoRoom = Unit {0}
+Accepts NoList = ⊥
+
+abbrev pub StartsAt : ℕ → List Piece → Type 0
+StartsAt first [] = Unit {0}
+StartsAt first (p ∷ ps) = p .start ≡ first
+
+-- every piece but the first starts where the one before it ends
+unfoldable pub Follow : List Piece → Type 0
+Follow [] = Unit {0}
+Follow (p ∷ []) = Unit {0}
+Follow (p ∷ q ∷ ps) = (q .start ≡ p .end) × Follow (q ∷ ps)
+
+-- the file bytes of a piece are as many bytes of the value from the content place c on
+pub record Copied (text value : List ℕ) (c : ℕ) (p : Piece) : Type 0 where
+  pub size : p .start + p .content ≡ p .end
+  pub in-text : p .end ≤ length text
+  pub in-value : c + p .content ≤ length value
+  pub bytes : take (p .content) (drop (p .start) text) ≡ take (p .content) (drop c value)
+
+-- of each verbatim piece; a piece's content place is the sum of the content lengths before it
+unfoldable pub AllCopied : List ℕ → List ℕ → ℕ → List Piece → Type 0
+AllCopied text value c [] = Unit {0}
+AllCopied text value c (p ∷ ps) = (p .kind ≡ verbatim → Copied text value c p) × AllCopied text value (c + p .content) ps
+
+unfoldable pub contents : List Piece → ℕ
+contents [] = 0
+contents (p ∷ ps) = p .content + contents ps
+
+-- the last of the steps from s and v on is an escape: step 1 does not fit where it stands, and step 2 gives it
+unfoldable pub EscapeLast : Rules → List ℕ → List ℕ → ℕ → ℕ → List Step → Type 0
+EscapeLast r src val s v [] = ⊥
+EscapeLast r src val s v (t ∷ []) = (breakStep r (drop s src) (drop v val) ≡ NoStep) × (escapeStep r (drop s src) ≡ t)
+EscapeLast r src val s v (t ∷ u ∷ ts) = EscapeLast r src val (s + sourceLen t) (v + contentLen t) (u ∷ ts)
+
+pub record Demand3 (r : Rules) (text : List ℕ) (first : ℕ) (value : List ℕ) (size : ℕ) : Type 0 where
+  -- the walk accepts exactly when it starts at a boundary of the text and a reading exists
+  pub accepts-only : Accepts (answerOf size (listFrom r text first value)) → Boundary text first × ((ts : List Step) × Reading r (drop first text) value ts)
+  pub accepts-if : Boundary text first → (ts : List Step) → Reading r (drop first text) value ts → Accepts (answerOf size (listFrom r text first value))
+  -- with 8 exactly when it can start and its reading's pieces are more than the room lets in
+  pub no-room-only : answerOf size (listFrom r text first value) ≡ NoRoom
+      → Boundary text first × ((ts : List Step) × Reading r (drop first text) value ts × (room size < length (piecesOf first ts)))
+  pub no-room-if : Boundary text first → (ts : List Step) → Reading r (drop first text) value ts → room size < length (piecesOf first ts)
+      → answerOf size (listFrom r text first value) ≡ NoRoom
+  -- any two readings are the same
+  pub unique : (ts us : List Step) → Reading r (drop first text) value ts → Reading r (drop first text) value us → ts ≡ us
+  -- a list that is left is the reading's pieces in order, and zeros; otherwise all is zero
+  pub list : (n : ℕ) → answerOf size (listFrom r text first value) ≡ Listed n → (ts : List Step) → Reading r (drop first text) value ts
+      → (n ≡ length (piecesOf first ts)) × (bufferOf size (listFrom r text first value) ≡ filled size (piecesOf first ts))
+  pub nothing-left : ((n : ℕ) → answerOf size (listFrom r text first value) ≡ Listed n → ⊥) → bufferOf size (listFrom r text first value) ≡ zeros size
+  -- the first piece starts at the walk's first byte, every other where the one before it ends
+  pub first-start : (ts : List Step) → Reading r (drop first text) value ts → StartsAt first (piecesOf first ts)
+  pub tiling : (ts : List Step) → Reading r (drop first text) value ts → Follow (piecesOf first ts)
+  -- verbatim pieces hold the value's bytes
+  pub copied : (ts : List Step) → Reading r (drop first text) value ts → AllCopied text value 0 (piecesOf first ts)
+  -- the content lengths sum to the value's length, one or two more only where the last step is an escape
+  pub content : (ts : List Step) → Reading r (drop first text) value ts
+      → (contents (piecesOf first ts) ≡ length value)
+      ⊎ (EscapeLast r (drop first text) value 0 0 ts × ((contents (piecesOf first ts) ≡ length value + 1) ⊎ (contents (piecesOf first ts) ≡ length value + 2)))

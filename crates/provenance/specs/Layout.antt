@@ -1,0 +1,45 @@
+-- What a walk answers, and every number of the buffer that it was lent (S13, E3, E4). The buffer is lent zero and has `size` numbers;
+-- its room is whole pieces of four. A list that fits stands from entry 0, and zeros follow it. Without a list, and without room for
+-- all of it, the buffer is all zero.
+use Prim.Native.Nat.{ℕ, _-_, _*_, _/_}
+use mathlib.Core.List.{List, [], _∷_, _++_}
+use mathlib.Core.Option.{Option, none, some}
+use lib.Dec.{leb}
+use lib.ListN.{length, replicate}
+use Rattle.provenance.specs.declared.walk.Walked.{Walked}
+use Rattle.provenance.specs.declared.walk.Walked.the-variants.{Listed, NoRoom, NoList}
+use Rattle.provenance.specs.declared.step.Step.{Step}
+use Rattle.provenance.specs.Run.{pick}
+use Rattle.provenance.specs.Reading.{Piece, piecesOf}
+
+abbrev pub pieceSize : ℕ
+pieceSize = 4
+
+-- how many pieces a buffer has room for
+abbrev pub room : ℕ → ℕ
+room size = size / pieceSize
+
+abbrev pub zeros : ℕ → List ℕ
+zeros n = replicate n 0
+
+-- the four numbers of each piece
+unfoldable pub numbers : List Piece → List ℕ
+numbers [] = []
+numbers (p ∷ ps) = p .kind ∷ p .start ∷ p .end ∷ p .content ∷ numbers ps
+
+abbrev pub filled : ℕ → List Piece → List ℕ
+filled size ps = numbers ps ++ zeros (size - length ps * pieceSize)
+
+-- a piece list, or that there is none, as the walk answers it
+unfoldable pub answerOf : ℕ → Option (List Piece) → Walked
+answerOf size none = NoList
+answerOf size (some ps) = pick (leb (length ps) (room size)) (Listed (length ps)) NoRoom
+
+unfoldable pub bufferOf : ℕ → Option (List Piece) → List ℕ
+bufferOf size none = zeros size
+bufferOf size (some ps) = pick (leb (length ps) (room size)) (filled size ps) (zeros size)
+
+-- the pieces of a reading, if there is one
+unfoldable pub piecesIf : ℕ → Option (List Step) → Option (List Piece)
+piecesIf base none = none
+piecesIf base (some ts) = some (piecesOf base ts)

@@ -1,0 +1,19 @@
+-- The definitions that the contracts of `provenance` cite, in reading order, and demand 3.
+-- white-space runs by bytes, and the blanks of a value
+pub mod Run
+-- escapes: the tables, and what an escape stands for
+pub mod Escape
+-- the four steps of the piece grammar
+pub mod Grammar
+-- readings, and their pieces
+pub mod Reading
+-- what a walk answers and leaves in its buffer
+pub mod Layout
+-- where a walk starts, and the pieces of a scalar
+pub mod Start
+-- pieces, written one after the other
+pub mod Writing
+-- demand 3
+pub mod Demand
+-- worked cases, K7 to K11 among them
+pub mod Examples
