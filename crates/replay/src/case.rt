@@ -127,3 +127,10 @@ fn further(list: &[u8], at: usize) -> usize
     }
     at
 }
+
+// A buffer to lend, none of whose numbers is zero.
+pub fn numbers() -> [u32; 4096]
+    ensures { λ r. ⌜ 4096 ≡ length r ⌝ }
+{
+    [7; 4096]
+}
