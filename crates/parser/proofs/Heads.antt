@@ -157,7 +157,7 @@ module _ (text events : List ℕ) (size pieceSize : ℕ) (s b p : List ℕ) (c :
         let g = moved-stop text size pieceSize (c .nodes) _ n s′ b′ p′ (rw em at stepped) in
         let numbered = h .numbered in
         let all : runAll text events (size / 12) (pieceSize / 4) ≡ refused n k =
-        sym (h .same) ∙ run-stopped text events (size / 12) (pieceSize / 4) (length events - k) i k n (h .st) (omega arith) more g in
+          sym (h .same) ∙ run-stopped text events (size / 12) (pieceSize / 4) (length events - k) i k n (h .st) (omega arith) more g in
         rw all refl
 
   module _ (over : length events ≤ i) where

@@ -148,26 +148,25 @@ module _ (text : List ℕ) (size pieceSize : ℕ) (st : State) (c : Counts) (s b
       let t : List ℕ = sets s (7 * c .depth) (frameNumbers (opening mapping (cur .offset) tag)) in
       let long = h .stack-size in
       let on : openOf (c .depth + 1) t ≡ opening mapping (cur .offset) tag ∷ openOf (c .depth) s = open-push (c .depth) s (opening mapping (cur .offset) tag) (omega arith) x in
-      rw (before-root _ r, not-deep _ l) (
-        record {
-          stack-size = length-sets s (7 * c .depth) (frameNumbers (opening mapping (cur .offset) tag)) ∙ h .stack-size;
-          size-is = h .size-is;
-          piece-size-is = h .piece-size-is;
-          nodes-are = h .nodes-are;
-          opens-are = rw (← o, h .nodes-are, h .opens-are) (sym on);
-          pieces-are = h .pieces-are;
-          records-hold = h .records-hold;
-          pieces-hold = h .pieces-hold;
-          records-fit = h .records-fit;
-          pieces-fit = h .pieces-fit;
-          pieces-few = h .pieces-few;
-          deep = omega arith;
-          below = rw on (omega arith, h .below);
-          on-boundaries = rw on (rw o (offset-boundary u index), boundary-start u, h .on-boundaries);
-          cursor-stands = rw e (cursor-stands text index);
-        },
-        omega arith,
-      )
+      rw (before-root _ r, not-deep _ l)
+      (record {
+        stack-size = length-sets s (7 * c .depth) (frameNumbers (opening mapping (cur .offset) tag)) ∙ h .stack-size;
+        size-is = h .size-is;
+        piece-size-is = h .piece-size-is;
+        nodes-are = h .nodes-are;
+        opens-are = rw (← o, h .nodes-are, h .opens-are) (sym on);
+        pieces-are = h .pieces-are;
+        records-hold = h .records-hold;
+        pieces-hold = h .pieces-hold;
+        records-fit = h .records-fit;
+        pieces-fit = h .pieces-fit;
+        pieces-few = h .pieces-few;
+        deep = omega arith;
+        below = rw on (omega arith, h .below);
+        on-boundaries = rw on (rw o (offset-boundary u index), boundary-start u, h .on-boundaries);
+        cursor-stands = rw e (cursor-stands text index);
+      },
+      omega arith)
 
   -- ---- a collection ends
 

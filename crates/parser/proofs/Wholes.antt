@@ -127,7 +127,7 @@ module _ (text : List ℕ) (index column style : ℕ) (emptySpan : Bool) (value 
   pub one-is : (i : ℕ) (r : Resolved) (y : Node) → style ≤ 4 → i ≡ byteOffset text index → r ≡ resolveScalar value style false [] []
       → y ≡ scalarNode text (scalarFrom i column style emptySpan value 0) noTag r
       → oneScalar text index column style emptySpan value size
-      ≡ follow (keeping (pieceRoom size) y (listAt text (y .extent .start) (y .extent .end - y .extent .start) value style column) empty) outcome 0
+        ≡ follow (keeping (pieceRoom size) y (listAt text (y .extent .start) (y .extent .end - y .extent .start) value style column) empty) outcome 0
   unfolding oneScalar scalarStart tagInfo resolvedBy
   one-is i r y l ei er ey =
       rw (le-ltb 4 style l, ← ei)

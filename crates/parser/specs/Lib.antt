@@ -17,3 +17,7 @@ pub mod Layout
 pub mod Call
 -- what the code's values hold of the machine's state: for the inner calls
 pub mod Held
+-- K1 to K12
+pub mod Cases
+-- the smallest input of each row, and other worked inputs
+pub mod Examples

@@ -45,14 +45,7 @@ pub fn scalar_start(text: &[u8], at: usize, value: &[u8], style: u8, awaited: bo
 }
 
 // The length of its span; 0 where `start` is past the text or inside a character.
-pub fn span_len(
-    text: &[u8],
-    start: usize,
-    value: &[u8],
-    style: u8,
-    empty: bool,
-    column: u32,
-) -> usize
+pub fn span_len(text: &[u8], start: usize, value: &[u8], style: u8, empty: bool, column: u32) -> usize
     requires { ⌜ Utf8 (now text) ⌝ }
     requires { ⌜ Utf8 (now value) ⌝ }
     ensures { λ r. ⌜ r ≡ spanLen (now (text .entry)) (scalarFrom start column style empty (now (value .entry)) 0) ⌝ }
@@ -110,13 +103,7 @@ pub fn resolve(events: &[u8], value: &[u8], style: u8, tag: YamlTag) -> Resolved
             let handle_end = h + handle.len;
             let x = suffix.at;
             let suffix_end = x + suffix.len;
-            resolve_scalar(
-                value,
-                style,
-                true,
-                &events[h..handle_end],
-                &events[x..suffix_end],
-            )
+            resolve_scalar(value, style, true, &events[h..handle_end], &events[x..suffix_end])
         }
     }
 }

@@ -1,19 +1,19 @@
 -- Where the walk starts, as the code asks. Assumes nothing.
-use mathlib.Core.Path.{_≡_, refl, sym, ap, _∙_}
+use mathlib.Core.Path.{_≡_, sym, ap, _∙_}
 use mathlib.Core.Bool.{Bool, true, false, _&&_}
 use mathlib.Core.List.{List}
 use Prim.Native.Nat.{ℕ, _+_}
 use lib.ListN.{length, drop, getD}
-use mathlib.Core.Option.{Option, none, some}
+use mathlib.Core.Option.{Option}
 use Rattle.text.specs.Boundary.{isBoundary}
 use Rattle.provenance.specs.declared.walk.Walked.{Walked}
-use Rattle.provenance.specs.declared.walk.Walked.the-variants.{Listed, NoRoom, NoList}
+use Rattle.provenance.specs.declared.walk.Walked.the-variants.{NoList}
 use Rattle.provenance.specs.Run.{pick, onlyNewlines}
 use Rattle.provenance.specs.Grammar.{isBlock, rulesOf}
 use Rattle.provenance.specs.Reading.{Piece, readingOf}
 use Rattle.provenance.specs.Layout.{zeros, answerOf, bufferOf, piecesIf}
 use Rattle.provenance.specs.Start.{isQuoted, isHeader, atEmptyBlockHeader, headerEnd, walkStart, listFrom, scalarList}
-use Rattle.provenance.proofs.Tests.{and-no}
+use Rattle.provenance.specs.Tests.{and-no}
 
 pub header-yes : (l v : List ℕ) → isHeader (getD l 0 0) ≡ true → (t : Bool) → t ≡ onlyNewlines v → t ≡ atEmptyBlockHeader l v
 unfolding atEmptyBlockHeader

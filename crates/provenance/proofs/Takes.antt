@@ -2,23 +2,23 @@
 use mathlib.Core.Path.{_≡_, refl, sym, ap, _∙_, subst}
 use mathlib.Core.Bool.{Bool, true, false, _&&_, _||_}
 use mathlib.Core.List.{List, [], _∷_}
-use Prim.Native.Nat.{ℕ, zero, suc, _+_, _-_, _≤_, _<_, min}
+use Prim.Native.Nat.{ℕ, _+_, _-_, _≤_, _<_, min}
 use native.Mathlib.Omega.{arith}
 use lib.Dec.{ltb, eqb}
-use lib.ListN.{length, take, drop, getD, length-take, length-drop, drop-of-length-le}
-use lib.Seq.{drop-drop, drop-cons, getD-drop}
-use borrow.Author.Tests.{lt-ltb, le-ltb, eq-eqb, ne-eqb, ltb-true}
+use lib.ListN.{length, take, drop, getD, length-take, length-drop}
+use lib.Seq.{drop-drop, getD-drop}
+use borrow.Author.Tests.{lt-ltb, le-ltb, eq-eqb, ne-eqb}
 use Rattle.text.specs.Class.{isWhiteSpaceByte}
 use Rattle.provenance.specs.declared.run.Run.{Run}
 use Rattle.provenance.specs.declared.escape.Escape.{Escape}
 use Rattle.provenance.specs.declared.escape.Escape.the-variants.{Takes, NoEscape}
 use Rattle.provenance.specs.declared.step.Step.{Step}
 use Rattle.provenance.specs.declared.step.Step.the-variants.{Verbatim, Replacement, NoStep}
-use Rattle.provenance.specs.Run.{pick, tab, newline, carriageReturn, whiteRun, newlinesIn, throughLast, cut, isBlank, blankRun, onlyNewlines, noRun, runOf, cutLen}
-use Rattle.provenance.specs.Grammar.{Rules, orElse, sameBytes, paired, breakPair, breakOver, startsBreak, isBreakByte, opensBreak, breakStep, asStep, escapeStep, equalStep, endStep, step, breakRun, Tells, knownAfter}
-use Rattle.provenance.proofs.Tests.{clash, by-test, by-answer, by-order, byte-past, and-no}
-use Rattle.provenance.proofs.Runs.{run-within, last-within, cut-within, cut-numbers, cut-is, blanks-within, blanks-are, front-of, clear-inside}
-use Rattle.provenance.proofs.Steps.{same-refl, same-true}
+use Rattle.provenance.specs.Run.{pick, newline, carriageReturn, whiteRun, newlinesIn, throughLast, cut, blankRun, onlyNewlines, noRun, runOf, cutLen}
+use Rattle.provenance.specs.Grammar.{Rules, orElse, sameBytes, breakPair, startsBreak, isBreakByte, opensBreak, breakStep, asStep, escapeStep, equalStep, endStep, step, breakRun, Tells, knownAfter}
+use Rattle.provenance.specs.Tests.{clash, by-test, by-answer, by-order, byte-past, and-no}
+use Rattle.provenance.specs.RunLaws.{run-within, cut-within, cut-numbers, cut-is, blanks-within, blanks-are, front-of, clear-inside}
+use Rattle.provenance.specs.StepLaws.{same-refl, same-true}
 
 -- ---- where a break may begin
 

@@ -1,39 +1,25 @@
 -- A turn of the walk's loop, on plain values, over any fair step function. Assumes nothing.
---
--- The pieces of a reading are laid as the walk writes them: a verbatim run stays open until a replacement or the value's end closes it.
--- `Laid` proves that these are the joined pieces of the steps.
 use mathlib.Core.Path.{_≡_, refl, sym, ap, _∙_, subst}
-use mathlib.Core.Bool.{Bool, true, false}
-use mathlib.Core.Logic.{_⊎_, inl, inr, ⊎-elim}
+use mathlib.Core.Logic.{⊎-elim}
 use mathlib.Core.List.{List, [], _∷_, _++_, append-nil, append-assoc}
 use Prim.{Unit, tt}
-use Prim.Native.Nat.{ℕ, zero, suc, _+_, _-_, _*_, _/_, _≤_, _<_, min}
+use Prim.Native.Nat.{ℕ, suc, _+_, _-_, _*_, _≤_, _<_}
 use native.Mathlib.Omega.{arith}
 use lib.Dec.{ltb}
-use lib.ListN.{length, take, drop, set, replicate, length-append, length-set, length-replicate}
+use lib.ListN.{length, drop, set, length-append, length-set}
 use lib.Seq.{set-at, drop-at}
 use borrow.Author.Tests.{lt-ltb, le-ltb}
 use Rattle.provenance.specs.declared.step.Step.{Step}
 use Rattle.provenance.specs.declared.step.Step.the-variants.{Verbatim, Replacement, NoStep}
 use Rattle.provenance.specs.Run.{pick}
-use Rattle.provenance.specs.Reading.{Reads, Fits, sourceLen, contentLen, Piece, piece, verbatim, replacement}
+use Rattle.provenance.specs.Reading.{Reads, sourceLen, contentLen, Piece, piece, verbatim, replacement}
 use Rattle.provenance.specs.Layout.{pieceSize, room, zeros, numbers, filled}
 use Rattle.provenance.specs.Writing.{fourAt, putPiece, putOpen, countOpen, putReplacement, clearedTo, writtenLen}
-use Rattle.provenance.proofs.Tests.{by-order}
-use Rattle.provenance.proofs.Steps.{Fair}
+use Rattle.provenance.specs.Tests.{by-order}
+use Rattle.provenance.specs.StepLaws.{Fair}
+use Rattle.provenance.specs.PieceLaws.{closed, laid}
 
--- ---- the pieces as they are laid
-
--- the verbatim run from..s of the text, if it is not empty
-abbrev pub closed : ℕ → ℕ → List Piece
-closed from s = pick (ltb from s) (piece verbatim from s (s - from) ∷ []) []
-
--- the pieces of steps whose first stands at s, with the verbatim run from..s open
-unfoldable pub laid : ℕ → ℕ → List Step → List Piece
-laid from s [] = closed from s
-laid from s (Verbatim n ∷ ts) = laid from (s + n) ts
-laid from s (Replacement a b ∷ ts) = closed from s ++ (piece replacement s (s + a) b ∷ laid (s + a) (s + a) ts)
-laid from s (NoStep ∷ ts) = []
+-- ---- the open run
 
 -- the run that is open in the source, closed in the text
 closed-at : (base from s : ℕ) → closed (base + from) (base + s) ≡ pick (ltb from s) (piece verbatim (base + from) (base + s) (s - from) ∷ []) []

@@ -1,8 +1,8 @@
 -- What the walk answers and leaves, where it ends: at the value's end with room or without, or stuck before it. Assumes nothing.
-use mathlib.Core.Path.{_≡_, refl, sym, ap, _∙_, subst}
-use mathlib.Core.List.{List, [], _∷_}
+use mathlib.Core.Path.{_≡_, sym, ap, _∙_, subst}
+use mathlib.Core.List.{List}
 use mathlib.Core.Option.{Option, none, some}
-use Prim.Native.Nat.{ℕ, _+_, _-_, _*_, _/_, _≤_, _<_}
+use Prim.Native.Nat.{ℕ, _≤_, _<_}
 use native.Mathlib.Omega.{arith}
 use lib.ListN.{length}
 use borrow.Author.Tests.{le-leb, lt-leb}
@@ -12,13 +12,13 @@ use Rattle.provenance.specs.declared.walk.Walked.{Walked}
 use Rattle.provenance.specs.declared.walk.Walked.the-variants.{Listed, NoRoom, NoList}
 use Rattle.provenance.specs.Escape.{FairTable}
 use Rattle.provenance.specs.Grammar.{Rules, stepAt}
-use Rattle.provenance.specs.Reading.{Reads, readingOf, Piece, piecesOf}
+use Rattle.provenance.specs.Reading.{Reads, readingOf, Piece}
 use Rattle.provenance.specs.Layout.{room, zeros, answerOf, bufferOf, piecesIf}
 use Rattle.provenance.specs.Writing.{putOpen, countOpen, clearedTo, writtenLen}
-use Rattle.provenance.proofs.Steps.{Fair, grammar-fair}
-use Rattle.provenance.proofs.Finds.{reading-is-found, no-reading-found}
-use Rattle.provenance.proofs.Laid.{laid-is}
-use Rattle.provenance.proofs.Turn.{Kept, Going, laid, on-none, at-end, end-count, end-kept, clear-all}
+use Rattle.provenance.specs.StepLaws.{Fair, grammar-fair}
+use Rattle.provenance.specs.ReadingLaws.{reading-is-found, no-reading-found}
+use Rattle.provenance.specs.PieceLaws.{laid, laid-is}
+use Rattle.provenance.proofs.Turn.{Kept, Going, on-none, at-end, end-count, end-kept, clear-all}
 
 module _ (r : Rules) (fair : FairTable (r .escapes)) (src val : List ℕ) (base m : ℕ) where
   abbrev at : ℕ → ℕ → Step

@@ -1,7 +1,7 @@
 -- Demand 3, as one record with a field for each of its clauses, over any rules: a text, the walk's first byte in it, a value, and the
 -- size of the buffer. What the walk answers and leaves is `answerOf` and `bufferOf` of its piece list, as the contract of
--- `scalar::scalar_provenance` says. That it holds is `demand3` and `demand3-of-scalars` in `proofs/Demand3.antt`.
-use Prim.{Unit, tt}
+-- `scalar::scalar_provenance` says. That it holds is `demand3` and `demand3-of-scalars` in `DemandLaws`.
+use Prim.{Unit}
 use Prim.Native.Nat.{ℕ, _+_, _≤_, _<_}
 use mathlib.Core.Path.{_≡_}
 use mathlib.Core.Logic.{_⊎_}
@@ -9,7 +9,7 @@ use mathlib.Core.List.{List, [], _∷_}
 use lib.ListN.{length, take, drop}
 use Rattle.text.specs.Boundary.{Boundary}
 use Rattle.provenance.specs.declared.step.Step.{Step}
-use Rattle.provenance.specs.declared.step.Step.the-variants.{Verbatim, Replacement, NoStep}
+use Rattle.provenance.specs.declared.step.Step.the-variants.{NoStep}
 use Rattle.provenance.specs.declared.walk.Walked.{Walked}
 use Rattle.provenance.specs.declared.walk.Walked.the-variants.{Listed, NoRoom, NoList}
 use Rattle.provenance.specs.Grammar.{Rules, breakStep, escapeStep}

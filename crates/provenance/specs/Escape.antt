@@ -5,9 +5,9 @@
 --
 -- `\u` counts 1 where its bytes cannot be read as digits. Bytes that end inside a character are among these, since a byte of 128 or
 -- more is no digit: `EscapeLaws` has it as a law. There the Rust panics.
-use Prim.Native.Nat.{ℕ, suc, _+_, _-_, _*_, _≤_, _<_}
+use Prim.Native.Nat.{ℕ, _+_, _-_, _*_, _≤_, _<_}
 use mathlib.Core.Path.{_≡_}
-use mathlib.Core.Bool.{Bool, true, false, _&&_, _||_}
+use mathlib.Core.Bool.{Bool, false, _&&_, _||_}
 use mathlib.Core.List.{List, [], _∷_}
 use mathlib.Core.Option.{Option, none, some}
 use lib.Dec.{leb, eqb}

@@ -1,47 +1,45 @@
 -- Worked cases, by computation: the pieces of K7 to K11, and points of the rules where a reader may go wrong.
-use Prim.Native.Nat.{ℕ}
 use mathlib.Core.Path.{_≡_, refl}
-use mathlib.Core.List.{List, [], _∷_}
-use mathlib.Core.Option.{Option, none, some}
+use mathlib.Core.List.{[], _∷_}
+use mathlib.Core.Option.{none, some}
 use Rattle.text.specs.Boundary.{isBoundary}
 use Rattle.text.specs.Utf8.{encode}
 use Rattle.measure.specs.Scalar.{plain, singleQuoted, doubleQuoted, literal, folded}
-use Rattle.provenance.specs.declared.escape.Escape.the-variants.{Takes, NoEscape}
-use Rattle.provenance.specs.declared.walk.Walked.{Walked}
-use Rattle.provenance.specs.declared.walk.Walked.the-variants.{Listed, NoRoom, NoList}
+use Rattle.provenance.specs.declared.escape.Escape.the-variants.{Takes}
+use Rattle.provenance.specs.declared.walk.Walked.the-variants.{NoRoom}
 use Rattle.provenance.specs.Run.{whiteRun, newlinesIn, throughLast, cut, blankRun, onlyNewlines}
 use Rattle.provenance.specs.Escape.{digitsFrom, digits, radix16, codeContent, singleQuoteEscapes, isOneOf, oneByteEscapes, backslashEscape, doubleQuoteEscapes, escapesOf}
 use Rattle.provenance.specs.Grammar.{sameBytes, breakPair, opensBreak, breakStep, equalStep, endStep, step}
-use Rattle.provenance.specs.Reading.{readBy, readingOf, Piece, piece, verbatim, replacement, stepPieces, joined, piecesOf}
+use Rattle.provenance.specs.Reading.{readBy, readingOf, piece, verbatim, replacement, stepPieces, joined, piecesOf}
 use Rattle.provenance.specs.Layout.{numbers, answerOf, bufferOf, piecesIf}
 use Rattle.provenance.specs.Start.{atEmptyBlockHeader, beforeNewline, headerEnd, walkStart, listFrom, scalarList}
 
 -- K7: `a`, blank, newline, two blanks, `b`; value `a b`
-k7 : scalarList (97 ∷ 32 ∷ 10 ∷ 32 ∷ 32 ∷ 98 ∷ []) 0 6 (97 ∷ 32 ∷ 98 ∷ []) plain 0
+pub k7 : scalarList (97 ∷ 32 ∷ 10 ∷ 32 ∷ 32 ∷ 98 ∷ []) 0 6 (97 ∷ 32 ∷ 98 ∷ []) plain 0
     ≡ some (piece verbatim 0 1 1 ∷ piece replacement 1 5 1 ∷ piece verbatim 5 6 1 ∷ [])
 unfolding scalarList listFrom walkStart headerEnd beforeNewline atEmptyBlockHeader isBoundary numbers answerOf bufferOf piecesIf piecesOf joined stepPieces readingOf readBy step endStep equalStep breakStep opensBreak breakPair sameBytes escapesOf doubleQuoteEscapes backslashEscape oneByteEscapes isOneOf singleQuoteEscapes codeContent radix16 digits digitsFrom encode onlyNewlines blankRun cut throughLast newlinesIn whiteRun
 k7 = refl
 
 -- K8: `a`, three newlines, `b`; value `a`, two newlines, `b`: the pieces reach 5
-k8 : scalarList (97 ∷ 10 ∷ 10 ∷ 10 ∷ 98 ∷ []) 0 4 (97 ∷ 10 ∷ 10 ∷ 98 ∷ []) plain 0
+pub k8 : scalarList (97 ∷ 10 ∷ 10 ∷ 10 ∷ 98 ∷ []) 0 4 (97 ∷ 10 ∷ 10 ∷ 98 ∷ []) plain 0
     ≡ some (piece verbatim 0 1 1 ∷ piece replacement 1 4 2 ∷ piece verbatim 4 5 1 ∷ [])
 unfolding scalarList listFrom walkStart headerEnd beforeNewline atEmptyBlockHeader isBoundary numbers answerOf bufferOf piecesIf piecesOf joined stepPieces readingOf readBy step endStep equalStep breakStep opensBreak breakPair sameBytes escapesOf doubleQuoteEscapes backslashEscape oneByteEscapes isOneOf singleQuoteEscapes codeContent radix16 digits digitsFrom encode onlyNewlines blankRun cut throughLast newlinesIn whiteRun
 k8 = refl
 
 -- K9: `'it''s'`; value `it's`
-k9 : scalarList (39 ∷ 105 ∷ 116 ∷ 39 ∷ 39 ∷ 115 ∷ 39 ∷ []) 0 7 (105 ∷ 116 ∷ 39 ∷ 115 ∷ []) singleQuoted 0
+pub k9 : scalarList (39 ∷ 105 ∷ 116 ∷ 39 ∷ 39 ∷ 115 ∷ 39 ∷ []) 0 7 (105 ∷ 116 ∷ 39 ∷ 115 ∷ []) singleQuoted 0
     ≡ some (piece verbatim 1 3 2 ∷ piece replacement 3 5 1 ∷ piece verbatim 5 6 1 ∷ [])
 unfolding scalarList listFrom walkStart headerEnd beforeNewline atEmptyBlockHeader isBoundary numbers answerOf bufferOf piecesIf piecesOf joined stepPieces readingOf readBy step endStep equalStep breakStep opensBreak breakPair sameBytes escapesOf doubleQuoteEscapes backslashEscape oneByteEscapes isOneOf singleQuoteEscapes codeContent radix16 digits digitsFrom encode onlyNewlines blankRun cut throughLast newlinesIn whiteRun
 k9 = refl
 
 -- K10: `"\u20AC"`; value `A`: two past the value
-k10 : scalarList (34 ∷ 92 ∷ 117 ∷ 50 ∷ 48 ∷ 65 ∷ 67 ∷ 34 ∷ []) 0 8 (65 ∷ []) doubleQuoted 0
+pub k10 : scalarList (34 ∷ 92 ∷ 117 ∷ 50 ∷ 48 ∷ 65 ∷ 67 ∷ 34 ∷ []) 0 8 (65 ∷ []) doubleQuoted 0
     ≡ some (piece replacement 1 7 3 ∷ [])
 unfolding scalarList listFrom walkStart headerEnd beforeNewline atEmptyBlockHeader isBoundary numbers answerOf bufferOf piecesIf piecesOf joined stepPieces readingOf readBy step endStep equalStep breakStep opensBreak breakPair sameBytes escapesOf doubleQuoteEscapes backslashEscape oneByteEscapes isOneOf singleQuoteEscapes codeContent radix16 digits digitsFrom encode onlyNewlines blankRun cut throughLast newlinesIn whiteRun
 k10 = refl
 
 -- K11: `a: |`, newline, two blanks, `b`; value `b`, newline; at 7, column 2
-k11 : scalarList (97 ∷ 58 ∷ 32 ∷ 124 ∷ 10 ∷ 32 ∷ 32 ∷ 98 ∷ []) 7 1 (98 ∷ 10 ∷ []) literal 2
+pub k11 : scalarList (97 ∷ 58 ∷ 32 ∷ 124 ∷ 10 ∷ 32 ∷ 32 ∷ 98 ∷ []) 7 1 (98 ∷ 10 ∷ []) literal 2
     ≡ some (piece verbatim 7 8 1 ∷ piece replacement 8 8 1 ∷ [])
 unfolding scalarList listFrom walkStart headerEnd beforeNewline atEmptyBlockHeader isBoundary numbers answerOf bufferOf piecesIf piecesOf joined stepPieces readingOf readBy step endStep equalStep breakStep opensBreak breakPair sameBytes escapesOf doubleQuoteEscapes backslashEscape oneByteEscapes isOneOf singleQuoteEscapes codeContent radix16 digits digitsFrom encode onlyNewlines blankRun cut throughLast newlinesIn whiteRun
 k11 = refl

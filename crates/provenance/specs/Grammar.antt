@@ -3,7 +3,7 @@
 -- on. Nothing is left of the source at its end and past it.
 --
 -- The escape table and the facts of the style are parameters.
-use Prim.Native.Nat.{ℕ, _+_, _-_, _<_}
+use Prim.Native.Nat.{ℕ, _+_, _<_}
 use mathlib.Core.Path.{_≡_}
 use mathlib.Core.Bool.{Bool, true, false, _&&_, _||_}
 use mathlib.Core.List.{List, [], _∷_}

@@ -15,5 +15,19 @@ pub mod Start
 pub mod Writing
 -- demand 3
 pub mod Demand
+-- laws of tests and choices
+pub mod Tests
+-- the laws of runs
+pub mod RunLaws
+-- the laws of escapes
+pub mod EscapeLaws
+-- the laws of steps
+pub mod StepLaws
+-- the laws of readings
+pub mod ReadingLaws
+-- the laws of pieces
+pub mod PieceLaws
+-- demand 3, proved
+pub mod DemandLaws
 -- worked cases, K7 to K11 among them
 pub mod Examples

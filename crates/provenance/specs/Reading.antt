@@ -1,15 +1,15 @@
 -- Readings (S12), over any function that gives the step at a source place and a value place. A list of steps is a reading from two
 -- places if each is the step that stands where those before it end, and the value place is at or past the value's end after the last.
 -- `Reads` says so; `readingOf` computes the reading, if there is one. Its number of steps is bounded only so that it ends: that it finds
--- exactly the readings is proved in `Demand3`, and nothing else looks at the bound.
-use Prim.{Unit, tt}
+-- exactly the readings, and the equations a reader expects of it, are in `ReadingLaws`. Nothing else looks at the bound.
+use Prim.{Unit}
 use Prim.Native.Nat.{ℕ, zero, suc, _+_, _≤_, _<_}
 use mathlib.Core.Path.{_≡_}
-use mathlib.Core.Bool.{Bool, true, false, _&&_}
+use mathlib.Core.Bool.{Bool, _&&_}
 use mathlib.Core.List.{List, [], _∷_}
 use mathlib.Core.Option.{Option, none, some}
 use lib.Dec.{leb, eqb}
-use lib.ListN.{length, drop}
+use lib.ListN.{length}
 use Rattle.provenance.specs.declared.step.Step.{Step}
 use Rattle.provenance.specs.declared.step.Step.the-variants.{Verbatim, Replacement, NoStep}
 use Rattle.provenance.specs.Run.{pick}

@@ -1,7 +1,7 @@
 -- Pieces written into a buffer one after the other (E3). The walk writes as it reads: the verbatim bytes that it has passed since the
 -- last replacement are one piece, which is written when a replacement or the value's end comes. Past the room nothing is written.
 use Prim.Native.Nat.{ℕ, _+_, _-_, _*_}
-use mathlib.Core.List.{List, [], _∷_, _++_}
+use mathlib.Core.List.{List, _++_}
 use lib.Dec.{ltb}
 use lib.ListN.{length, drop, set}
 use Rattle.provenance.specs.Run.{pick}

@@ -39,7 +39,7 @@ loop-less c = omega arith
 
 -- src/buffer.rt:25:5
 loop-again : tie.Need-loop-again Inv-loop μ-loop
-loop-again c =
+loop-again c = 
     let i = c .before .loop .i in
     let b = c .before .before .args .buffer .now in
     let l : i < length b = omega arith in
@@ -51,7 +51,7 @@ same-length c = c .before .loop .inv .2
 
 -- src/buffer.rt:21:1
 returns : tie.Need-returns Inv-loop μ-loop
-returns c =
+returns c = 
     let b = c .before .before .args .buffer .now in
     let e : c .before .loop .i ≡ length b = omega arith in
     c .before .loop .inv .1 ∙ ap (λ (k : ℕ). replicate k 0 ++ drop k b) e ∙ ap (λ (x : List ℕ). replicate (length b) 0 ++ x) (drop-length b) ∙ append-nil (replicate (length b) 0)

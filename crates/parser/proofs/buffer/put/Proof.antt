@@ -51,7 +51,7 @@ loop-less c = omega arith
 
 -- src/buffer.rt:37:5
 loop-again : tie.Need-loop-again Inv-loop μ-loop
-loop-again c =
+loop-again c = 
     let i = c .before .before .loop .i in
     let a = c .before .before .before .args in
     let l : i < length (a .numbers .now) = omega arith in

@@ -86,17 +86,12 @@ fill-requires c κs =
     let l : n .result ≤ length (p .last .0) = omega arith in
     let part : length (take (n .result) (p .last .0)) ≡ n .result = length-take-le (n .result) (p .last .0) l in
     let told = sym (c .before .before .before .before .before .before .admit-text .ensures) ∙ c .before .before .before .before .ascii .given .1 in
-    let ascii = c .before .before .before .before .ascii .given .0 .0 in (
-      record { sound = admitted-sound (a .text .now) ascii told; ascii-is = admitted-ascii (a .text .now) ascii told },
-      (
-        c .before .before .before .before .before .before .before .if1 .left,
-        (
-          b .ensures ∙ ap (λ (m : ℕ). replicate m 0) (sym (b .kept .0)),
-          zeros-front (n .result) piece-size (p .last .0) (p .ensures) l ∙ ap (λ (m : ℕ). replicate m 0) (sym part),
-          omega arith,
-        ),
-      ),
-    )
+    let ascii = c .before .before .before .before .ascii .given .0 .0 in
+    (record { sound = admitted-sound (a .text .now) ascii told; ascii-is = admitted-ascii (a .text .now) ascii told },
+    (c .before .before .before .before .before .before .before .if1 .left,
+    (b .ensures ∙ ap (λ (m : ℕ). replicate m 0) (sym (b .kept .0)),
+    zeros-front (n .result) piece-size (p .last .0) (p .ensures) l ∙ ap (λ (m : ℕ). replicate m 0) (sym part),
+    omega arith)))
 
 -- src/build.rt:107:33
 enum-known-nodes : tie.Need-enum-known-nodes

@@ -20,7 +20,7 @@ collection-end-requires c κs = search needs
 
 -- src/collection.rt:165:5
 collection-over-requires : tie.Need-collection-over-requires
-collection-over-requires c κs =
+collection-over-requires c κs = 
     let given = c .before .before .before in
     let a = given .args in
     (given .pre .0, (rw (c .before .collection-start .ensures) (collection-start-boundary (a .text .now) (a .o) (given .pre .1 .0 .0) (given .pre .1 .0 .1)), (rw (c .collection-end .ensures) (end-within (a .text .now) (a .o .mapping) (a .at) (given .pre .1 .1 .0)), given .pre .1 .1 .1)))

@@ -32,7 +32,7 @@ byte-at-requires c κs = search needs
 -- src/collection.rt:92:9
 returns-3 : tie.Need-returns-3
 unfolding collectionStart
-returns-3 c =
+returns-3 c = 
     let o = c .before .before .before .before .before .before .before .before .args .o in
     let some : 0 < o .children = let l = c .before .before .if2 .left in omega arith in
     rw (not-false (o .mapping) (c .before .before .before .before .if1 .left), lt-ltb 0 (o .children) some, eq-eqb _ _ (sym (c .before .byte-at .ensures) ∙ c .if3 .taken)) refl
@@ -44,7 +44,7 @@ cast-result c = search needs
 -- src/collection.rt:81:1
 returns-4 : tie.Need-returns-4
 unfolding collectionStart
-returns-4 c =
+returns-4 c = 
     let o = c .before .before .before .before .before .before .before .before .before .args .o in
     let t = c .before .before .before .before .before .before .before .before .before .args .text .now in
     let some : 0 < o .children = let l = c .before .before .before .if2 .left in omega arith in

@@ -29,7 +29,7 @@ make-tag-info-requires c κs = search needs
 
 -- src/collection.rt:47:24
 cast-t9 : tie.Need-cast-t9
-cast-t9 c =
+cast-t9 c = 
     let given = c .before .before .before .before .before .before in
     let w = tag-span-within (given .pre .0 .utf8) (given .pre .1) (c .before .before .before .suffix .given .0 .1 .0) in
     let order = rw (← c .before .make-tag-info .ensures) at (w .order) in
@@ -38,7 +38,7 @@ cast-t9 c =
 
 -- src/collection.rt:48:22
 cast-t10 : tie.Need-cast-t10
-cast-t10 c =
+cast-t10 c = 
     let given = c .before .before .before .before .before .before .before in
     let w = tag-span-within (given .pre .0 .utf8) (given .pre .1) (c .before .before .before .before .suffix .given .0 .1 .0) in
     let end = rw (← c .before .before .make-tag-info .ensures) at (w .end) in

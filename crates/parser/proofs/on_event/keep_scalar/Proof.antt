@@ -49,7 +49,7 @@ part-walk-scalar-end c = search needs
 
 -- src/on_event.rt:213:11
 walk-scalar-requires : tie.Need-walk-scalar-requires
-walk-scalar-requires c κs =
+walk-scalar-requires c κs = 
     let given = c .before .before .before .before .before .before .before .before .before in
     let small = given .pre .1 .1 .0 in
     let span = given .pre .1 .1 .1 .1 in
@@ -65,7 +65,7 @@ enum-told-2 c = search needs
 
 -- src/on_event.rt:215:36
 push-complete-requires : tie.Need-push-complete-requires
-push-complete-requires c κs =
+push-complete-requires c κs = 
     let given = c .before .before .before .before .before .before .before .before .before .before .before .before .before .before .before .before in
     let ready = given .pre .0 in
     pushable _ _ _ _ _ _ _ _ (ready .held) (ready .few) (rw (← ready .held .size-is) (given .pre .1 .0))
@@ -76,7 +76,7 @@ enum-known-n c = search needs
 
 -- src/on_event.rt:220:23
 add-t31 : tie.Need-add-t31
-add-t31 c =
+add-t31 c = 
     let given = c .before .before .before .before .before .before .before .before .before .before .before .before .before .before .before in
     let a = given .args in
     let walked = c .before .before .before .before .before .walk-scalar in
@@ -87,7 +87,7 @@ add-t31 c =
 
 -- src/on_event.rt:223:71
 cast-with-list : tie.Need-cast-with-list
-cast-with-list c =
+cast-with-list c = 
     let given = c .before .before .before .before .before .before .before .before .before .before .before .before .before .before .before .before .before in
     let a = given .args in
     let walked = c .before .before .before .before .before .before .before .walk-scalar in
@@ -98,7 +98,7 @@ cast-with-list c =
 
 -- src/on_event.rt:223:84
 cast-with-list-2 : tie.Need-cast-with-list-2
-cast-with-list-2 c =
+cast-with-list-2 c = 
     let given = c .before .before .before .before .before .before .before .before .before .before .before .before .before .before .before .before .before in
     let a = given .args in
     let walked = c .before .before .before .before .before .before .before .walk-scalar in
@@ -113,7 +113,7 @@ with-list-requires c κs = search needs
 
 -- src/on_event.rt:223:22
 push-complete-requires-2 : tie.Need-push-complete-requires-2
-push-complete-requires-2 c κs =
+push-complete-requires-2 c κs = 
     let given = c .before .before .before .before .before .before .before .before .before .before .before .before .before .before .before .before .before .before in
     let a = given .args in
     let walked = c .before .before .before .before .before .before .before .before .walk-scalar in

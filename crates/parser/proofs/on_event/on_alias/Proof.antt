@@ -43,7 +43,7 @@ byte-offset-of-char-requires c κs = search needs
 
 -- src/on_event.rt:166:14
 cast-at : tie.Need-cast-at
-cast-at c =
+cast-at c = 
     let given = c .before .before .before .before .before .before .before .before in
     let a = given .args in
     let e = cursor-offset (a .text .now) (a .index) (c .before .byte-offset-of-char .result) (c .before .byte-offset-of-char .ensures) in

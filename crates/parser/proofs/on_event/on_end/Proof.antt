@@ -65,7 +65,7 @@ byte-offset-of-char-requires c κs = search needs
 
 -- src/on_event.rt:134:9
 collection-node-requires : tie.Need-collection-node-requires
-collection-node-requires c κs =
+collection-node-requires c κs = 
     let given = c .before .before .before .before .before .before .before .before .before .before in
     let a = given .args in
     let ready = given .pre .1 .1 in
@@ -82,7 +82,7 @@ sub-t19 c = search needs
 
 -- src/on_event.rt:141:14
 push-complete-requires : tie.Need-push-complete-requires
-push-complete-requires c κs =
+push-complete-requires c κs = 
     let given = c .before .before .before .before .before .before .before .before .before .before .before .before .before in
     let a = given .args in
     let ready = given .pre .1 .1 in
@@ -109,7 +109,7 @@ returns-4 c = λ p size piece-size st h.
     let e = cursor-offset (a .text .now) (a .index) (cur .result) (cur .ensures) in
     let on = inner-on _ _ _ _ _ _ _ _ h d in
     let x : c .before .before .before .before .before .before .before .collection-node .result ≡ collectionNode (a .text .now) (inner _ _ _ _ _ _ _ _ h d) (cur .result .offset) (a .c .nodes) =
-    c .before .before .before .before .before .before .before .collection-node .ensures ∙ ap (λ o. collectionNode (a .text .now) o (cur .result .offset) (a .c .nodes)) (c .before .before .before .before .before .before .before .before .before .before .before .before .innermost .ensures) in
+      c .before .before .before .before .before .before .before .collection-node .ensures ∙ ap (λ o. collectionNode (a .text .now) o (cur .result .offset) (a .c .nodes)) (c .before .before .before .before .before .before .before .before .before .before .before .before .innermost .ensures) in
     rw (matched _ _ _ _ _ _ _ _ h d (size / 12) (a .index) (a .mapping) (ap (closes (a .mapping)) (sym (c .before .before .before .before .before .before .before .before .before .before .before .before .innermost .ensures)) ∙ sym (c .before .before .before .before .before .before .before .before .before .before .before .closes-open .ensures) ∙ not-false (c .before .before .before .before .before .before .before .before .before .before .before .closes-open .result) (c .before .before .before .before .before .before .before .before .before .before .if2 .left)), in-room _ _ _ _ _ _ _ _ h _ l, ← e, ← x)
     (moved-on _ _ _ (outside _ _ _ _ _ _ _ _ h d) (a .c) _ _ _ _ _ (h .nodes-are) (c .before .before .before .before .push-complete .ensures (a .text .now) size piece-size (outside _ _ _ _ _ _ _ _ h d) p (rw x (collection-node-boundary (a .text .now) (inner _ _ _ _ _ _ _ _ h d) (cur .result .offset) (a .c .nodes) (on .0) (on .1))) (popped _ _ _ _ _ _ _ _ h d (a .index) (cur .result) (cur .ensures))))
 

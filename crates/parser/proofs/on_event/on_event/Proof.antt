@@ -16,7 +16,7 @@ enum-known-e c = search needs
 
 -- src/on_event.rt:293:13
 on-start-requires : tie.Need-on-start-requires
-on-start-requires c κs =
+on-start-requires c κs = 
     let given = c .before .before .before .before .before .before .before .before .before .before in
     let read = given .pre .1 .1 in
     let w = rw (c .before .before .before .e .given .1) at (read .within) in
@@ -36,7 +36,7 @@ enum-known-e-3 c = search needs
 
 -- src/on_event.rt:297:13
 on-start-requires-2 : tie.Need-on-start-requires-2
-on-start-requires-2 c κs =
+on-start-requires-2 c κs = 
     let given = c .before .before .before .before .before .before .before .before .before .before in
     let read = given .pre .1 .1 in
     let w = rw (c .before .before .before .e3 .given .1) at (read .within) in
@@ -56,7 +56,7 @@ enum-known-e-5 c = search needs
 
 -- src/on_event.rt:301:13
 on-scalar-requires : tie.Need-on-scalar-requires
-on-scalar-requires c κs =
+on-scalar-requires c κs = 
     let given = c .before .before .before .before .before .before .before .before .before .before .before in
     let read = given .pre .1 .1 in
     let is = c .before .before .before .before .e5 .given .1 in

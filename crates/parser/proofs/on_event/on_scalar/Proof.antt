@@ -73,7 +73,7 @@ part-scalar-start-end c = search needs
 
 -- src/on_event.rt:262:9
 scalar-start-requires : tie.Need-scalar-start-requires
-scalar-start-requires c κs =
+scalar-start-requires c κs = 
     let given = c .before .before .before .before .before .before .before .before .before .before .before .before .before in
     let a = given .args in
     let cur = c .before .before .before .before .byte-offset-of-char in
@@ -87,7 +87,7 @@ suffix-of-requires c κs = search needs
 
 -- src/on_event.rt:263:9
 tag-info-requires : tie.Need-tag-info-requires
-tag-info-requires c κs =
+tag-info-requires c κs = 
     let given = c .before .before .before .before .before .before .before .before .before .before .before .before .before .before .before in
     let a = given .args in
     let cur = c .before .before .before .before .before .before .byte-offset-of-char in
@@ -131,7 +131,7 @@ cast-scalar-node c = let i = c .before .before .before .before .before .before .
 
 -- src/on_event.rt:265:9
 scalar-node-requires : tie.Need-scalar-node-requires
-scalar-node-requires c κs =
+scalar-node-requires c κs = 
     let given = c .before .before .before .before .before .before .before .before .before .before .before .before .before .before .before .before .before .before .before in
     let a = given .args in
     let cur = c .before .before .before .before .before .before .before .before .before .before .byte-offset-of-char in
@@ -158,7 +158,7 @@ part-keep-scalar-end c = let i = c .before .before .before .before .before .befo
 
 -- src/on_event.rt:272:5
 keep-scalar-requires : tie.Need-keep-scalar-requires
-keep-scalar-requires c κs =
+keep-scalar-requires c κs = 
     let given = c .before .before .before .before .before .before .before .before .before .before .before .before .before .before .before .before .before .before .before .before .before .before .before .before in
     let a = given .args in
     let cur = c .before .before .before .before .before .before .before .before .before .before .before .before .before .before .before .byte-offset-of-char in
@@ -174,10 +174,9 @@ keep-scalar-requires c κs =
     let sp = scalar-spans (a .text .now) (scalarFrom (c .before .before .before .before .before .before .before .before .before .before .scalar-start .result) (a .column) (a .style) (a .empty) (partOf (a .events .now) (a .value)) (a .value .at)) (c .before .before .before .before .before .before .before .before .tag-info .result) (c .before .before .before .before .before .before .resolve .result) in
     let from : c .before .before .before .before .scalar-node .result .extent .start ≡ c .before .before .before .before .before .before .before .before .before .before .scalar-start .result = ap (λ y. y .extent .start) x ∙ sp .from in
     let to : c .before .before .before .before .scalar-node .result .extent .end ≡ c .before .before .before .before .before .before .before .before .before .before .scalar-start .result + spanLen (a .text .now) (scalarFrom (c .before .before .before .before .before .before .before .before .before .before .scalar-start .result) (a .column) (a .style) (a .empty) (partOf (a .events .now) (a .value)) (a .value .at)) = ap (λ y. y .extent .end) x ∙ sp .to in
-    let w = span-within (a .text .now) (scalarFrom (c .before .before .before .before .before .before .before .before .before .before .scalar-start .result) (a .column) (a .style) (a .empty) (partOf (a .events .now) (a .value)) (a .value .at)) (on .within) in (
-      record { size = ready .size; piece-size = ready .piece-size; st = ready .st; held = moved-cursor _ _ _ _ _ _ _ _ (ready .held) (a .index) (cur .result) (cur .ensures); few = ready .few },
-      (c .before .before .before .before .before .before .before .before .before .before .before .before .before .before .before .before .if2 .left, ((given .pre .0 .sound .within, rw is (omega arith)), (rw from on, (omega arith, omega arith)))),
-    )
+    let w = span-within (a .text .now) (scalarFrom (c .before .before .before .before .before .before .before .before .before .before .scalar-start .result) (a .column) (a .style) (a .empty) (partOf (a .events .now) (a .value)) (a .value .at)) (on .within) in
+    (record { size = ready .size; piece-size = ready .piece-size; st = ready .st; held = moved-cursor _ _ _ _ _ _ _ _ (ready .held) (a .index) (cur .result) (cur .ensures); few = ready .few },
+    (c .before .before .before .before .before .before .before .before .before .before .before .before .before .before .before .before .if2 .left, ((given .pre .0 .sound .within, rw is (omega arith)), (rw from on, (omega arith, omega arith)))))
 
 -- src/on_event.rt:229:1
 same-length : tie.Need-same-length

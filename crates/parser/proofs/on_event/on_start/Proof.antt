@@ -43,7 +43,7 @@ byte-offset-of-char-requires c κs = search needs
 
 -- src/on_event.rt:92:20
 cast-t19 : tie.Need-cast-t19
-cast-t19 c =
+cast-t19 c = 
     let given = c .before .before .before .before .before .before .before .before .before .before in
     let a = given .args in
     let e = cursor-offset (a .text .now) (a .index) (c .before .before .byte-offset-of-char .result) (c .before .before .byte-offset-of-char .ensures) in

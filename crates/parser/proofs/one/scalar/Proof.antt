@@ -68,16 +68,11 @@ one-scalar-requires c κs =
     let l : n .result ≤ length (p .last .0) = omega arith in
     let part : length (take (n .result) (p .last .0)) ≡ n .result = length-take-le (n .result) (p .last .0) l in
     let told = sym (c .before .before .before .before .before .admit-text-and-value .ensures) ∙ c .before .before .before .ascii .given .1 in
-    let ascii = c .before .before .before .ascii .given .0 .0 in (
-      both-text-sound (a .text .now) (a .value .now) ascii told,
-      (
-        both-value-sound (a .text .now) (a .value .now) ascii told,
-        (
-          both-ascii (a .text .now) (a .value .now) ascii told,
-          (zeros-front (n .result) size (p .last .0) (p .ensures) l ∙ ap (λ (m : ℕ). replicate m 0) (sym part), omega arith),
-        ),
-      ),
-    )
+    let ascii = c .before .before .before .ascii .given .0 .0 in
+    (both-text-sound (a .text .now) (a .value .now) ascii told,
+    (both-value-sound (a .text .now) (a .value .now) ascii told,
+    (both-ascii (a .text .now) (a .value .now) ascii told,
+    (zeros-front (n .result) size (p .last .0) (p .ensures) l ∙ ap (λ (m : ℕ). replicate m 0) (sym part), omega arith))))
 
 -- src/one.rt:103:1
 same-length : tie.Need-same-length

@@ -74,7 +74,7 @@ returns c = rw (c .before .before .before .enum-told .given .1) (c .resolve-scal
 -- src/scalar.rt:95:1
 returns-2 : tie.Need-returns-2
 unfolding resolvedBy
-returns-2 c =
+returns-2 c = 
     let t = c .before .before .before .before .before .before .tag .given in
     let h = t .0 .0 in
     let x = t .0 .1 .0 in

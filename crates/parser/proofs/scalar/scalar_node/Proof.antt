@@ -25,7 +25,7 @@ cast-t12 c = search needs
 
 -- src/scalar.rt:134:19
 add-t13 : tie.Need-add-t13
-add-t13 c =
+add-t13 c = 
     let given = c .before .before .before .before in
     let a = given .args in
     let w = span-within (a .text .now) (scalarFrom (a .start) (a .column) (a .style) (a .empty) (a .value .now) 0) (given .pre .1 .1 .1) in
@@ -34,7 +34,7 @@ add-t13 c =
 
 -- src/scalar.rt:134:18
 cast-t14 : tie.Need-cast-t14
-cast-t14 c =
+cast-t14 c = 
     let given = c .before .before .before .before in
     let a = given .args in
     let w = span-within (a .text .now) (scalarFrom (a .start) (a .column) (a .style) (a .empty) (a .value .now) 0) (given .pre .1 .1 .1) in

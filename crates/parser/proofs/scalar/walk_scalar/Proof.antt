@@ -6,6 +6,7 @@ use Rattle.parser.proofs.scalar.walk_scalar.Statement.{statement}
 use Rattle.parser.proofs.scalar.walk_scalar.Tie as tie
 use Rattle.parser.proofs.scalar.walk_scalar.Reads as reads
 use Rattle.parser.proofs.scalar.walk_scalar.Lts as lts
+use Rattle.provenance.proofs.scalar.scalar_provenance.Reads as scalar-provenance-reads
 use Rattle.text.proofs.utf8.is_boundary.Reads as is-boundary-reads
 
 -- src/scalar.rt:73:8

@@ -64,7 +64,7 @@ slice-write-stack c = search needs
 
 -- src/stack.rt:145:20
 add-stack-2 : tie.Need-add-stack-2
-add-stack-2 c =
+add-stack-2 c = 
     let given = c .before .before .before .before .before in
     let l : 0 < given .args .depth = let z = c .before .before .before .if1 .left in omega arith in
     omega (arith, children-below (given .args .depth) (given .args .stack .now) (given .args .nodes) l (given .pre .1 .0), given .pre .1 .1)
@@ -87,7 +87,7 @@ same-length c = search needs
 
 -- src/stack.rt:133:1
 returns-2 : tie.Need-returns-2
-returns-2 c =
+returns-2 c = 
     let given = c .before .before .before .before .before in
     let l : 0 < given .args .depth = let z = c .before .before .before .if1 .left in omega arith in
     rw (c .first-child .ensures) (open-child (given .args .depth) (given .args .stack .now) (given .args .start) l (given .pre .0))

@@ -20,14 +20,14 @@ innermost-requires c κs = search needs
 
 -- src/stack.rt:117:9
 returns-2 : tie.Need-returns-2
-returns-2 c =
+returns-2 c = 
     let a = c .before .before .before .before .before .args in
     let l : 0 < a .depth = let z = c .before .before .before .if1 .left in omega arith in
     rw (awaits-inner (a .depth) (a .stack .now) (c .before .before .innermost .result) l (c .before .before .innermost .ensures), c .before .if2 .taken) refl
 
 -- src/stack.rt:108:1
 returns-3 : tie.Need-returns-3
-returns-3 c =
+returns-3 c = 
     let a = c .before .before .before .before .args in
     let l : 0 < a .depth = let z = c .before .before .if1 .left in omega arith in
     rw (awaits-inner (a .depth) (a .stack .now) (c .before .innermost .result) l (c .before .innermost .ensures), c .if2 .left) refl

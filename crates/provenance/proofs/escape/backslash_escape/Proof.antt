@@ -1,20 +1,14 @@
 -- `provenance::escape::backslash_escape` meets its contract: it asks by the byte after the backslash, in the order of the definition. Assumes nothing.
-use mathlib.Core.Path.{_≡_, refl, sym, ap, _∙_}
+use mathlib.Core.Path.{sym, ap, _∙_}
 use native.Mathlib.Omega.{arith}
 use Prim.Native.Nat.{ℕ, _<_}
 use lib.ListN.{length}
 use Rattle.provenance.specs.Escape.{backslashEscape}
-use Rattle.provenance.proofs.Tests.{byte-inside}
+use Rattle.provenance.specs.Tests.{byte-inside}
 use Rattle.provenance.proofs.Escapes.{slash-letter, slash-x, slash-u, slash-newline, slash-return, slash-none}
 use borrow.Author.Needs.{needs}
 use Rattle.provenance.proofs.escape.backslash_escape.Statement.{statement}
 use Rattle.provenance.proofs.escape.backslash_escape.Tie as tie
-use Rattle.provenance.proofs.escape.backslash_escape.Reads as reads
-use Rattle.provenance.proofs.escape.backslash_escape.Lts as lts
-use Rattle.provenance.proofs.escape.is_one_byte_escape.Reads as is-one-byte-escape-reads
-use Rattle.provenance.proofs.escape.line_escape.Reads as line-escape-reads
-use Rattle.provenance.proofs.escape.unicode_content_at.Reads as unicode-content-at-reads
-use Rattle.text.proofs.utf8.byte_at.Reads as byte-at-reads
 
 byte-at-requires : tie.Need-byte-at-requires
 byte-at-requires c κs = search needs

@@ -1,12 +1,9 @@
 -- `provenance::escape::code_content` meets its contract: it asks for the surrogates. Assumes nothing.
-use borrow.Author.Tests.{lt-ltb, le-ltb, le-leb, lt-leb, eq-eqb, ne-eqb, not-true, not-false}
+use borrow.Author.Tests.{le-leb, lt-leb}
 use Rattle.provenance.specs.Escape.{codeContent}
 use borrow.Author.Needs.{needs}
 use Rattle.provenance.proofs.escape.code_content.Statement.{statement}
 use Rattle.provenance.proofs.escape.code_content.Tie as tie
-use Rattle.provenance.proofs.escape.code_content.Reads as reads
-use Rattle.provenance.proofs.escape.code_content.Lts as lts
-use Rattle.provenance.proofs.escape.encoded_len.Reads as encoded-len-reads
 
 encoded-len-requires : tie.Need-encoded-len-requires
 encoded-len-requires c κs = search needs

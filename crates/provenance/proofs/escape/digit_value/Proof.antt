@@ -1,13 +1,11 @@
 -- `provenance::escape::digit_value` meets its contract: digits lie in three ranges. Assumes nothing.
-use borrow.Author.Tests.{lt-ltb, le-ltb, le-leb, lt-leb, eq-eqb, ne-eqb, not-true, not-false}
+use borrow.Author.Tests.{le-leb, lt-leb}
 use native.Mathlib.Omega.{arith}
 use Prim.Native.Nat.{_≤_}
-use Rattle.provenance.proofs.Escapes.{digit}
+use Rattle.provenance.specs.EscapeLaws.{digit}
 use borrow.Author.Needs.{needs}
 use Rattle.provenance.proofs.escape.digit_value.Statement.{statement}
 use Rattle.provenance.proofs.escape.digit_value.Tie as tie
-use Rattle.provenance.proofs.escape.digit_value.Reads as reads
-use Rattle.provenance.proofs.escape.digit_value.Lts as lts
 
 -- `provenance::escape::digit_value` meets its contract: digits lie in three ranges. Assumes nothing.
 

@@ -1,19 +1,15 @@
 -- `provenance::escape::digits_content` meets its contract. The loop's invariant: the digits left, behind the number so far, have the
 -- content of them all. The measure is what is left. Assumes nothing.
-use mathlib.Core.Path.{_≡_, refl, sym, ap, _∙_}
-use borrow.Author.Tests.{lt-ltb, le-ltb, le-leb, lt-leb, eq-eqb, ne-eqb, not-true, not-false}
+use mathlib.Core.Path.{_≡_, sym, ap, _∙_}
+use borrow.Author.Tests.{not-true, not-false}
 use Prim.Native.Nat.{ℕ, _+_, _-_, _*_, _≤_, _<_}
 use lib.ListN.{length, drop, getD}
 use native.Mathlib.Omega.{arith}
 use Rattle.provenance.specs.Escape.{digitsFrom, digits, codeContent}
-use Rattle.provenance.proofs.Escapes.{value-small, sixteens, sixteens-some, sixteens-more, sixteens-four, digits-more, digits-bad, digits-end, digits-none, digits-some, no-code}
+use Rattle.provenance.specs.EscapeLaws.{sixteens, sixteens-some, sixteens-more, sixteens-four}
+use Rattle.provenance.proofs.Escapes.{value-small, digits-more, digits-bad, digits-end, digits-none, digits-some, no-code}
 use Rattle.provenance.proofs.escape.digits_content.Statement.{statement}
 use Rattle.provenance.proofs.escape.digits_content.Tie as tie
-use Rattle.provenance.proofs.escape.digits_content.Reads as reads
-use Rattle.provenance.proofs.escape.digits_content.Lts as lts
-use Rattle.provenance.proofs.escape.code_content.Reads as code-content-reads
-use Rattle.provenance.proofs.escape.digit_value.Reads as digit-value-reads
-use Rattle.text.proofs.class.is_hex_digit.Reads as is-hex-digit-reads
 
 -- `provenance::escape::digits_content` meets its contract. The loop's invariant: the digits left, behind the number so far, have the
 

@@ -1,17 +1,14 @@
 -- `provenance::escape::double_quote_escape` meets its contract: what comes after the backslash is handed on. Assumes nothing.
-use mathlib.Core.Path.{_≡_, refl, sym, ap, _∙_}
+use mathlib.Core.Path.{sym, _∙_}
 use native.Mathlib.Omega.{arith}
 use Prim.Native.Nat.{_<_}
 use lib.ListN.{length}
-use Rattle.provenance.proofs.Tests.{part-is, byte-inside}
+use Rattle.provenance.specs.Tests.{byte-inside}
+use Rattle.provenance.proofs.Parts.{part-is}
 use Rattle.provenance.proofs.Escapes.{no-backslash, at-backslash}
 use borrow.Author.Needs.{needs}
 use Rattle.provenance.proofs.escape.double_quote_escape.Statement.{statement}
 use Rattle.provenance.proofs.escape.double_quote_escape.Tie as tie
-use Rattle.provenance.proofs.escape.double_quote_escape.Reads as reads
-use Rattle.provenance.proofs.escape.double_quote_escape.Lts as lts
-use Rattle.provenance.proofs.escape.backslash_escape.Reads as backslash-escape-reads
-use Rattle.text.proofs.utf8.byte_at.Reads as byte-at-reads
 
 byte-at-requires : tie.Need-byte-at-requires
 byte-at-requires c κs = search needs

@@ -1,11 +1,8 @@
 -- `provenance::escape::encoded_len` meets its contract: it asks as the encoding does. Assumes nothing.
-use borrow.Author.Tests.{lt-ltb, le-ltb, le-leb, lt-leb, eq-eqb, ne-eqb, not-true, not-false}
-use native.Mathlib.Omega.{arith}
+use borrow.Author.Tests.{lt-ltb, le-ltb}
 use Rattle.text.specs.Utf8.{encode}
 use Rattle.provenance.proofs.escape.encoded_len.Statement.{statement}
 use Rattle.provenance.proofs.escape.encoded_len.Tie as tie
-use Rattle.provenance.proofs.escape.encoded_len.Reads as reads
-use Rattle.provenance.proofs.escape.encoded_len.Lts as lts
 
 returns : tie.Need-returns
 unfolding encode

@@ -1,13 +1,9 @@
 -- `provenance::escape::escape_len` meets its contract: the table is the style's. Assumes nothing.
-use mathlib.Core.Path.{_≡_, refl, sym, ap, _∙_}
+use mathlib.Core.Path.{refl}
 use Rattle.provenance.proofs.Escapes.{by-single, by-double, by-neither}
 use borrow.Author.Needs.{needs}
 use Rattle.provenance.proofs.escape.escape_len.Statement.{statement}
 use Rattle.provenance.proofs.escape.escape_len.Tie as tie
-use Rattle.provenance.proofs.escape.escape_len.Reads as reads
-use Rattle.provenance.proofs.escape.escape_len.Lts as lts
-use Rattle.provenance.proofs.escape.double_quote_escape.Reads as double-quote-escape-reads
-use Rattle.provenance.proofs.escape.single_quote_escape.Reads as single-quote-escape-reads
 
 single-quote-escape-requires : tie.Need-single-quote-escape-requires
 single-quote-escape-requires c κs = search needs

@@ -1,6 +1,6 @@
 -- `provenance::escape::is_one_byte_escape` meets its contract. The loop's invariant: a search in what is left of the table answers as one
 -- in all of it. The measure is what is left of the table. Assumes nothing.
-use mathlib.Core.Path.{_≡_, refl, sym, ap, _∙_}
+use mathlib.Core.Path.{_≡_, refl, sym, _∙_}
 use Prim.Native.Nat.{_-_, _≤_}
 use lib.ListN.{drop}
 use native.Mathlib.Omega.{arith}
@@ -9,8 +9,6 @@ use Rattle.provenance.specs.Escape.{isOneOf, oneByteEscapes}
 use Rattle.provenance.proofs.Escapes.{one-here, one-later, one-none}
 use Rattle.provenance.proofs.escape.is_one_byte_escape.Statement.{statement}
 use Rattle.provenance.proofs.escape.is_one_byte_escape.Tie as tie
-use Rattle.provenance.proofs.escape.is_one_byte_escape.Reads as reads
-use Rattle.provenance.proofs.escape.is_one_byte_escape.Lts as lts
 
 abbrev Inv-loop : tie.InvT-loop
 Inv-loop c i₀ i = (i ≤ 9) × (isOneOf (drop i oneByteEscapes) c ≡ isOneOf oneByteEscapes c)

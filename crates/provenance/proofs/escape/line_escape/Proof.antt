@@ -1,19 +1,13 @@
 -- `provenance::escape::line_escape` meets its contract: the run is what the call says. Assumes nothing.
-use mathlib.Core.Path.{_≡_, refl, sym, ap, _∙_}
+use mathlib.Core.Path.{ap}
 use native.Mathlib.Omega.{arith}
 use Prim.Native.Nat.{ℕ, _+_}
-use lib.ListN.{length}
-use Rattle.provenance.specs.declared.run.Run.{Run}
 use Rattle.provenance.specs.declared.escape.Escape.the-variants.{Takes}
-use Rattle.provenance.specs.Run.{whiteRun}
-use Rattle.provenance.proofs.Runs.{run-within}
+use Rattle.provenance.specs.RunLaws.{run-within}
 use Rattle.provenance.proofs.Takes.{numbers-of}
 use borrow.Author.Needs.{needs}
 use Rattle.provenance.proofs.escape.line_escape.Statement.{statement}
 use Rattle.provenance.proofs.escape.line_escape.Tie as tie
-use Rattle.provenance.proofs.escape.line_escape.Reads as reads
-use Rattle.provenance.proofs.escape.line_escape.Lts as lts
-use Rattle.provenance.proofs.run.white_space_run.Reads as white-space-run-reads
 
 white-space-run-requires : tie.Need-white-space-run-requires
 white-space-run-requires c κs = search needs

@@ -1,12 +1,9 @@
 -- `provenance::escape::single_quote_escape` meets its contract: it looks at two bytes. Assumes nothing.
-use mathlib.Core.Path.{_≡_, refl, sym, ap, _∙_}
+use mathlib.Core.Path.{sym, _∙_}
 use Rattle.provenance.proofs.Escapes.{one-quote, quote-alone, two-quotes}
 use borrow.Author.Needs.{needs}
 use Rattle.provenance.proofs.escape.single_quote_escape.Statement.{statement}
 use Rattle.provenance.proofs.escape.single_quote_escape.Tie as tie
-use Rattle.provenance.proofs.escape.single_quote_escape.Reads as reads
-use Rattle.provenance.proofs.escape.single_quote_escape.Lts as lts
-use Rattle.text.proofs.utf8.byte_at.Reads as byte-at-reads
 
 byte-at-requires : tie.Need-byte-at-requires
 byte-at-requires c κs = search needs

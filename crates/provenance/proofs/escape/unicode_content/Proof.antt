@@ -1,14 +1,10 @@
 -- `provenance::escape::unicode_content` meets its contract: a plus is passed over. Assumes nothing.
-use mathlib.Core.Path.{_≡_, refl, sym, ap, _∙_}
+use mathlib.Core.Path.{sym, ap, _∙_}
 use Rattle.provenance.specs.Escape.{codeContent}
 use Rattle.provenance.proofs.Escapes.{radix-plus, radix-bare}
 use borrow.Author.Needs.{needs}
 use Rattle.provenance.proofs.escape.unicode_content.Statement.{statement}
 use Rattle.provenance.proofs.escape.unicode_content.Tie as tie
-use Rattle.provenance.proofs.escape.unicode_content.Reads as reads
-use Rattle.provenance.proofs.escape.unicode_content.Lts as lts
-use Rattle.provenance.proofs.escape.digits_content.Reads as digits-content-reads
-use Rattle.text.proofs.utf8.byte_at.Reads as byte-at-reads
 
 byte-at-requires : tie.Need-byte-at-requires
 byte-at-requires c κs = search needs

@@ -1,18 +1,15 @@
 -- `provenance::escape::unicode_content_at` meets its contract: four bytes are handed on, or what is left. Assumes nothing.
-use mathlib.Core.Path.{_≡_, refl, sym, ap, _∙_}
+use mathlib.Core.Path.{_≡_, sym, ap, _∙_}
 use native.Mathlib.Omega.{arith}
-use Prim.Native.Nat.{ℕ, _+_, _-_, _≤_}
+use Prim.Native.Nat.{ℕ, _+_, _-_}
 use mathlib.Core.List.{List}
-use lib.ListN.{length, take, drop, length-drop}
+use lib.ListN.{take, drop, length-drop}
 use lib.Seq.{take-all}
 use Rattle.provenance.specs.Escape.{codeContent, radix16}
-use Rattle.provenance.proofs.Tests.{part-is}
+use Rattle.provenance.proofs.Parts.{part-is}
 use borrow.Author.Needs.{needs}
 use Rattle.provenance.proofs.escape.unicode_content_at.Statement.{statement}
 use Rattle.provenance.proofs.escape.unicode_content_at.Tie as tie
-use Rattle.provenance.proofs.escape.unicode_content_at.Reads as reads
-use Rattle.provenance.proofs.escape.unicode_content_at.Lts as lts
-use Rattle.provenance.proofs.escape.unicode_content.Reads as unicode-content-reads
 
 sub-if1 : tie.Need-sub-if1
 sub-if1 c = search needs

@@ -1,7 +1,7 @@
 -- `provenance::run::blanks` meets its contract. The loop's invariant: the blanks passed and those that follow are all. The measure is
 -- what is left. Assumes nothing.
-use mathlib.Core.Path.{_≡_, refl, sym, ap, _∙_}
-use borrow.Author.Tests.{lt-ltb, le-ltb, le-leb, lt-leb, eq-eqb, ne-eqb, not-true, not-false}
+use mathlib.Core.Path.{_≡_, sym, _∙_}
+use borrow.Author.Tests.{not-true, not-false}
 use Prim.Native.Nat.{_+_, _-_, _≤_}
 use lib.ListN.{length, drop}
 use native.Mathlib.Omega.{arith}
@@ -9,9 +9,6 @@ use Rattle.provenance.specs.Run.{blankRun}
 use Rattle.provenance.proofs.Runs.{blank-more, blank-stops, blank-ends}
 use Rattle.provenance.proofs.run.blanks.Statement.{statement}
 use Rattle.provenance.proofs.run.blanks.Tie as tie
-use Rattle.provenance.proofs.run.blanks.Reads as reads
-use Rattle.provenance.proofs.run.blanks.Lts as lts
-use Rattle.provenance.proofs.run.is_blank.Reads as is-blank-reads
 
 -- `provenance::run::blanks` meets its contract. The loop's invariant: the blanks passed and those that follow are all. The measure is
 

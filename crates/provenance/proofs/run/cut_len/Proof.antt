@@ -1,12 +1,10 @@
 -- `provenance::run::cut_len` meets its contract: the smaller of two numbers is what the test says. Assumes nothing.
-use borrow.Author.Tests.{lt-ltb, le-ltb, le-leb, lt-leb, eq-eqb, ne-eqb, not-true, not-false}
+use borrow.Author.Tests.{lt-ltb, not-true, not-false}
 use native.Mathlib.Omega.{arith}
 use Rattle.provenance.specs.Run.{cutLen}
 use borrow.Author.Needs.{needs}
 use Rattle.provenance.proofs.run.cut_len.Statement.{statement}
 use Rattle.provenance.proofs.run.cut_len.Tie as tie
-use Rattle.provenance.proofs.run.cut_len.Reads as reads
-use Rattle.provenance.proofs.run.cut_len.Lts as lts
 
 -- `provenance::run::cut_len` meets its contract: the smaller of two numbers is what the test says. Assumes nothing.
 

@@ -1,9 +1,7 @@
 -- `provenance::run::is_blank` meets its contract: it asks the two questions in turn. Assumes nothing.
-use borrow.Author.Tests.{lt-ltb, le-ltb, le-leb, lt-leb, eq-eqb, ne-eqb, not-true, not-false}
+use borrow.Author.Tests.{eq-eqb, ne-eqb}
 use Rattle.provenance.proofs.run.is_blank.Statement.{statement}
 use Rattle.provenance.proofs.run.is_blank.Tie as tie
-use Rattle.provenance.proofs.run.is_blank.Reads as reads
-use Rattle.provenance.proofs.run.is_blank.Lts as lts
 
 returns : tie.Need-returns
 returns c = rw (eq-eqb _ _ (c .if1 .taken))

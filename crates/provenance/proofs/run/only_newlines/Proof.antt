@@ -1,6 +1,6 @@
 -- `provenance::run::only_newlines` meets its contract. The loop's invariant: what is left has only newlines just if all of it has. The
 -- measure is what is left. Assumes nothing.
-use mathlib.Core.Path.{_≡_, refl, sym, ap, _∙_}
+use mathlib.Core.Path.{_≡_, refl, sym, _∙_}
 use Prim.Native.Nat.{_-_}
 use lib.ListN.{length, drop}
 use native.Mathlib.Omega.{arith}
@@ -8,8 +8,6 @@ use Rattle.provenance.specs.Run.{onlyNewlines}
 use Rattle.provenance.proofs.Runs.{only-more, only-not, only-ends}
 use Rattle.provenance.proofs.run.only_newlines.Statement.{statement}
 use Rattle.provenance.proofs.run.only_newlines.Tie as tie
-use Rattle.provenance.proofs.run.only_newlines.Reads as reads
-use Rattle.provenance.proofs.run.only_newlines.Lts as lts
 
 -- `provenance::run::only_newlines` meets its contract. The loop's invariant: what is left has only newlines just if all of it has. The
 

@@ -1,7 +1,7 @@
 -- `provenance::run::white_space_run` meets its contract. The loop's invariant: what was counted and the run of the rest are the run of
 -- the whole. The measure is what is left. Assumes nothing.
-use mathlib.Core.Path.{_≡_, refl, sym, ap, _∙_}
-use borrow.Author.Tests.{lt-ltb, le-ltb, le-leb, lt-leb, eq-eqb, ne-eqb, not-true, not-false}
+use mathlib.Core.Path.{_≡_, sym, _∙_}
+use borrow.Author.Tests.{not-true, not-false}
 use Prim.Native.Nat.{_-_, _≤_}
 use lib.ListN.{length, drop}
 use native.Mathlib.Omega.{arith}
@@ -9,9 +9,6 @@ use Rattle.provenance.specs.Run.{runOf}
 use Rattle.provenance.proofs.Runs.{scanned, scan-begins, scan-ends, scan-stops, scan-newline, scan-other}
 use Rattle.provenance.proofs.run.white_space_run.Statement.{statement}
 use Rattle.provenance.proofs.run.white_space_run.Tie as tie
-use Rattle.provenance.proofs.run.white_space_run.Reads as reads
-use Rattle.provenance.proofs.run.white_space_run.Lts as lts
-use Rattle.text.proofs.class.is_white_space_byte.Reads as is-white-space-byte-reads
 
 -- `provenance::run::white_space_run` meets its contract. The loop's invariant: what was counted and the run of the rest are the run of
 

@@ -1,23 +1,14 @@
 -- `provenance::scalar::scalar_provenance` meets its contract: the rest of the text is handed on where the walk can start. Assumes nothing.
-use mathlib.Core.Path.{_≡_, refl, sym, ap, _∙_}
-use borrow.Author.Tests.{lt-ltb, le-ltb, le-leb, lt-leb, eq-eqb, ne-eqb, not-true, not-false}
+use mathlib.Core.Path.{sym, _∙_}
+use borrow.Author.Tests.{not-true, not-false}
 use native.Mathlib.Omega.{arith}
-use Prim.Native.Nat.{ℕ, _≤_}
-use lib.ListN.{length, drop, length-drop}
-use Rattle.provenance.specs.Start.{walkStart}
-use Rattle.provenance.specs.Grammar.{rulesOf}
-use Rattle.text.specs.Boundary.{isBoundary}
+use lib.ListN.{length, length-drop}
 use Rattle.text.specs.Utf8Laws.{is-boundary}
-use Rattle.provenance.proofs.Tests.{part-is}
+use Rattle.provenance.proofs.Parts.{part-is}
 use Rattle.provenance.proofs.Starts.{cannot-start, can-start}
 use borrow.Author.Needs.{needs}
 use Rattle.provenance.proofs.scalar.scalar_provenance.Statement.{statement}
 use Rattle.provenance.proofs.scalar.scalar_provenance.Tie as tie
-use Rattle.provenance.proofs.scalar.scalar_provenance.Reads as reads
-use Rattle.provenance.proofs.scalar.scalar_provenance.Lts as lts
-use Rattle.provenance.proofs.start.walk_start.Reads as walk-start-reads
-use Rattle.provenance.proofs.walk.walk_scalar_provenance.Reads as walk-scalar-provenance-reads
-use Rattle.text.proofs.utf8.is_boundary.Reads as is-boundary-reads
 
 walk-start-requires : tie.Need-walk-start-requires
 walk-start-requires c κs = search needs

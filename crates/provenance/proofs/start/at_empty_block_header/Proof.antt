@@ -1,16 +1,11 @@
 -- `provenance::start::at_empty_block_header` meets its contract: both questions are asked. Assumes nothing.
-use mathlib.Core.Path.{_≡_, refl, sym, ap, _∙_}
+use mathlib.Core.Path.{sym, ap, _∙_}
 use Prim.Native.Nat.{ℕ}
 use Rattle.provenance.specs.Start.{isHeader}
 use Rattle.provenance.proofs.Starts.{header-yes, header-no}
 use borrow.Author.Needs.{needs}
 use Rattle.provenance.proofs.start.at_empty_block_header.Statement.{statement}
 use Rattle.provenance.proofs.start.at_empty_block_header.Tie as tie
-use Rattle.provenance.proofs.start.at_empty_block_header.Reads as reads
-use Rattle.provenance.proofs.start.at_empty_block_header.Lts as lts
-use Rattle.provenance.proofs.run.only_newlines.Reads as only-newlines-reads
-use Rattle.provenance.proofs.start.is_header.Reads as is-header-reads
-use Rattle.text.proofs.utf8.byte_at.Reads as byte-at-reads
 
 byte-at-requires : tie.Need-byte-at-requires
 byte-at-requires c κs = search needs

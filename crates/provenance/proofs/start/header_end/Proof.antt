@@ -1,6 +1,6 @@
 -- `provenance::start::header_end` meets its contract. The loop's invariant: the bytes passed and those before the next newline are all
 -- before the first. The measure is what is left. Assumes nothing.
-use mathlib.Core.Path.{_≡_, refl, sym, ap, _∙_}
+use mathlib.Core.Path.{_≡_}
 use Prim.Native.Nat.{_+_, _-_, _≤_}
 use lib.ListN.{length, drop}
 use native.Mathlib.Omega.{arith}
@@ -8,8 +8,6 @@ use Rattle.provenance.specs.Start.{beforeNewline}
 use Rattle.provenance.proofs.Runs.{before-more, before-stops, before-ends, header-found, header-open}
 use Rattle.provenance.proofs.start.header_end.Statement.{statement}
 use Rattle.provenance.proofs.start.header_end.Tie as tie
-use Rattle.provenance.proofs.start.header_end.Reads as reads
-use Rattle.provenance.proofs.start.header_end.Lts as lts
 
 -- `provenance::start::header_end` meets its contract. The loop's invariant: the bytes passed and those before the next newline are all
 

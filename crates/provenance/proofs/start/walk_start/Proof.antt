@@ -1,22 +1,16 @@
 -- `provenance::start::walk_start` meets its contract: it asks as the definition does. Assumes nothing.
-use mathlib.Core.Path.{_≡_, refl, sym, ap, _∙_}
-use borrow.Author.Tests.{lt-ltb, le-ltb, le-leb, lt-leb, eq-eqb, ne-eqb, not-true, not-false}
+use mathlib.Core.Path.{sym, _∙_}
+use borrow.Author.Tests.{not-true, not-false}
 use native.Mathlib.Omega.{arith}
-use Prim.Native.Nat.{ℕ, _≤_}
+use Prim.Native.Nat.{_≤_}
 use lib.ListN.{length, drop, length-drop}
 use Rattle.provenance.specs.Start.{headerEnd}
-use Rattle.provenance.proofs.Tests.{part-is}
-use Rattle.provenance.proofs.Runs.{header-within}
+use Rattle.provenance.proofs.Parts.{part-is}
+use Rattle.provenance.specs.RunLaws.{header-within}
 use Rattle.provenance.proofs.Starts.{start-quoted, start-plain, start-content, start-header}
 use borrow.Author.Needs.{needs}
 use Rattle.provenance.proofs.start.walk_start.Statement.{statement}
 use Rattle.provenance.proofs.start.walk_start.Tie as tie
-use Rattle.provenance.proofs.start.walk_start.Reads as reads
-use Rattle.provenance.proofs.start.walk_start.Lts as lts
-use Rattle.provenance.proofs.start.at_empty_block_header.Reads as at-empty-block-header-reads
-use Rattle.provenance.proofs.start.header_end.Reads as header-end-reads
-use Rattle.provenance.proofs.start.is_quoted.Reads as is-quoted-reads
-use Rattle.provenance.proofs.step.is_block.Reads as is-block-reads
 
 is-quoted-requires : tie.Need-is-quoted-requires
 is-quoted-requires c κs = search needs

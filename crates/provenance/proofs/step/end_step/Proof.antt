@@ -1,12 +1,9 @@
 -- `provenance::step::end_step` meets its contract: only newlines may be left. Assumes nothing.
-use mathlib.Core.Path.{_≡_, refl, sym, ap, _∙_}
+use mathlib.Core.Path.{sym, _∙_}
 use Rattle.provenance.proofs.Takes.{end-fits, end-not}
 use borrow.Author.Needs.{needs}
 use Rattle.provenance.proofs.step.end_step.Statement.{statement}
 use Rattle.provenance.proofs.step.end_step.Tie as tie
-use Rattle.provenance.proofs.step.end_step.Reads as reads
-use Rattle.provenance.proofs.step.end_step.Lts as lts
-use Rattle.provenance.proofs.run.only_newlines.Reads as only-newlines-reads
 
 only-newlines-requires : tie.Need-only-newlines-requires
 only-newlines-requires c κs = search needs

@@ -1,13 +1,10 @@
 -- `provenance::step::is_break_byte` meets its contract: it asks the questions in turn. Assumes nothing.
-use mathlib.Core.Path.{_≡_, refl, sym, ap, _∙_}
+use mathlib.Core.Path.{sym, ap, _∙_}
 use mathlib.Core.Bool.{Bool, _||_}
 use lib.Dec.{eqb}
 use borrow.Author.Needs.{needs}
 use Rattle.provenance.proofs.step.is_break_byte.Statement.{statement}
 use Rattle.provenance.proofs.step.is_break_byte.Tie as tie
-use Rattle.provenance.proofs.step.is_break_byte.Reads as reads
-use Rattle.provenance.proofs.step.is_break_byte.Lts as lts
-use Rattle.provenance.proofs.run.is_blank.Reads as is-blank-reads
 
 is-blank-requires : tie.Need-is-blank-requires
 is-blank-requires c κs = search needs

@@ -1,11 +1,9 @@
 -- `provenance::step::known_after` meets its contract: it asks as the definition does. Assumes nothing.
-use borrow.Author.Tests.{lt-ltb, le-ltb, le-leb, lt-leb, eq-eqb, ne-eqb, not-true, not-false}
+use borrow.Author.Tests.{lt-ltb, le-ltb, eq-eqb, ne-eqb}
 use Rattle.provenance.specs.Grammar.{knownAfter}
 use borrow.Author.Needs.{needs}
 use Rattle.provenance.proofs.step.known_after.Statement.{statement}
 use Rattle.provenance.proofs.step.known_after.Tie as tie
-use Rattle.provenance.proofs.step.known_after.Reads as reads
-use Rattle.provenance.proofs.step.known_after.Lts as lts
 
 returns : tie.Need-returns
 unfolding knownAfter

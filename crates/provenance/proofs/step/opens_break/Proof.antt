@@ -1,14 +1,10 @@
 -- `provenance::step::opens_break` meets its contract: first the value's byte, then the source's. Assumes nothing.
-use mathlib.Core.Path.{_≡_, refl, sym, ap, _∙_}
-use borrow.Author.Tests.{lt-ltb, le-ltb, le-leb, lt-leb, eq-eqb, ne-eqb, not-true, not-false}
+use mathlib.Core.Path.{sym, _∙_}
+use borrow.Author.Tests.{not-true, not-false}
 use Rattle.provenance.proofs.Takes.{opens-not, opens-wide, opens-newline, opens-return}
 use borrow.Author.Needs.{needs}
 use Rattle.provenance.proofs.step.opens_break.Statement.{statement}
 use Rattle.provenance.proofs.step.opens_break.Tie as tie
-use Rattle.provenance.proofs.step.opens_break.Reads as reads
-use Rattle.provenance.proofs.step.opens_break.Lts as lts
-use Rattle.provenance.proofs.step.is_break_byte.Reads as is-break-byte-reads
-use Rattle.text.proofs.class.is_white_space_byte.Reads as is-white-space-byte-reads
 
 is-break-byte-requires : tie.Need-is-break-byte-requires
 is-break-byte-requires c κs = search needs

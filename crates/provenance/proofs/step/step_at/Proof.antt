@@ -1,24 +1,17 @@
 -- `provenance::step::step_at` meets its contract: the four steps in turn, the first as the run tells it. Assumes nothing.
-use mathlib.Core.Path.{_≡_, refl, sym, ap, _∙_}
+use mathlib.Core.Path.{refl, ap, _∙_}
 use native.Mathlib.Omega.{arith}
-use Prim.Native.Nat.{ℕ, suc, _≤_, _<_}
-use lib.ListN.{length, drop, drop-of-length-le}
+use lib.ListN.{drop, drop-of-length-le}
 use lib.Seq.{drop-cons}
 use mathlib.Core.Bool.{Bool}
 use Rattle.provenance.specs.Run.{whiteRun}
 use Rattle.provenance.specs.Grammar.{isBlock, rulesOf, breakPair}
-use Rattle.provenance.proofs.Tests.{part-is}
-use Rattle.provenance.proofs.Escapes.{escape-nowhere}
+use Rattle.provenance.proofs.Parts.{part-is}
+use Rattle.provenance.specs.EscapeLaws.{escape-nowhere}
 use Rattle.provenance.proofs.Takes.{found, found-inside, step-break, step-escape, step-end, step-equal, step-nothing}
 use borrow.Author.Needs.{needs}
 use Rattle.provenance.proofs.step.step_at.Statement.{statement}
 use Rattle.provenance.proofs.step.step_at.Tie as tie
-use Rattle.provenance.proofs.step.step_at.Reads as reads
-use Rattle.provenance.proofs.step.step_at.Lts as lts
-use Rattle.provenance.proofs.escape.escape_len.Reads as escape-len-reads
-use Rattle.provenance.proofs.step.break_step.Reads as break-step-reads
-use Rattle.provenance.proofs.step.end_step.Reads as end-step-reads
-use Rattle.provenance.proofs.step.is_block.Reads as is-block-reads
 
 is-block-requires : tie.Need-is-block-requires
 is-block-requires c κs = search needs

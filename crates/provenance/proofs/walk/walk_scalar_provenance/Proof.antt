@@ -2,32 +2,22 @@
 -- the other way round, its pieces are those written and those of the rest (`Going`), and no run from here to `known` holds a newline. The
 -- measure is what is left of the source and of the value. Assumes nothing.
 use mathlib.Core.Path.{_≡_, refl, sym, ap, _∙_}
-use borrow.Author.Tests.{lt-ltb, le-ltb, le-leb, lt-leb, eq-eqb, ne-eqb, not-true, not-false}
-use native.Mathlib.Omega.{arith}
-use mathlib.Core.Logic.{⊎-elim}
+use mathlib.Core.Logic.{⊎-elim, _⊎_}
 use Prim.Native.Nat.{ℕ, _+_, _-_, _≤_, _<_}
-use lib.ListN.{length, drop}
+use native.Mathlib.Omega.{arith}
+use lib.ListN.{length}
+use borrow.Author.Needs.{needs}
+use Rattle.provenance.specs.declared.step.Step.{Step}
+use Rattle.provenance.specs.declared.step.Step.the-variants.{Verbatim, Replacement}
 use Rattle.provenance.specs.Grammar.{isBlock, rulesOf, stepAt}
-use Rattle.provenance.specs.Layout.{zeros}
 use Rattle.provenance.specs.Writing.{writtenLen}
-use Rattle.provenance.proofs.Escapes.{style-fair}
-use Rattle.provenance.proofs.Steps.{Fair, grammar-fair}
+use Rattle.provenance.specs.EscapeLaws.{style-fair}
+use Rattle.provenance.specs.StepLaws.{Fair, grammar-fair}
 use Rattle.provenance.proofs.Takes.{Clear, tells, run-small, clear-after, clear-on}
 use Rattle.provenance.proofs.Turn.{Going, begins, on-verbatim, on-replacement, within-of}
 use Rattle.provenance.proofs.Walks.{ends-stuck, ends-listed, ends-full}
-use borrow.Author.Needs.{needs}
 use Rattle.provenance.proofs.walk.walk_scalar_provenance.Statement.{statement}
 use Rattle.provenance.proofs.walk.walk_scalar_provenance.Tie as tie
-use Rattle.provenance.proofs.walk.walk_scalar_provenance.Reads as reads
-use Rattle.provenance.proofs.walk.walk_scalar_provenance.Lts as lts
-use Rattle.provenance.proofs.step.break_run.Reads as break-run-reads
-use Rattle.provenance.proofs.step.known_after.Reads as known-after-reads
-use Rattle.provenance.proofs.step.step_at.Reads as step-at-reads
-use Rattle.provenance.proofs.write.clear.Reads as clear-reads
-use Rattle.provenance.proofs.write.put_open.Reads as put-open-reads
-use Rattle.provenance.proofs.write.put_replacement.Reads as put-replacement-reads
-use Rattle.provenance.proofs.write.room.Reads as room-reads
-use Rattle.provenance.proofs.write.written_len.Reads as written-len-reads
 
 abbrev Inv-loop : tie.InvT-loop
 Inv-loop src value style column base pieces₀ s₀ v₀ from₀ n₀ known₀ pieces s v from n known =
@@ -36,6 +26,51 @@ Inv-loop src value style column base pieces₀ s₀ v₀ from₀ n₀ known₀ p
 
 abbrev μ-loop : tie.MeasureT-loop
 μ-loop src value style column base pieces₀ s₀ v₀ from₀ n₀ known₀ pieces s v from n known = (length src - s) + (length value - v)
+
+-- ---- what is known in a turn
+
+-- the steps of the grammar, which are fair
+abbrev steps : tie.In-loop Inv-loop μ-loop → ℕ → ℕ → Step
+steps i = stepAt (rulesOf (i .before .before .before .before .before .args .style) (i .before .before .before .before .before .args .column)) (i .before .before .before .before .before .args .src .now) (i .before .before .before .before .before .args .value .now)
+
+fair-here : (i : tie.In-loop Inv-loop μ-loop) → Fair (steps i) (length (i .before .before .before .before .before .args .src .now)) (length (i .before .before .before .before .before .args .value .now))
+fair-here i = let a = i .before .before .before .before .before .args in grammar-fair (rulesOf (a .style) (a .column)) (style-fair (a .style)) (a .src .now) (a .value .now)
+
+-- after the run was looked at
+clear-here : (c : tie.After-known-after Inv-loop μ-loop) → Clear (c .before .before .before .before .before .before .before .args .src .now) (c .before .before .before .loop .s) (c .known-after .result)
+clear-here c =
+    let a = c .before .before .before .before .before .before .before .args in
+    let w = c .before .before .before .loop in
+    clear-after (isBlock (a .style)) (a .src .now) (a .value .now) (w .s) (w .v) (w .known) (w .inv .1) (c .before .break-run .result) (c .before .break-run .ensures) _ (c .known-after .ensures)
+
+-- the step is verbatim
+is-verbatim : (c : tie.After-known-told Inv-loop μ-loop) → steps (c .before .before .before .before .before .before) (c .before .before .before .before .before .before .before .loop .s) (c .before .before .before .before .before .before .before .loop .v) ≡ Verbatim (c .before .t .given .0 .0)
+is-verbatim c = sym (c .before .before .before .step-at .ensures) ∙ c .before .t .given .1
+
+verbatim-bounds : (c : tie.After-known-told Inv-loop μ-loop)
+    → (0 < c .before .t .given .0 .0) × (c .before .before .before .before .before .before .before .loop .s + c .before .t .given .0 .0 ≤ length (c .before .before .before .before .before .before .before .before .before .before .before .args .src .now)) × (c .before .before .before .before .before .before .before .loop .v + c .before .t .given .0 .0 ≤ length (c .before .before .before .before .before .before .before .before .before .before .before .args .value .now))
+verbatim-bounds c = fair-here (c .before .before .before .before .before .before) .same (c .before .before .before .before .before .before .before .loop .s) (c .before .before .before .before .before .before .before .loop .v) (c .before .t .given .0 .0) (c .before .before .before .before .before .before .loop-test .taken) (is-verbatim c)
+
+-- the step is a replacement
+is-replacement : (c : tie.After-known-told2 Inv-loop μ-loop) → steps (c .before .before .before .before .before .before) (c .before .before .before .before .before .before .before .loop .s) (c .before .before .before .before .before .before .before .loop .v) ≡ Replacement (c .before .t2 .given .0 .0) (c .before .t2 .given .0 .1 .0)
+is-replacement c = sym (c .before .before .before .step-at .ensures) ∙ c .before .t2 .given .1
+
+replacement-bounds : (c : tie.After-known-told2 Inv-loop μ-loop)
+    → (c .before .before .before .before .before .before .before .loop .v + c .before .t2 .given .0 .1 .0 ≤ length (c .before .before .before .before .before .before .before .before .before .before .before .args .value .now) + 2)
+    × (((0 < c .before .t2 .given .0 .0) × (c .before .before .before .before .before .before .before .loop .s < length (c .before .before .before .before .before .before .before .before .before .before .before .args .src .now)) × (c .before .before .before .before .before .before .before .loop .s + c .before .t2 .given .0 .0 ≤ length (c .before .before .before .before .before .before .before .before .before .before .before .args .src .now) + 4))
+    ⊎ ((c .before .t2 .given .0 .0 ≡ 0) × (c .before .before .before .before .before .before .before .loop .v + c .before .t2 .given .0 .1 .0 ≡ length (c .before .before .before .before .before .before .before .before .before .before .before .args .value .now))))
+replacement-bounds c = fair-here (c .before .before .before .before .before .before) .other (c .before .before .before .before .before .before .before .loop .s) (c .before .before .before .before .before .before .before .loop .v) (c .before .t2 .given .0 .0) (c .before .t2 .given .0 .1 .0) (c .before .before .before .before .before .before .loop-test .taken) (is-replacement c)
+
+-- and was written
+replaced : (c : tie.After-slice-known2 Inv-loop μ-loop)
+    → Going (steps (c .before .before .before .before .before .before .before .before .before .before)) (length (c .before .before .before .before .before .before .before .before .before .before .before .before .before .before .before .args .src .now)) (length (c .before .before .before .before .before .before .before .before .before .before .before .before .before .before .before .args .value .now)) (c .before .before .before .before .before .before .before .before .before .before .before .before .before .before .before .args .base) (length (c .before .before .before .before .before .before .before .before .before .before .before .before .before .before .before .args .pieces .now)) (c .before .before .put-replacement .last .0)
+    (c .before .before .before .before .before .before .before .before .before .before .before .loop .s + c .before .before .before .before .before .t2 .given .0 .0) (c .before .before .before .before .before .before .before .before .before .before .before .loop .v + c .before .before .before .before .before .t2 .given .0 .1 .0) (c .before .before .before .before .before .before .before .before .before .before .before .loop .s + c .before .before .before .before .before .t2 .given .0 .0) (c .before .before .put-replacement .result)
+replaced c =
+    let w = c .before .before .before .before .before .before .before .before .before .before .before .loop in
+    let p = c .before .before .put-replacement in
+    on-replacement _ _ _ _ _ (fair-here (c .before .before .before .before .before .before .before .before .before .before)) _ (w .s) (w .v) (w .from) (w .n) (w .inv .0) (c .before .before .before .before .before .before .before .before .before .before .loop-test .taken) _ _ (is-replacement (c .before .before .before .before)) (p .result) (p .last .0) (p .ensures .0) (p .ensures .1)
+
+-- ---- the needs
 
 loop-holds : tie.Need-loop-holds Inv-loop μ-loop
 loop-holds c = (begins _ _ _ _ _ _ refl (c .before .before .before .pre .1), λ i h k. absurd (omega arith))
@@ -47,90 +82,33 @@ known-after-requires : tie.Need-known-after-requires Inv-loop μ-loop
 known-after-requires c κs =
     let a = c .before .before .before .before .before .before .args in
     let w = c .before .before .loop in
-    let src = a .src .now in
-    let val = a .value .now in
-    let rules = rulesOf (a .style) (a .column) in
-    let table = style-fair (a .style) in
-    let fair = grammar-fair rules table src val in
     let g = w .inv .0 .in-source in
-    let small = run-small (isBlock (a .style)) src val (w .s) (w .v) (w .known) (w .inv .1) (c .break-run .result) (c .break-run .ensures) in
+    let small = run-small (isBlock (a .style)) (a .src .now) (a .value .now) (w .s) (w .v) (w .known) (w .inv .1) (c .break-run .result) (c .break-run .ensures) in
     (omega arith, omega arith)
 
 step-at-requires : tie.Need-step-at-requires Inv-loop μ-loop
 step-at-requires c κs =
     let a = c .before .before .before .before .before .before .before .args in
     let w = c .before .before .before .loop in
-    let src = a .src .now in
-    let val = a .value .now in
-    let rules = rulesOf (a .style) (a .column) in
-    let table = style-fair (a .style) in
-    let fair = grammar-fair rules table src val in
-    ((omega arith, omega arith, omega arith), tells (isBlock (a .style)) src val (w .s) (w .v) (w .known) (w .inv .1) (c .before .break-run .result) (c .before .break-run .ensures))
+    ((omega arith, omega arith, omega arith), tells (isBlock (a .style)) (a .src .now) (a .value .now) (w .s) (w .v) (w .known) (w .inv .1) (c .before .break-run .result) (c .before .break-run .ensures))
 
 enum-known-t : tie.Need-enum-known-t Inv-loop μ-loop
 enum-known-t c = search needs
 
 add-s : tie.Need-add-s Inv-loop μ-loop
-add-s c =
-    let a = c .before .before .before .before .before .before .before .before .before .before .before .args in
-    let w = c .before .before .before .before .before .before .before .loop in
-    let src = a .src .now in
-    let val = a .value .now in
-    let rules = rulesOf (a .style) (a .column) in
-    let table = style-fair (a .style) in
-    let fair = grammar-fair rules table src val in
-    let e = sym (c .before .before .before .step-at .ensures) ∙ c .before .t .given .1 in
-    let k = c .before .t .given .0 .0 in
-    let more = c .before .before .before .before .before .before .loop-test .taken in
-    let b = fair .same (w .s) (w .v) k more e in
-    omega arith
+add-s c = let b = verbatim-bounds c in omega arith
 
 add-v : tie.Need-add-v Inv-loop μ-loop
-add-v c =
-    let a = c .before .before .before .before .before .before .before .before .before .before .before .args in
-    let w = c .before .before .before .before .before .before .before .loop in
-    let src = a .src .now in
-    let val = a .value .now in
-    let rules = rulesOf (a .style) (a .column) in
-    let table = style-fair (a .style) in
-    let fair = grammar-fair rules table src val in
-    let e = sym (c .before .before .before .step-at .ensures) ∙ c .before .t .given .1 in
-    let k = c .before .t .given .0 .0 in
-    let more = c .before .before .before .before .before .before .loop-test .taken in
-    let b = fair .same (w .s) (w .v) k more e in
-    omega arith
+add-v c = let b = verbatim-bounds c in omega arith
 
 loop-less : tie.Need-loop-less Inv-loop μ-loop
-loop-less c =
-    let a = c .before .before .before .before .before .before .before .before .before .before .before .args in
-    let w = c .before .before .before .before .before .before .before .loop in
-    let src = a .src .now in
-    let val = a .value .now in
-    let rules = rulesOf (a .style) (a .column) in
-    let table = style-fair (a .style) in
-    let fair = grammar-fair rules table src val in
-    let e = sym (c .before .before .before .step-at .ensures) ∙ c .before .t .given .1 in
-    let k = c .before .t .given .0 .0 in
-    let more = c .before .before .before .before .before .before .loop-test .taken in
-    let b = fair .same (w .s) (w .v) k more e in
-    omega arith
+loop-less c = let b = verbatim-bounds c in omega arith
 
 loop-again : tie.Need-loop-again Inv-loop μ-loop
 loop-again c =
-    let a = c .before .before .before .before .before .before .before .before .before .before .before .args in
-    let w = c .before .before .before .before .before .before .before .loop in
-    let src = a .src .now in
-    let val = a .value .now in
-    let rules = rulesOf (a .style) (a .column) in
-    let table = style-fair (a .style) in
-    let fair = grammar-fair rules table src val in
-    let e = sym (c .before .before .before .step-at .ensures) ∙ c .before .t .given .1 in
-    let k = c .before .t .given .0 .0 in
-    let more = c .before .before .before .before .before .before .loop-test .taken in
-    let b = fair .same (w .s) (w .v) k more e in
-    let known = clear-after (isBlock (a .style)) src val (w .s) (w .v) (w .known) (w .inv .1) (c .before .before .before .before .before .break-run .result) (c .before .before .before .before .before .break-run .ensures) (c .before .before .before .before .known-after .result) (c .before .before .before .before .known-after .ensures) in (
-      on-verbatim (stepAt rules src val) (length src) (length val) (a .base) (length (a .pieces .now)) fair _ (w .s) (w .v) (w .from) (w .n) (w .inv .0) more k e,
-      clear-on src (w .s) (w .s + k) _ (omega arith) known,
+    let w = c .before .before .before .before .before .before .before .loop in (
+      on-verbatim _ _ _ _ _ (fair-here (c .before .before .before .before .before .before)) _ (w .s) (w .v) (w .from) (w .n) (w .inv .0) (c .before .before .before .before .before .before .loop-test .taken) _ (is-verbatim c),
+      clear-on (c .before .before .before .before .before .before .before .before .before .before .before .args .src .now) (w .s) (w .s + c .before .t .given .0 .0) (c .before .before .before .before .known-after .result) (omega arith) (clear-here (c .before .before .before .before)),
     )
 
 enum-known-t-2 : tie.Need-enum-known-t-2 Inv-loop μ-loop
@@ -138,106 +116,30 @@ enum-known-t-2 c = search needs
 
 put-replacement-requires : tie.Need-put-replacement-requires Inv-loop μ-loop
 put-replacement-requires c κs =
-    let a = c .before .before .before .before .before .before .before .before .before .before .before .before .args in
-    let w = c .before .before .before .before .before .before .before .before .loop in
-    let src = a .src .now in
-    let val = a .value .now in
-    let rules = rulesOf (a .style) (a .column) in
-    let table = style-fair (a .style) in
-    let fair = grammar-fair rules table src val in
-    let l₁ = c .before .before .before .before .before .before .before .before .before .before .before .before .pre .0 .0 in
-    let l₂ = c .before .before .before .before .before .before .before .before .before .before .before .before .pre .0 .1 in
-    let e = sym (c .before .before .before .before .step-at .ensures) ∙ c .before .before .t2 .given .1 in
-    let x = c .before .before .t2 .given .0 .0 in
-    let y = c .before .before .t2 .given .0 .1 .0 in
-    let more = c .before .before .before .before .before .before .before .loop-test .taken in
-    let b = fair .other (w .s) (w .v) x y more e in
-    let g = w .inv .0 in
-    let i = g .in-source in
-    let o = g .in-run in
-    let f = g .fewer more in
+    let source = c .before .before .before .before .before .before .before .before .before .before .before .before .pre .0 .0 in
+    let value = c .before .before .before .before .before .before .before .before .before .before .before .before .pre .0 .1 in
+    let g = c .before .before .before .before .before .before .before .before .loop .inv .0 in
+    let in-source = g .in-source in
+    let in-run = g .in-run in
+    let few = g .fewer (c .before .before .before .before .before .before .before .loop-test .taken) in
+    let b = replacement-bounds (c .before) in
     (omega arith, omega arith, omega arith, ⊎-elim (λ z. omega arith) (λ z. omega arith) (b .1), omega arith)
 
 add-s-2 : tie.Need-add-s-2 Inv-loop μ-loop
-add-s-2 c =
-    let a = c .before .before .before .before .before .before .before .before .before .before .before .before .before .before .before .args in
-    let w = c .before .before .before .before .before .before .before .before .before .before .before .loop in
-    let src = a .src .now in
-    let val = a .value .now in
-    let rules = rulesOf (a .style) (a .column) in
-    let table = style-fair (a .style) in
-    let fair = grammar-fair rules table src val in
-    let l₁ = c .before .before .before .before .before .before .before .before .before .before .before .before .before .before .before .pre .0 .0 in
-    let l₂ = c .before .before .before .before .before .before .before .before .before .before .before .before .before .before .before .pre .0 .1 in
-    let e = sym (c .before .before .before .before .before .before .before .step-at .ensures) ∙ c .before .before .before .before .before .t2 .given .1 in
-    let x = c .before .before .before .before .before .t2 .given .0 .0 in
-    let y = c .before .before .before .before .before .t2 .given .0 .1 .0 in
-    let more = c .before .before .before .before .before .before .before .before .before .before .loop-test .taken in
-    let b = fair .other (w .s) (w .v) x y more e in
-    let p = c .before .before .put-replacement in
-    let g = on-replacement (stepAt rules src val) (length src) (length val) (a .base) (length (a .pieces .now)) fair _ (w .s) (w .v) (w .from) (w .n) (w .inv .0) more x y e (p .result) (p .last .0) (p .ensures .0) (p .ensures .1) in
-    let i = g .in-source in omega arith
+add-s-2 c = let limit = c .before .before .before .before .before .before .before .before .before .before .before .before .before .before .before .pre .0 .0 in let i = replaced c .in-source in omega arith
 
 add-v-2 : tie.Need-add-v-2 Inv-loop μ-loop
-add-v-2 c =
-    let a = c .before .before .before .before .before .before .before .before .before .before .before .before .before .before .before .args in
-    let w = c .before .before .before .before .before .before .before .before .before .before .before .loop in
-    let src = a .src .now in
-    let val = a .value .now in
-    let rules = rulesOf (a .style) (a .column) in
-    let table = style-fair (a .style) in
-    let fair = grammar-fair rules table src val in
-    let l₁ = c .before .before .before .before .before .before .before .before .before .before .before .before .before .before .before .pre .0 .0 in
-    let l₂ = c .before .before .before .before .before .before .before .before .before .before .before .before .before .before .before .pre .0 .1 in
-    let e = sym (c .before .before .before .before .before .before .before .step-at .ensures) ∙ c .before .before .before .before .before .t2 .given .1 in
-    let x = c .before .before .before .before .before .t2 .given .0 .0 in
-    let y = c .before .before .before .before .before .t2 .given .0 .1 .0 in
-    let more = c .before .before .before .before .before .before .before .before .before .before .loop-test .taken in
-    let b = fair .other (w .s) (w .v) x y more e in
-    let p = c .before .before .put-replacement in
-    let g = on-replacement (stepAt rules src val) (length src) (length val) (a .base) (length (a .pieces .now)) fair _ (w .s) (w .v) (w .from) (w .n) (w .inv .0) more x y e (p .result) (p .last .0) (p .ensures .0) (p .ensures .1) in
-    let i = g .in-value in omega arith
+add-v-2 c = let limit = c .before .before .before .before .before .before .before .before .before .before .before .before .before .before .before .pre .0 .1 in let i = replaced c .in-value in omega arith
 
 loop-less-2 : tie.Need-loop-less-2 Inv-loop μ-loop
 loop-less-2 c =
-    let a = c .before .before .before .before .before .before .before .before .before .before .before .before .before .before .before .args in
-    let w = c .before .before .before .before .before .before .before .before .before .before .before .loop in
-    let src = a .src .now in
-    let val = a .value .now in
-    let rules = rulesOf (a .style) (a .column) in
-    let table = style-fair (a .style) in
-    let fair = grammar-fair rules table src val in
-    let l₁ = c .before .before .before .before .before .before .before .before .before .before .before .before .before .before .before .pre .0 .0 in
-    let l₂ = c .before .before .before .before .before .before .before .before .before .before .before .before .before .before .before .pre .0 .1 in
-    let e = sym (c .before .before .before .before .before .before .before .step-at .ensures) ∙ c .before .before .before .before .before .t2 .given .1 in
-    let x = c .before .before .before .before .before .t2 .given .0 .0 in
-    let y = c .before .before .before .before .before .t2 .given .0 .1 .0 in
     let more = c .before .before .before .before .before .before .before .before .before .before .loop-test .taken in
-    let b = fair .other (w .s) (w .v) x y more e in
-    let p = c .before .before .put-replacement in
-    let g = on-replacement (stepAt rules src val) (length src) (length val) (a .base) (length (a .pieces .now)) fair _ (w .s) (w .v) (w .from) (w .n) (w .inv .0) more x y e (p .result) (p .last .0) (p .ensures .0) (p .ensures .1) in
-    ⊎-elim (λ z. omega arith) (λ z. omega arith) (b .1)
+    ⊎-elim (λ z. omega arith) (λ z. omega arith) (replacement-bounds (c .before .before .before .before) .1)
 
 loop-again-2 : tie.Need-loop-again-2 Inv-loop μ-loop
 loop-again-2 c =
-    let a = c .before .before .before .before .before .before .before .before .before .before .before .before .before .before .before .args in
     let w = c .before .before .before .before .before .before .before .before .before .before .before .loop in
-    let src = a .src .now in
-    let val = a .value .now in
-    let rules = rulesOf (a .style) (a .column) in
-    let table = style-fair (a .style) in
-    let fair = grammar-fair rules table src val in
-    let l₁ = c .before .before .before .before .before .before .before .before .before .before .before .before .before .before .before .pre .0 .0 in
-    let l₂ = c .before .before .before .before .before .before .before .before .before .before .before .before .before .before .before .pre .0 .1 in
-    let e = sym (c .before .before .before .before .before .before .before .step-at .ensures) ∙ c .before .before .before .before .before .t2 .given .1 in
-    let x = c .before .before .before .before .before .t2 .given .0 .0 in
-    let y = c .before .before .before .before .before .t2 .given .0 .1 .0 in
-    let more = c .before .before .before .before .before .before .before .before .before .before .loop-test .taken in
-    let b = fair .other (w .s) (w .v) x y more e in
-    let p = c .before .before .put-replacement in
-    let g = on-replacement (stepAt rules src val) (length src) (length val) (a .base) (length (a .pieces .now)) fair _ (w .s) (w .v) (w .from) (w .n) (w .inv .0) more x y e (p .result) (p .last .0) (p .ensures .0) (p .ensures .1) in
-    let known = clear-after (isBlock (a .style)) src val (w .s) (w .v) (w .known) (w .inv .1) (c .before .before .before .before .before .before .before .before .before .break-run .result) (c .before .before .before .before .before .before .before .before .before .break-run .ensures) (c .before .before .before .before .before .before .before .before .known-after .result) (c .before .before .before .before .before .before .before .before .known-after .ensures) in
-    (g, clear-on src (w .s) (w .s + x) _ (omega arith) known)
+    (replaced c, clear-on (c .before .before .before .before .before .before .before .before .before .before .before .before .before .before .before .args .src .now) (w .s) (w .s + c .before .before .before .before .before .t2 .given .0 .0) (c .before .before .before .before .before .before .before .before .known-after .result) (omega arith) (clear-here (c .before .before .before .before .before .before .before .before)))
 
 enum-told : tie.Need-enum-told Inv-loop μ-loop
 enum-told c = search needs
@@ -255,29 +157,18 @@ returns : tie.Need-returns Inv-loop μ-loop
 returns c =
     let a = c .before .before .before .before .before .before .before .before .before .before .before .before .before .before .before .args in
     let w = c .before .before .before .before .before .before .before .before .before .before .before .loop in
-    let src = a .src .now in
-    let val = a .value .now in
-    let rules = rulesOf (a .style) (a .column) in
-    let table = style-fair (a .style) in
-    let fair = grammar-fair rules table src val in
     let g = w .inv .0 in
     let k = c .before .before .before .written-len in
-    ends-stuck rules table src val (a .base) (length (a .pieces .now)) _ (w .s) (w .v) (w .from) (w .n) g (c .before .before .before .before .before .before .before .before .before .before .loop-test .taken) (sym (c .before .before .before .before .before .before .before .step-at .ensures) ∙ c .before .before .before .before .before .enum-told .given .1)
+    ends-stuck (rulesOf (a .style) (a .column)) (style-fair (a .style)) (a .src .now) (a .value .now) (a .base) (length (a .pieces .now)) _ (w .s) (w .v) (w .from) (w .n) g
+    (c .before .before .before .before .before .before .before .before .before .before .loop-test .taken) (sym (c .before .before .before .before .before .before .before .step-at .ensures) ∙ c .before .before .before .before .before .enum-told .given .1)
     (k .result) _ (k .ensures ∙ ap (λ (j : ℕ). writtenLen (w .n) j) (g .held .size)) (c .before .before .clear .ensures)
 
 put-open-requires : tie.Need-put-open-requires Inv-loop μ-loop
 put-open-requires c κs =
-    let a = c .before .before .before .before .before .before .args in
-    let w = c .before .before .loop in
-    let src = a .src .now in
-    let val = a .value .now in
-    let rules = rulesOf (a .style) (a .column) in
-    let table = style-fair (a .style) in
-    let fair = grammar-fair rules table src val in
-    let g = w .inv .0 in
-    let i = g .in-source in
-    let o = g .in-run in
-    let f = g .few in
+    let g = c .before .before .loop .inv .0 in
+    let in-source = g .in-source in
+    let in-run = g .in-run in
+    let few = g .few in
     (omega arith, omega arith, omega arith)
 
 room-requires : tie.Need-room-requires Inv-loop μ-loop
@@ -296,18 +187,14 @@ returns-2 : tie.Need-returns-2 Inv-loop μ-loop
 returns-2 c =
     let a = c .before .before .before .before .before .before .before .before .before .before .before .before .before .before .before .before .args in
     let w = c .before .before .before .before .before .before .before .before .before .before .before .before .loop in
-    let src = a .src .now in
-    let val = a .value .now in
-    let rules = rulesOf (a .style) (a .column) in
-    let table = style-fair (a .style) in
-    let fair = grammar-fair rules table src val in
     let g = w .inv .0 in
     let o = c .before .before .before .before .before .before .before .before .before .put-open in
     let k = c .before .before .before .written-len2 in
     let size : length (o .last .0) ≡ length (a .pieces .now) = o .kept .0 ∙ g .held .size in
     let most = c .before .before .before .before .before .before .room .ensures in
     let over = c .before .before .before .before .before .if1 .taken in
-    ends-full rules table src val (a .base) (length (a .pieces .now)) _ (w .s) (w .v) (w .from) (w .n) g (c .before .before .before .before .before .before .before .before .before .before .before .loop-test .left) (o .result) (o .last .0) (o .ensures .0) (o .ensures .1)
+    ends-full (rulesOf (a .style) (a .column)) (style-fair (a .style)) (a .src .now) (a .value .now) (a .base) (length (a .pieces .now)) _ (w .s) (w .v) (w .from) (w .n) g
+    (c .before .before .before .before .before .before .before .before .before .before .before .loop-test .left) (o .result) (o .last .0) (o .ensures .0) (o .ensures .1)
     (omega arith) (k .result) _ (k .ensures ∙ ap (λ (j : ℕ). writtenLen (o .result) j) size) (c .before .before .clear2 .ensures)
 
 same-length-3 : tie.Need-same-length-3 Inv-loop μ-loop
@@ -317,17 +204,13 @@ returns-3 : tie.Need-returns-3 Inv-loop μ-loop
 returns-3 c =
     let a = c .before .before .before .before .before .before .before .before .before .before .before .args in
     let w = c .before .before .before .before .before .before .before .loop in
-    let src = a .src .now in
-    let val = a .value .now in
-    let rules = rulesOf (a .style) (a .column) in
-    let table = style-fair (a .style) in
-    let fair = grammar-fair rules table src val in
     let g = w .inv .0 in
     let o = c .before .before .before .before .put-open in
     let size : length (o .last .0) ≡ length (a .pieces .now) = o .kept .0 ∙ g .held .size in
     let most = c .before .room .ensures in
     let in-room = c .if1 .left in
-    ends-listed rules table src val (a .base) (length (a .pieces .now)) _ (w .s) (w .v) (w .from) (w .n) g (c .before .before .before .before .before .before .loop-test .left) (o .result) (o .last .0) (o .ensures .0) (o .ensures .1) (omega arith)
+    ends-listed (rulesOf (a .style) (a .column)) (style-fair (a .style)) (a .src .now) (a .value .now) (a .base) (length (a .pieces .now)) _ (w .s) (w .v) (w .from) (w .n) g
+    (c .before .before .before .before .before .before .loop-test .left) (o .result) (o .last .0) (o .ensures .0) (o .ensures .1) (omega arith)
 
 pub walk-scalar-provenance-spec : {M : Type 1} → statement M
 walk-scalar-provenance-spec =

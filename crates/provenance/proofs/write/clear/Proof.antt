@@ -1,16 +1,14 @@
 -- `provenance::write::clear` meets its contract. The loop's invariant: zeros so far, then the buffer as it was. The measure is what is
 -- left to clear. Assumes nothing.
-use mathlib.Core.Path.{_≡_, refl, sym, ap, _∙_}
-use mathlib.Core.List.{List, _++_}
+use mathlib.Core.Path.{_≡_, refl, ap, _∙_}
+use mathlib.Core.List.{List}
 use Prim.Native.Nat.{ℕ, _-_, _≤_}
-use lib.ListN.{length, set, drop, replicate, length-set}
+use lib.ListN.{length, set, length-set}
 use native.Mathlib.Omega.{arith}
 use borrow.Author.Fill.{fill-more}
 use Rattle.provenance.specs.Writing.{clearedTo}
 use Rattle.provenance.proofs.write.clear.Statement.{statement}
 use Rattle.provenance.proofs.write.clear.Tie as tie
-use Rattle.provenance.proofs.write.clear.Reads as reads
-use Rattle.provenance.proofs.write.clear.Lts as lts
 
 -- `provenance::write::clear` meets its contract. The loop's invariant: zeros so far, then the buffer as it was. The measure is what is
 

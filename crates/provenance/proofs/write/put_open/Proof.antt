@@ -1,12 +1,9 @@
 -- `provenance::write::put_open` meets its contract: it writes where there is something to write. Assumes nothing.
-use borrow.Author.Tests.{lt-ltb, le-ltb, le-leb, lt-leb, eq-eqb, ne-eqb, not-true, not-false}
+use borrow.Author.Tests.{lt-ltb, le-ltb}
 use Rattle.provenance.specs.Writing.{putOpen}
 use borrow.Author.Needs.{needs}
 use Rattle.provenance.proofs.write.put_open.Statement.{statement}
 use Rattle.provenance.proofs.write.put_open.Tie as tie
-use Rattle.provenance.proofs.write.put_open.Reads as reads
-use Rattle.provenance.proofs.write.put_open.Lts as lts
-use Rattle.provenance.proofs.write.put_piece.Reads as put-piece-reads
 
 -- `provenance::write::put_open` meets its contract: it writes where there is something to write. Assumes nothing.
 

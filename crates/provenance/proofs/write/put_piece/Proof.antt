@@ -1,5 +1,5 @@
 -- `provenance::write::put_piece` meets its contract: four stores, where there is room. Assumes nothing.
-use borrow.Author.Tests.{lt-ltb, le-ltb, le-leb, lt-leb, eq-eqb, ne-eqb, not-true, not-false}
+use borrow.Author.Tests.{lt-ltb, le-ltb}
 use native.Mathlib.Omega.{arith}
 use lib.ListN.{length, length-set}
 use Rattle.provenance.specs.Layout.{room}
@@ -7,9 +7,6 @@ use Rattle.provenance.specs.Writing.{putPiece}
 use borrow.Author.Needs.{needs}
 use Rattle.provenance.proofs.write.put_piece.Statement.{statement}
 use Rattle.provenance.proofs.write.put_piece.Tie as tie
-use Rattle.provenance.proofs.write.put_piece.Reads as reads
-use Rattle.provenance.proofs.write.put_piece.Lts as lts
-use Rattle.provenance.proofs.write.room.Reads as room-reads
 
 room-requires : tie.Need-room-requires
 room-requires c κs = search needs

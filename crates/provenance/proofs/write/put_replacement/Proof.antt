@@ -1,5 +1,5 @@
 -- `provenance::write::put_replacement` meets its contract: one write after the other. Assumes nothing.
-use mathlib.Core.Path.{_≡_, refl, sym, ap, _∙_}
+use mathlib.Core.Path.{ap, _∙_}
 use native.Mathlib.Omega.{arith}
 use Prim.Native.Nat.{ℕ, _+_, _≤_}
 use mathlib.Core.List.{List}
@@ -9,10 +9,6 @@ use Rattle.provenance.proofs.Turn.{count-more}
 use borrow.Author.Needs.{needs}
 use Rattle.provenance.proofs.write.put_replacement.Statement.{statement}
 use Rattle.provenance.proofs.write.put_replacement.Tie as tie
-use Rattle.provenance.proofs.write.put_replacement.Reads as reads
-use Rattle.provenance.proofs.write.put_replacement.Lts as lts
-use Rattle.provenance.proofs.write.put_open.Reads as put-open-reads
-use Rattle.provenance.proofs.write.put_piece.Reads as put-piece-reads
 
 put-open-requires : tie.Need-put-open-requires
 put-open-requires c κs = search needs

@@ -1,6 +1,6 @@
 -- `provenance::write::written_len` meets its contract: the smaller of two numbers is what the test says. Assumes nothing.
-use mathlib.Core.Path.{_≡_, refl, sym, ap, _∙_}
-use borrow.Author.Tests.{lt-ltb, le-ltb, le-leb, lt-leb, eq-eqb, ne-eqb, not-true, not-false}
+use mathlib.Core.Path.{ap}
+use borrow.Author.Tests.{lt-ltb, le-ltb}
 use native.Mathlib.Omega.{arith}
 use Prim.Native.Nat.{ℕ, _*_}
 use Rattle.provenance.specs.Layout.{room}
@@ -8,9 +8,6 @@ use Rattle.provenance.specs.Writing.{writtenLen}
 use borrow.Author.Needs.{needs}
 use Rattle.provenance.proofs.write.written_len.Statement.{statement}
 use Rattle.provenance.proofs.write.written_len.Tie as tie
-use Rattle.provenance.proofs.write.written_len.Reads as reads
-use Rattle.provenance.proofs.write.written_len.Lts as lts
-use Rattle.provenance.proofs.write.room.Reads as room-reads
 
 room-requires : tie.Need-room-requires
 room-requires c κs = search needs

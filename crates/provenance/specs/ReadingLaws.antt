@@ -1,8 +1,7 @@
 -- The function that contracts cite finds exactly the readings. Over any fair step function. Assumes nothing.
 use mathlib.Core.Path.{_≡_, refl, sym, ap, _∙_, subst}
-use mathlib.Core.Bool.{Bool, true, false}
 use mathlib.Core.Option.{Option, none, some, Option·none-ne-some, Option·some-injective}
-use mathlib.Core.Logic.{_⊎_, inl, inr, ⊎-elim}
+use mathlib.Core.Logic.{⊎-elim}
 use mathlib.Core.List.{List, [], _∷_}
 use Prim.{Unit, tt}
 use Prim.Native.Nat.{ℕ, zero, suc, _+_, _-_, _≤_, _<_}
@@ -11,12 +10,11 @@ use lib.ListN.{length}
 use borrow.Author.Tests.{le-leb, lt-leb}
 use Rattle.provenance.specs.declared.step.Step.{Step}
 use Rattle.provenance.specs.declared.step.Step.the-variants.{Verbatim, Replacement, NoStep}
-use Rattle.provenance.specs.Run.{pick}
 use Rattle.provenance.specs.Escape.{FairTable}
 use Rattle.provenance.specs.Grammar.{Rules, stepAt}
 use Rattle.provenance.specs.Reading.{Reads, Reading, Fits, sourceLen, contentLen, stepThen, readBy, readingOf}
-use Rattle.provenance.proofs.Tests.{by-order}
-use Rattle.provenance.proofs.Steps.{Fair, grammar-fair}
+use Rattle.provenance.specs.Tests.{by-order}
+use Rattle.provenance.specs.StepLaws.{Fair, grammar-fair}
 
 module _ (at : ℕ → ℕ → Step) (len : ℕ) where
   -- two readings from the same places are the same
@@ -103,3 +101,48 @@ module _ (r : Rules) (fair : FairTable (r .escapes)) (src val : List ℕ) where
       go : (o : Option (List Step)) → readingOf r src val ≡ o → readingOf r src val ≡ none
       go none e = e
       go (some ts) e = absurd (n ts (found-is-reading ts e))
+
+-- ---- the equations of the function
+
+-- the reading from two places on
+unfoldable pub readFrom : Rules → List ℕ → List ℕ → ℕ → ℕ → Option (List Step)
+readFrom r src val s v = readBy ((length src - s) + (length val - v)) (stepAt r src val) (length val) s v
+
+module _ (r : Rules) (fair : FairTable (r .escapes)) (src val : List ℕ) where
+  pub from-start : readingOf r src val ≡ readFrom r src val 0 0
+  unfolding readingOf readFrom
+  from-start = let e : length src + length val ≡ (length src - 0) + (length val - 0) = omega arith in ap (λ (k : ℕ). readBy k (stepAt r src val) (length val) 0 0) e
+
+  from-reads : (s v : ℕ) (ts : List Step) → Reads (stepAt r src val) (length val) s v ts → readFrom r src val s v ≡ some ts
+  unfolding readFrom
+  from-reads s v ts h = reads-found (stepAt r src val) (length val) _ s v ts (few-steps (stepAt r src val) (length val) (length src) (grammar-fair r fair src val) s v ts h) h
+
+  from-found : (s v : ℕ) (ts : List Step) → readFrom r src val s v ≡ some ts → Reads (stepAt r src val) (length val) s v ts
+  unfolding readFrom
+  from-found s v ts e = found-reads (stepAt r src val) (length val) _ s v ts e
+
+  -- nothing is left to read at the value's end
+  pub reading-ends : (s v : ℕ) → length val ≤ v → readFrom r src val s v ≡ some []
+  unfolding Reads
+  reading-ends s v h = from-reads s v [] h
+
+  -- before it, the step that stands there and then the rest
+  pub reading-goes-on : (s v : ℕ) → v < length val
+      → readFrom r src val s v ≡ stepThen (stepAt r src val s v) (readFrom r src val (s + sourceLen (stepAt r src val s v)) (v + contentLen (stepAt r src val s v)))
+  unfolding Reads
+  reading-goes-on s v h = go (readFrom r src val s v) (stepThen t (readFrom r src val (s + sourceLen t) (v + contentLen t))) refl refl
+    where
+      t : Step
+      t = stepAt r src val s v
+
+      go : (o q : Option (List Step)) → readFrom r src val s v ≡ o → stepThen t (readFrom r src val (s + sourceLen t) (v + contentLen t)) ≡ q → o ≡ q
+      go none none e f = refl
+      go o (some us) e f =
+          let g = then-some (stepAt r src val) (length val) t _ us f in
+          let w : Reads (stepAt r src val) (length val) s v (t ∷ g .1 .0) = (h, refl, g .0, from-found (s + sourceLen t) (v + contentLen t) (g .1 .0) (g .1 .1)) in
+          sym e ∙ from-reads s v (t ∷ g .1 .0) w ∙ ap some (sym (g .1 .2))
+      go (some []) none e f = absurd (let w : length val ≤ v = from-found s v [] e in omega arith)
+      go (some (u ∷ us)) none e f =
+          let w = from-found s v (u ∷ us) e in
+          let w′ : Reads (stepAt r src val) (length val) (s + sourceLen t) (v + contentLen t) us = rw (w .1) (w .3) in
+          absurd (Option·none-ne-some _ (sym f ∙ ap (stepThen t) (from-reads (s + sourceLen t) (v + contentLen t) us w′) ∙ then-fits (stepAt r src val) (length val) t us (rw (w .1) (w .2))))

@@ -1,13 +1,12 @@
--- Laws of tests, of choices, and of the parts that are handed on. Assumes nothing.
+-- Laws of tests and choices, and of the bytes of a list. Assumes nothing.
 use mathlib.Core.Path.{_≡_, refl}
 use mathlib.Core.Bool.{Bool, true, false, _&&_, _||_}
 use mathlib.Core.List.{List, [], _∷_}
-use Prim.Native.Nat.{ℕ, zero, suc, _-_, _≤_, _<_}
+use Prim.Native.Nat.{ℕ, zero, suc, _≤_, _<_}
 use native.Mathlib.Decide.{decLe}
 use native.Mathlib.Nat.{lt-of-not-le}
 use native.Mathlib.Omega.{arith}
-use lib.ListN.{length, take, drop, getD, length-drop, drop-of-length-le}
-use lib.Seq.{take-all}
+use lib.ListN.{length, getD}
 use Rattle.provenance.specs.Run.{pick}
 
 pub clash : true ≡ false → ⊥
@@ -53,10 +52,6 @@ passed false x y w n h = (refl, h)
 pub either : {A X : Type 0} (t : Bool) (x y w : A) → pick t x y ≡ w → (x ≡ w → X) → (y ≡ w → X) → X
 either true x y w h f g = f h
 either false x y w h f g = g h
-
--- a part from k on, handed on
-pub part-is : (l : List ℕ) (k : ℕ) → take (length l - k) (drop k l) ≡ drop k l
-part-is l k = take-all (length l - k) (drop k l) (let e = length-drop k l in omega arith)
 
 -- the byte past the end is 0
 pub byte-past : (l : List ℕ) (i : ℕ) → length l ≤ i → getD l i 0 ≡ 0

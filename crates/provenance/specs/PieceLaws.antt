@@ -1,11 +1,10 @@
--- The pieces of a reading, as the walk lays them: they are the joined pieces of its steps, lie one after the other, copy what they say,
--- and add up to the value. Over any fair step function. Assumes nothing.
+-- The laws of a reading's pieces: they lie one after the other, copy what they say, and add up to the value. Over any fair step function.
+-- The pieces are laid as a walk writes them: a verbatim run stays open until a replacement or the value's end closes it. That these are
+-- the joined pieces of the steps is `laid-is`. Assumes nothing.
 use mathlib.Core.Path.{_≡_, refl, sym, ap, _∙_, subst}
-use mathlib.Core.Bool.{Bool, true, false, _&&_}
-use mathlib.Core.Logic.{_⊎_, inl, inr, ⊎-elim}
 use mathlib.Core.List.{List, [], _∷_, _++_}
 use Prim.{Unit, tt}
-use Prim.Native.Nat.{ℕ, zero, suc, _+_, _-_, _≤_, _<_}
+use Prim.Native.Nat.{ℕ, _+_, _-_, _≤_, _<_}
 use native.Mathlib.Omega.{arith}
 use lib.Dec.{ltb, eqb}
 use lib.ListN.{length, take, drop, length-drop}
@@ -14,11 +13,23 @@ use borrow.Author.Tests.{lt-ltb, le-ltb}
 use Rattle.provenance.specs.declared.step.Step.{Step}
 use Rattle.provenance.specs.declared.step.Step.the-variants.{Verbatim, Replacement, NoStep}
 use Rattle.provenance.specs.Run.{pick}
-use Rattle.provenance.specs.Reading.{Reads, sourceLen, contentLen, Piece, piece, verbatim, replacement, stepPieces, joinOn, joined, piecesOf}
+use Rattle.provenance.specs.Reading.{Reads, contentLen, Piece, piece, verbatim, replacement, stepPieces, joinOn, joined, piecesOf}
 use Rattle.provenance.specs.Demand.{StartsAt, Follow, Copied, AllCopied, contents}
-use Rattle.provenance.proofs.Tests.{by-answer, by-order}
-use Rattle.provenance.proofs.Steps.{Fair}
-use Rattle.provenance.proofs.Turn.{closed, laid}
+use Rattle.provenance.specs.Tests.{by-answer, by-order}
+use Rattle.provenance.specs.StepLaws.{Fair}
+
+-- ---- the pieces as they are laid
+
+-- the verbatim run from..s of the text, if it is not empty
+abbrev pub closed : ℕ → ℕ → List Piece
+closed from s = pick (ltb from s) (piece verbatim from s (s - from) ∷ []) []
+
+-- the pieces of steps whose first stands at s, with the verbatim run from..s open
+unfoldable pub laid : ℕ → ℕ → List Step → List Piece
+laid from s [] = closed from s
+laid from s (Verbatim n ∷ ts) = laid from (s + n) ts
+laid from s (Replacement a b ∷ ts) = closed from s ++ (piece replacement s (s + a) b ∷ laid (s + a) (s + a) ts)
+laid from s (NoStep ∷ ts) = []
 
 -- ---- one piece a step, neighbouring verbatim ones joined
 

@@ -1,9 +1,9 @@
--- Demand 3 holds: `demand3` over any fair table of escapes, `demand3-of-scalars` of every scalar. Assumes nothing.
+-- Demand 3 holds: `demand3` over any rules with a fair table of escapes, `demand3-of-scalars` of every scalar. Assumes nothing.
 use mathlib.Core.Path.{_≡_, refl, sym, ap, _∙_, subst}
-use mathlib.Core.Bool.{Bool, true, false}
-use mathlib.Core.Option.{Option, none, some, Option·none-ne-some, Option·some-injective}
-use mathlib.Core.Logic.{_⊎_, inl, inr, ⊎-elim}
-use mathlib.Core.List.{List, [], _∷_, _++_}
+use mathlib.Core.Bool.{true}
+use mathlib.Core.Option.{Option, none, some}
+use mathlib.Core.Logic.{_⊎_, inl, inr}
+use mathlib.Core.List.{List, [], _∷_}
 use Prim.{Unit, tt}
 use Prim.Native.Nat.{ℕ, _+_, _≤_, _<_}
 use native.Mathlib.Omega.{arith}
@@ -15,18 +15,17 @@ use Rattle.provenance.specs.declared.step.Step.{Step}
 use Rattle.provenance.specs.declared.step.Step.the-variants.{Verbatim, Replacement, NoStep}
 use Rattle.provenance.specs.declared.walk.Walked.{Walked}
 use Rattle.provenance.specs.declared.walk.Walked.the-variants.{Listed, NoRoom, NoList}
-use Rattle.provenance.specs.Run.{pick}
 use Rattle.provenance.specs.Escape.{FairTable}
-use Rattle.provenance.specs.Grammar.{Rules, step, stepAt, rulesOf}
+use Rattle.provenance.specs.Grammar.{Rules, stepAt, rulesOf}
 use Rattle.provenance.specs.Reading.{Reads, Reading, sourceLen, contentLen, readingOf, Piece, piecesOf}
 use Rattle.provenance.specs.Layout.{room, zeros, filled, answerOf, bufferOf, piecesIf}
 use Rattle.provenance.specs.Start.{walkStart, listFrom}
 use Rattle.provenance.specs.Demand.{Accepts, StartsAt, Follow, AllCopied, contents, EscapeLast, Demand3}
-use Rattle.provenance.proofs.Tests.{clash, by-answer, by-order}
-use Rattle.provenance.proofs.Escapes.{style-fair}
-use Rattle.provenance.proofs.Steps.{Fair, grammar-fair, step-same, step-past}
-use Rattle.provenance.proofs.Finds.{reading-unique, found-is-reading, reading-is-found}
-use Rattle.provenance.proofs.Laid.{laid-is, first-starts, others-follow, contents-are, valueEnd, value-end, all-copied}
+use Rattle.provenance.specs.Tests.{by-answer, by-order}
+use Rattle.provenance.specs.EscapeLaws.{style-fair}
+use Rattle.provenance.specs.StepLaws.{Fair, grammar-fair, step-same, step-past}
+use Rattle.provenance.specs.ReadingLaws.{reading-unique, found-is-reading, reading-is-found}
+use Rattle.provenance.specs.PieceLaws.{laid-is, first-starts, others-follow, contents-are, valueEnd, value-end, all-copied}
 
 -- ---- answers and buffers of a list
 

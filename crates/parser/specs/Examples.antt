@@ -1,0 +1,182 @@
+-- Worked inputs of the two calls, by computation: the smallest input of each row of the table, and the places where the order of the
+-- rows, the free entry and the depth decide (R0 to R9, RO, E4, N1). Row 1 is stated for every input that is too long.
+use Prim.Native.Nat.{ℕ, zero, suc, _+_, _<_}
+use mathlib.Core.Path.{_≡_, refl, sym, ap, _∙_}
+use mathlib.Core.Bool.{Bool, true, false}
+use mathlib.Core.List.{List, [], _∷_, _++_}
+use mathlib.Core.Option.{Option, none, some}
+use native.Mathlib.Omega.{arith}
+use borrow.Author.Tests.{lt-ltb}
+use lib.Dec.{ltb}
+use lib.ListN.{length, replicate}
+use Rattle.text.specs.Boundary.{isBoundary}
+use Rattle.text.specs.Offset.{byteOffset}
+use Rattle.text.specs.Utf8.{codes, charsAfter, firstChar, charOf, multiByte, twoBytes, threeBytes, fourBytes, encode, encodeAll}
+use Rattle.text.specs.WhiteSpace.{whiteSpace, isIn, isWhiteSpace}
+use Rattle.schema.specs.Ascii.{bytes}
+use Rattle.schema.specs.CoreSchema.{coreSchema}
+use Rattle.schema.specs.declared.plain.Resolved.the-variants.{Integer, Real, Str}
+use Rattle.measure.specs.Run.{whiteSpaceRun, afterRun, holdsNewline}
+use Rattle.measure.specs.Plain.{isFold, beginsWith, takesRun, plainReach, plainLen}
+use Rattle.measure.specs.Quoted.{passedTogether, toClosing, quotedLen, quotedOrValueLen}
+use Rattle.measure.specs.Block.{lines, isBlank, trimmedLen, endsBlock, laterReach, blockReach, blockLen}
+use Rattle.measure.specs.Scalar.{plain, singleQuoted, doubleQuoted, literal, styleLen, scalarLen}
+use Rattle.provenance.specs.Run.{whiteRun, newlinesIn, throughLast, cut, blankRun, onlyNewlines}
+use Rattle.provenance.specs.Escape.{digitsFrom, digits, radix16, codeContent, singleQuoteEscapes, isOneOf, oneByteEscapes, backslashEscape, doubleQuoteEscapes, escapesOf}
+use Rattle.provenance.specs.Grammar.{sameBytes, breakPair, opensBreak, breakStep, equalStep, endStep, step}
+use Rattle.provenance.specs.Reading.{readBy, readingOf, Piece, piece, verbatim, replacement, stepPieces, joined, piecesOf}
+use Rattle.provenance.specs.Layout.{piecesIf}
+use Rattle.provenance.specs.Start.{atEmptyBlockHeader, beforeNewline, headerEnd, walkStart, listFrom, scalarList}
+use Rattle.text.specs.Admission.{textLimit, admission, admissionOfBoth}
+use Rattle.text.specs.Offset.{isAscii}
+use Rattle.text.specs.Utf8.{isUtf8, allSome}
+use Rattle.schema.specs.CoreSchema.{table, firstMatch}
+use Rattle.schema.specs.Integer.{digitValue, positional, signedValue, inRange, held}
+use Rattle.schema.specs.Matcher.{nullable, derivative, accepts}
+use Rattle.schema.specs.Tag.{untagged, resolveScalar}
+use Rattle.schema.specs.Record.{both}
+use Rattle.event.specs.Number.{numberAt}
+use Rattle.event.specs.Read.{eventsLimit, readString, readTag, readStartTag, readScalar, readBody, readEvent}
+use Rattle.parser.specs.Pick.{pick}
+use Rattle.parser.specs.Record.{extent, noTag, noList, pieceList, aliasNode, zeroNode}
+use Rattle.parser.specs.Scalar.{stepPast, scalarStart, spanLen, listAt, tagInfo, resolvedBy, scalarNode}
+use Rattle.parser.specs.Collection.{closes, collectionEnd, collectionStart, members, collectionOver, collectionNode}
+use Rattle.parser.specs.Machine.{Outcome, built, refused, rootDone, beforeRoot, withinDepth, withinRoom, completed, started, ended, aliased, keeping, scalarKept, scalared, ending, run, runAll}
+use Rattle.parser.specs.Call.{building, oneScalar, readingScalar}
+use Rattle.parser.specs.declared.record.Node.{Node}
+
+-- ---- events with their marker at index i
+
+abbrev sequence : ℕ → List ℕ
+sequence i = 1 ∷ 0 ∷ 5 ∷ 0 ∷ 0 ∷ 0 ∷ i ∷ 0 ∷ []
+
+abbrev sequenceEnd : ℕ → List ℕ
+sequenceEnd i = 2 ∷ 0 ∷ 4 ∷ 0 ∷ 0 ∷ 0 ∷ i ∷ []
+
+abbrev mapping : ℕ → List ℕ
+mapping i = 3 ∷ 0 ∷ 5 ∷ 0 ∷ 0 ∷ 0 ∷ i ∷ 0 ∷ []
+
+abbrev mappingEnd : ℕ → List ℕ
+mappingEnd i = 4 ∷ 0 ∷ 4 ∷ 0 ∷ 0 ∷ 0 ∷ i ∷ []
+
+abbrev alias : ℕ → List ℕ
+alias i = 6 ∷ 0 ∷ 4 ∷ 0 ∷ 0 ∷ 0 ∷ i ∷ []
+
+-- a plain scalar with the value of no bytes, of one, and of two
+abbrev empty : ℕ → List ℕ
+empty i = 5 ∷ 0 ∷ 11 ∷ 0 ∷ 0 ∷ 0 ∷ i ∷ 0 ∷ 0 ∷ 0 ∷ 0 ∷ 0 ∷ 0 ∷ 0 ∷ []
+
+abbrev scalar : ℕ → ℕ → List ℕ
+scalar i a = 5 ∷ 0 ∷ 12 ∷ 0 ∷ 0 ∷ 0 ∷ i ∷ 0 ∷ 0 ∷ 0 ∷ 0 ∷ 0 ∷ 0 ∷ 0 ∷ a ∷ []
+
+abbrev scalar2 : ℕ → ℕ → ℕ → List ℕ
+scalar2 i a b = 5 ∷ 0 ∷ 13 ∷ 0 ∷ 0 ∷ 0 ∷ i ∷ 0 ∷ 0 ∷ 0 ∷ 0 ∷ 0 ∷ 0 ∷ 0 ∷ a ∷ b ∷ []
+
+-- n sequences, one inside the other
+unfoldable pub deep : ℕ → List ℕ
+deep zero = []
+deep (suc n) = sequence 0 ++ deep n
+
+-- ---- row 1: a text or event bytes above their limit, whatever else holds
+
+either : (t : Bool) (o : Outcome) → o ≡ refused 1 0 → pick t (refused 1 0) o ≡ refused 1 0
+either true o e = refl
+either false o e = e
+
+pub row-1-text : (text events : List ℕ) (n m : ℕ) → textLimit < length text → building text events n m ≡ refused 1 0
+unfolding building admission
+row-1-text text events n m h = either (ltb eventsLimit (length events)) _ (rw (lt-ltb textLimit (length text) h) refl)
+
+pub row-1-events : (text events : List ℕ) (n m : ℕ) → eventsLimit < length events → building text events n m ≡ refused 1 0
+unfolding building
+row-1-events text events n m h = rw (lt-ltb eventsLimit (length events) h) refl
+
+-- ---- the other rows
+
+-- a string of one byte, its value at this place of the event bytes
+abbrev letter : ℕ → ℕ → ℕ → Node
+letter i first place = record { kind = 5; extent = extent i (i + 1); tag = noTag; subtree = 1; list = pieceList first 1; payload = both place 1 }
+
+pub record Rows : Type 0 where
+  pub row-0 : building [] (alias 0) 12 0 ≡ built (aliasNode 0 ∷ []) []
+  pub row-2 : building (0x80 ∷ []) [] 0 0 ≡ refused 2 0
+  pub row-3 : building [] (0 ∷ []) 0 0 ≡ refused 3 0
+  pub row-4 : building [] (sequenceEnd 0) 0 0 ≡ refused 4 0
+  pub row-4-kinds : building [] (sequence 0 ++ mappingEnd 0) 0 0 ≡ refused 4 1
+  pub row-4-key : building [] (mapping 0 ++ alias 0 ++ mappingEnd 0) 24 0 ≡ refused 4 2
+  -- an end after the root is a 4, a node a 5
+  pub row-4-after-root : building [] (alias 0 ++ sequenceEnd 0) 24 0 ≡ refused 4 1
+  pub row-5 : building [] (alias 0 ++ alias 0) 24 0 ≡ refused 5 1
+  pub row-7 : building [] (alias 0) 11 0 ≡ refused 7 0
+  pub row-8 : building (97 ∷ []) (scalar 0 97) 12 3 ≡ refused 8 0
+  pub row-8-fits : building (97 ∷ []) (scalar 0 97) 12 4 ≡ built (letter 0 0 14 ∷ []) (piece verbatim 0 1 1 ∷ [])
+  pub row-9 : building [] [] 0 0 ≡ refused 9 0
+  pub row-9-open : building [] (sequence 0) 0 0 ≡ refused 9 1
+  -- 7 comes before 8, and 3 before all
+  pub order-7-8 : building (97 ∷ []) (scalar 0 97) 0 0 ≡ refused 7 0
+  pub order-3-5 : building [] (alias 0 ++ (0 ∷ [])) 12 0 ≡ refused 3 1
+
+pub rows : Rows
+unfolding building runAll run ending rootDone beforeRoot withinDepth withinRoom completed started ended aliased keeping scalarKept scalared stepPast scalarStart tagInfo resolvedBy scalarNode closes collectionEnd collectionStart members collectionOver collectionNode admission isAscii isUtf8 allSome byteOffset numberAt readString readTag readStartTag readScalar readBody readEvent resolveScalar untagged coreSchema table firstMatch accepts derivative nullable held inRange signedValue positional digitValue spanLen listAt isBoundary scalarLen styleLen plainLen plainReach takesRun beginsWith isFold holdsNewline afterRun whiteSpaceRun isWhiteSpace isIn whiteSpace codes charsAfter firstChar charOf multiByte encode encodeAll passedTogether toClosing quotedLen quotedOrValueLen lines isBlank trimmedLen endsBlock laterReach blockReach blockLen scalarList listFrom walkStart headerEnd beforeNewline atEmptyBlockHeader piecesIf piecesOf joined stepPieces readingOf readBy step endStep equalStep breakStep opensBreak breakPair sameBytes escapesOf doubleQuoteEscapes backslashEscape oneByteEscapes isOneOf singleQuoteEscapes codeContent radix16 digits digitsFrom whiteRun newlinesIn throughLast cut blankRun onlyNewlines
+rows =
+    record {
+      row-0 = refl;
+      row-2 = refl;
+      row-3 = refl;
+      row-4 = refl;
+      row-4-kinds = refl;
+      row-4-key = refl;
+      row-4-after-root = refl;
+      row-5 = refl;
+      row-7 = refl;
+      row-8 = refl;
+      row-8-fits = refl;
+      row-9 = refl;
+      row-9-open = refl;
+      order-7-8 = refl;
+      order-3-5 = refl;
+    }
+
+-- 64 open collections pass, and the 65th is a 6
+pub depth : (building [] (deep 64) 0 0 ≡ refused 9 64) × (building [] (deep 65) 0 0 ≡ refused 6 64)
+unfolding deep building runAll run ending rootDone beforeRoot withinDepth started admission isAscii isUtf8 allSome byteOffset codes charsAfter encodeAll numberAt readTag readStartTag readBody readEvent
+depth = (refl, refl)
+
+-- ---- lists
+
+pub record Lists : Type 0 where
+  -- the text `ab` with the value `ac`: the walk fails after a piece that would not fit, and that is no 8
+  pub failed-walk : building (97 ∷ 98 ∷ []) (scalar2 0 97 99) 12 0
+      ≡ built (record { kind = 5; extent = extent 0 2; tag = noTag; subtree = 1; list = noList; payload = both 14 2 } ∷ []) []
+  -- `[a, ]`: the list of the empty value has no pieces, and starts at the next free entry
+  pub next-free : building (97 ∷ []) (sequence 0 ++ scalar 0 97 ++ empty 1 ++ sequenceEnd 1) 36 4
+      ≡ built
+        (letter 0 0 22
+        ∷ record { kind = 1; extent = extent 1 1; tag = noTag; subtree = 1; list = pieceList 1 0; payload = both 0 0 }
+        ∷ record { kind = 7; extent = extent 0 1; tag = noTag; subtree = 3; list = noList; payload = both 2 0 }
+        ∷ [])
+        (piece verbatim 0 1 1 ∷ [])
+  -- `:` as a key and a value: the value steps past the colon, the key does not; the mapping starts at its key
+  pub past-colon : building (58 ∷ []) (mapping 0 ++ empty 0 ++ empty 0 ++ mappingEnd 1) 36 0
+      ≡ built
+        (record { kind = 1; extent = extent 0 0; tag = noTag; subtree = 1; list = pieceList 0 0; payload = both 0 0 }
+        ∷ record { kind = 1; extent = extent 1 1; tag = noTag; subtree = 1; list = pieceList 0 0; payload = both 0 0 }
+        ∷ record { kind = 8; extent = extent 0 1; tag = noTag; subtree = 3; list = noList; payload = both 1 0 }
+        ∷ [])
+        []
+  -- the call on one scalar: its value has the place 0, and its first piece the number 0
+  pub one : readingScalar (97 ∷ []) 0 0 0 false (97 ∷ []) 4 ≡ built (letter 0 0 0 ∷ []) (piece verbatim 0 1 1 ∷ [])
+  pub one-style : readingScalar [] 0 0 5 false [] 0 ≡ refused 3 0
+  pub one-room : readingScalar (97 ∷ []) 0 0 0 false (97 ∷ []) 3 ≡ refused 8 0
+
+pub lists : Lists
+unfolding readingScalar oneScalar admissionOfBoth building runAll run ending rootDone beforeRoot withinDepth withinRoom completed started ended aliased keeping scalarKept scalared stepPast scalarStart tagInfo resolvedBy scalarNode closes collectionEnd collectionStart members collectionOver collectionNode admission isAscii isUtf8 allSome byteOffset numberAt readString readTag readStartTag readScalar readBody readEvent resolveScalar untagged coreSchema table firstMatch accepts derivative nullable held inRange signedValue positional digitValue spanLen listAt isBoundary scalarLen styleLen plainLen plainReach takesRun beginsWith isFold holdsNewline afterRun whiteSpaceRun isWhiteSpace isIn whiteSpace codes charsAfter firstChar charOf multiByte encode encodeAll passedTogether toClosing quotedLen quotedOrValueLen lines isBlank trimmedLen endsBlock laterReach blockReach blockLen scalarList listFrom walkStart headerEnd beforeNewline atEmptyBlockHeader piecesIf piecesOf joined stepPieces readingOf readBy step endStep equalStep breakStep opensBreak breakPair sameBytes escapesOf doubleQuoteEscapes backslashEscape oneByteEscapes isOneOf singleQuoteEscapes codeContent radix16 digits digitsFrom whiteRun newlinesIn throughLast cut blankRun onlyNewlines
+lists =
+    record {
+      failed-walk = refl;
+      next-free = refl;
+      past-colon = refl;
+      one = refl;
+      one-style = refl;
+      one-room = refl;
+    }
