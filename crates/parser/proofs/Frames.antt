@@ -1,5 +1,5 @@
 -- The stack's frames after stores, and what holds of all of them. Assumes nothing.
-use mathlib.Core.Path.{_≡_, refl, sym, ap, ap₂, _∙_, subst}
+use mathlib.Core.Path.{_≡_, refl, sym, ap, ap₂, _∙_}
 use mathlib.Core.Bool.{Bool, true, false, _&&_}
 use mathlib.Core.List.{List, [], _∷_}
 use Prim.Native.Nat.{ℕ, zero, suc, _+_, _-_, _*_, _%_, _≤_, _<_}
@@ -9,7 +9,7 @@ use native.Mathlib.Omega.{arith}
 use borrow.Author.Tests.{ne-eqb}
 use lib.Dec.{eqb}
 use lib.ListN.{length, getD, set, length-set}
-use lib.Seq.{sets, length-sets, getD-set-same, getD-set-other}
+use lib.Seq.{sets, getD-set-same, getD-set-other}
 use Rattle.text.specs.Boundary.{Boundary}
 use Rattle.schema.specs.Record.{truth}
 use Rattle.parser.specs.Pick.{pick}
@@ -93,7 +93,7 @@ open-child (suc d) s i h l =
     let v : ℕ = pick (eqb (getD s (k + 4) 0) 0) i (getD s (k + 5) 0) in
     let t : List ℕ = set (set s (k + 5) v) (k + 4) (getD s (k + 4) 0 + 1) in
     let other : (j : ℕ) → (j ≡ k + 4 → ⊥) → (j ≡ k + 5 → ⊥) → getD t j 0 ≡ getD s j 0 =
-      λ j a b. getD-set-other (set s (k + 5) v) (k + 4) j (getD s (k + 4) 0 + 1) 0 a ∙ getD-set-other s (k + 5) j v 0 b in
+    λ j a b. getD-set-other (set s (k + 5) v) (k + 4) j (getD s (k + 4) 0 + 1) 0 a ∙ getD-set-other s (k + 5) j v 0 b in
     let e4 : getD t (k + 4) 0 ≡ getD s (k + 4) 0 + 1 = getD-set-same (set s (k + 5) v) (k + 4) (getD s (k + 4) 0 + 1) 0 (rw (length-set s (k + 5) v) (omega arith)) in
     let e5 : getD t (k + 5) 0 ≡ v = getD-set-other (set s (k + 5) v) (k + 4) (k + 5) (getD s (k + 4) 0 + 1) 0 (λ e. omega arith) ∙ getD-set-same s (k + 5) v 0 (omega arith) in
     let e0 : getD t k 0 ≡ getD s k 0 = other k (λ e. omega arith) (λ e. omega arith) in

@@ -1,22 +1,22 @@
 -- The head of the loop over events: the run from the state held, at this place and number, is the whole run. Assumes nothing.
-use mathlib.Core.Path.{_≡_, refl, sym, ap, _∙_, subst}
-use mathlib.Core.Bool.{Bool, true, false, _&&_}
+use mathlib.Core.Path.{_≡_, refl, sym, ap, _∙_}
+use mathlib.Core.Bool.{true, false, _&&_}
 use mathlib.Core.Logic.{_⊎_, inl, inr}
-use mathlib.Core.List.{List, [], _∷_}
-use Prim.Native.Nat.{ℕ, zero, suc, _+_, _-_, _*_, _/_, _≤_, _<_, zero-le}
+use mathlib.Core.List.{List}
+use Prim.Native.Nat.{ℕ, _+_, _-_, _/_, _≤_, _<_, zero-le}
 use native.Mathlib.Omega.{arith}
 use lib.Dec.{eqb, ltb}
 use lib.ListN.{length, replicate}
 use Rattle.text.specs.OffsetLaws.{stands-start}
 use Rattle.event.specs.Number.{Bytes}
-use Rattle.event.specs.Encode.{YamlEvent, sequenceStart, sequenceEnd, mappingStart, mappingEnd, scalar, alias, encodeTag, encodeRest, encodeBody, Sound}
+use Rattle.event.specs.Encode.{YamlEvent, sequenceStart, sequenceEnd, mappingStart, mappingEnd, scalar, alias, Sound}
 use Rattle.event.specs.EncodeLaws.{body-length, rest-length}
 use Rattle.event.specs.Meaning.{Within, Answers, placed}
 use Rattle.event.specs.Read.{readEvent}
 use Rattle.event.specs.ReadLaws.{malformed-or-answers, answer-within}
 use Rattle.event.specs.declared.read.Event.{Event}
 use Rattle.event.specs.declared.read.Event.the-variants.{SequenceStart, SequenceEnd, MappingStart, MappingEnd, Scalar, Alias, Malformed}
-use Rattle.parser.specs.Machine.{State, empty, Next, go, stop, Outcome, built, refused, rootDone, step, nextPlace, ending, run, runAll}
+use Rattle.parser.specs.Machine.{State, empty, Next, go, stop, refused, step, nextPlace, ending, run, runAll}
 use Rattle.parser.specs.RunLaws.{run-ended, run-on, run-stopped}
 use Rattle.parser.specs.Held.{ValueShort, Read, Held, Ready, Moved, Follows, Filled}
 use Rattle.parser.specs.declared.answer.Answer.the-variants.{Built, Refused}
@@ -157,7 +157,7 @@ module _ (text events : List ℕ) (size pieceSize : ℕ) (s b p : List ℕ) (c :
         let g = moved-stop text size pieceSize (c .nodes) _ n s′ b′ p′ (rw em at stepped) in
         let numbered = h .numbered in
         let all : runAll text events (size / 12) (pieceSize / 4) ≡ refused n k =
-          sym (h .same) ∙ run-stopped text events (size / 12) (pieceSize / 4) (length events - k) i k n (h .st) (omega arith) more g in
+        sym (h .same) ∙ run-stopped text events (size / 12) (pieceSize / 4) (length events - k) i k n (h .st) (omega arith) more g in
         rw all refl
 
   module _ (over : length events ≤ i) where

@@ -1,12 +1,12 @@
 -- Entries laid out one after the other, for any entry and width. Assumes nothing.
-use mathlib.Core.Path.{_≡_, refl, sym, ap, ap₂, _∙_, subst}
+use mathlib.Core.Path.{_≡_, refl, sym, ap, ap₂, _∙_}
 use mathlib.Core.List.{List, [], _∷_, _++_, append-assoc, append-nil}
 use Prim.Native.Nat.{ℕ, zero, suc, _+_, _-_, _*_, _≤_, _<_}
 use native.Mathlib.Nat.{mul-suc, mul-zero, mul-add}
 use native.Mathlib.Omega.{arith}
 use lib.ListN.{length, replicate, take, drop, set, getD, length-append, length-replicate}
 use native.Mathlib.Numerals.{add-one}
-use lib.Seq.{sets, sets-eq, take-at, drop-at, drop-append-add, take-suc, length-take-le}
+use lib.Seq.{sets, sets-eq, take-at, drop-at, take-suc, length-take-le}
 use Rattle.parser.specs.Record.{nodeNumbers}
 use Rattle.parser.specs.Layout.{flat, laidBy, laidNodes, stored}
 use Rattle.parser.specs.declared.record.Node.{Node}

@@ -1,24 +1,24 @@
 -- Pieces in their buffer: the free part is zero, and is lent to a walk, which lays its own pieces out from its entry 0; the whole is then
 -- the pieces so far and the walk's. Assumes nothing.
-use mathlib.Core.Path.{_≡_, refl, sym, ap, ap₂, _∙_, subst}
+use mathlib.Core.Path.{_≡_, refl, sym, ap, ap₂, _∙_}
 use mathlib.Core.Bool.{Bool, true, false}
 use mathlib.Core.List.{List, [], _∷_, _++_, append-nil, append-assoc}
 use mathlib.Core.Option.{Option, none, some}
-use Prim.Native.Nat.{ℕ, zero, suc, _+_, _-_, _*_, _/_, _≤_, _<_}
+use Prim.Native.Nat.{ℕ, _+_, _-_, _*_, _/_, _≤_}
 use native.Mathlib.Omega.{arith}
-use borrow.Author.Tests.{leb-false, leb-true}
+use borrow.Author.Tests.{leb-false}
 use borrow.Rule.Slice.PartMut.{putMid, post-is, same-len-mid}
 use lib.Dec.{leb}
-use lib.ListN.{length, replicate, take, drop, length-drop, length-append, length-replicate, take-append-drop, replicate-append-replicate}
+use lib.ListN.{length, replicate, take, drop, length-drop, take-append-drop, replicate-append-replicate}
 use lib.Seq.{take-all, drop-length}
 use Rattle.provenance.specs.Run.{pick}
 use Rattle.provenance.specs.Reading.{Piece}
 use Rattle.provenance.specs.Layout.{numbers, filled, answerOf, bufferOf}
 use Rattle.provenance.specs.declared.walk.Walked.{Walked}
-use Rattle.provenance.specs.declared.walk.Walked.the-variants.{Listed, NoRoom, NoList}
+use Rattle.provenance.specs.declared.walk.Walked.the-variants.{Listed, NoRoom}
 use Rattle.parser.specs.Layout.{flat, laidBy}
 use Rattle.parser.specs.Held.{Walks}
-use Rattle.parser.proofs.Layouts.{flat-length, laid-none, laid-fits, laid-free, laid-on, drop-replicate}
+use Rattle.parser.proofs.Layouts.{laid-none, laid-fits, laid-free, laid-on, drop-replicate}
 
 abbrev pieceNumbers : Piece → List ℕ
 pieceNumbers p = p .kind ∷ p .start ∷ p .end ∷ p .content ∷ []

@@ -1,8 +1,8 @@
 -- Where nodes start: at boundaries. Assumes nothing.
-use mathlib.Core.Path.{_≡_, refl, sym, ap, _∙_, subst}
+use mathlib.Core.Path.{_≡_, refl, ap, subst}
 use mathlib.Core.Bool.{Bool, true, false, _&&_, not}
-use mathlib.Core.List.{List, [], _∷_}
-use Prim.Native.Nat.{ℕ, _+_, _-_, _≤_, _<_, min}
+use mathlib.Core.List.{List}
+use Prim.Native.Nat.{ℕ, _+_, _-_, _≤_, _<_}
 use native.Mathlib.Omega.{arith}
 use borrow.Author.Tests.{lt-ltb, eqb-true}
 use lib.Dec.{eqb, ltb}
@@ -13,12 +13,11 @@ use Rattle.text.specs.Utf8.{Utf8, firstChar, charOf}
 use Rattle.text.specs.Boundary.{Boundary, isBoundary}
 use Rattle.text.specs.Utf8Laws.{char-at, boundary-splits}
 use Rattle.text.specs.Offset.{byteOffset, cursorAt}
-use Rattle.text.specs.OffsetLaws.{offset-boundary}
 use Rattle.text.specs.declared.offset.Cursor.{Cursor}
 use Rattle.measure.specs.Scalar.{scalarLen}
 use Rattle.parser.specs.Pick.{pick}
 use Rattle.parser.specs.Scalar.{ScalarAt, stepPast, scalarStart, spanLen, suffixOf, scalarNode}
-use Rattle.event.specs.Meaning.{TextPart, TextParts}
+use Rattle.event.specs.Meaning.{TextParts}
 use Rattle.event.specs.Read.{partOf}
 use Rattle.event.specs.declared.string.Part.{Part}
 use Rattle.event.specs.declared.tag.YamlTag.{YamlTag}

@@ -1,5 +1,5 @@
 -- What the code does to its stack and buffers is what the machine does to its state, on plain values. Assumes nothing.
-use mathlib.Core.Path.{_≡_, refl, sym, ap, ap₂, _∙_, subst}
+use mathlib.Core.Path.{_≡_, refl, sym, ap, ap₂, _∙_}
 use mathlib.Core.Bool.{Bool, true, false, _&&_}
 use mathlib.Core.List.{List, [], _∷_, _++_}
 use mathlib.Core.Option.{Option, none, some}
@@ -8,33 +8,29 @@ use native.Mathlib.Omega.{arith}
 use borrow.Author.Tests.{lt-ltb, le-ltb, le-leb, lt-leb}
 use borrow.Rule.Slice.PartMut.{putMid}
 use lib.Dec.{eqb, ltb}
-use lib.ListN.{length, getD, take, drop, replicate, length-append}
+use lib.ListN.{length, take, drop, replicate, length-append}
 use lib.Seq.{sets, length-sets}
 use Rattle.text.specs.Utf8.{Utf8}
 use Rattle.text.specs.Boundary.{Boundary}
 use Rattle.text.specs.Utf8Laws.{boundary-start}
-use Rattle.text.specs.Offset.{byteOffset, cursorAt, Stands}
+use Rattle.text.specs.Offset.{byteOffset, cursorAt}
 use Rattle.text.specs.OffsetLaws.{cursor-stands, offset-boundary}
 use Rattle.text.specs.declared.offset.Cursor.{Cursor}
 use Rattle.provenance.specs.Reading.{Piece}
-use Rattle.provenance.specs.Layout.{filled}
 use Rattle.provenance.specs.declared.walk.Walked.the-variants.{Listed, NoRoom, NoList}
 use Rattle.event.specs.declared.tag.YamlTag.{YamlTag}
-use Rattle.parser.specs.Pick.{pick}
-use Rattle.parser.specs.Record.{withList, aliasNode}
+use Rattle.parser.specs.Record.{withList}
 use Rattle.schema.specs.declared.plain.Resolved.{Resolved}
-use Rattle.event.specs.Read.{partOf}
-use Rattle.event.specs.declared.string.Part.{Part}
-use Rattle.parser.specs.Scalar.{ScalarAt, scalarFrom, scalarStart, spanLen, listAt, suffixOf, tagInfo, resolvedBy, scalarNode}
+use Rattle.parser.specs.Scalar.{ScalarAt, spanLen, listAt, suffixOf, tagInfo, resolvedBy, scalarNode}
 use Rattle.parser.specs.Collection.{withChild, closes, collectionNode}
-use Rattle.parser.specs.Machine.{State, Next, go, stop, rootDone, beforeRoot, withinDepth, withinRoom, completed, started, ended, closed, keeping, scalarAt, scalarKept}
-use Rattle.parser.specs.Layout.{laidNodes, stored}
+use Rattle.parser.specs.Machine.{State, Next, go, stop, rootDone, beforeRoot, withinDepth, withinRoom, completed, started, ended, closed, keeping, scalarKept}
+use Rattle.parser.specs.Layout.{stored}
 use Rattle.parser.specs.Held.{frame, frameNumbers, openOf, Placed, Below, OnBoundaries, Held, Pushable, Moved, Walks}
 use Rattle.parser.specs.declared.record.Node.{Node}
 use Rattle.parser.specs.declared.record.TagInfo.{TagInfo}
 use Rattle.parser.specs.declared.stack.Open.{Open}
 use Rattle.parser.specs.declared.answer.Counts.{Counts}
-use Rattle.parser.specs.declared.answer.Move.the-variants.{Go, Stop}
+use Rattle.parser.specs.declared.answer.Move.the-variants.{Go}
 use Rattle.parser.proofs.Layouts.{nodes-more}
 use Rattle.parser.proofs.Pieces.{filled-fits, lent-length, lent-zero, back-with, back-zero, back-length}
 use Rattle.parser.proofs.Starts.{scalar-spans}
@@ -148,25 +144,26 @@ module _ (text : List ℕ) (size pieceSize : ℕ) (st : State) (c : Counts) (s b
       let t : List ℕ = sets s (7 * c .depth) (frameNumbers (opening mapping (cur .offset) tag)) in
       let long = h .stack-size in
       let on : openOf (c .depth + 1) t ≡ opening mapping (cur .offset) tag ∷ openOf (c .depth) s = open-push (c .depth) s (opening mapping (cur .offset) tag) (omega arith) x in
-      rw (before-root _ r, not-deep _ l)
-      (record {
-        stack-size = length-sets s (7 * c .depth) (frameNumbers (opening mapping (cur .offset) tag)) ∙ h .stack-size;
-        size-is = h .size-is;
-        piece-size-is = h .piece-size-is;
-        nodes-are = h .nodes-are;
-        opens-are = rw (← o, h .nodes-are, h .opens-are) (sym on);
-        pieces-are = h .pieces-are;
-        records-hold = h .records-hold;
-        pieces-hold = h .pieces-hold;
-        records-fit = h .records-fit;
-        pieces-fit = h .pieces-fit;
-        pieces-few = h .pieces-few;
-        deep = omega arith;
-        below = rw on (omega arith, h .below);
-        on-boundaries = rw on (rw o (offset-boundary u index), boundary-start u, h .on-boundaries);
-        cursor-stands = rw e (cursor-stands text index);
-      },
-      omega arith)
+      rw (before-root _ r, not-deep _ l) (
+        record {
+          stack-size = length-sets s (7 * c .depth) (frameNumbers (opening mapping (cur .offset) tag)) ∙ h .stack-size;
+          size-is = h .size-is;
+          piece-size-is = h .piece-size-is;
+          nodes-are = h .nodes-are;
+          opens-are = rw (← o, h .nodes-are, h .opens-are) (sym on);
+          pieces-are = h .pieces-are;
+          records-hold = h .records-hold;
+          pieces-hold = h .pieces-hold;
+          records-fit = h .records-fit;
+          pieces-fit = h .pieces-fit;
+          pieces-few = h .pieces-few;
+          deep = omega arith;
+          below = rw on (omega arith, h .below);
+          on-boundaries = rw on (rw o (offset-boundary u index), boundary-start u, h .on-boundaries);
+          cursor-stands = rw e (cursor-stands text index);
+        },
+        omega arith,
+      )
 
   -- ---- a collection ends
 

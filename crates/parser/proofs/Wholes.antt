@@ -1,6 +1,6 @@
 -- From what the inner calls leave to what the public calls promise. Assumes nothing.
-use mathlib.Core.Path.{_≡_, refl, sym, ap, ap₂, _∙_, subst, subst₂}
-use mathlib.Core.Bool.{Bool, true, false}
+use mathlib.Core.Path.{_≡_, refl, sym, ap, _∙_}
+use mathlib.Core.Bool.{Bool, false}
 use mathlib.Core.List.{List, [], _∷_, _++_}
 use mathlib.Core.Option.{Option, none, some}
 use Prim.Native.Nat.{ℕ, _+_, _-_, _*_, _/_, _≤_, _<_, min}
@@ -14,13 +14,12 @@ use Rattle.schema.specs.Tag.{resolveScalar}
 use Rattle.schema.specs.declared.plain.Resolved.{Resolved}
 use Rattle.event.specs.declared.tag.YamlTag.the-variants.{Absent}
 use Rattle.provenance.specs.Reading.{Piece}
-use Rattle.provenance.specs.Layout.{filled}
 use Rattle.provenance.specs.declared.walk.Walked.the-variants.{Listed, NoRoom, NoList}
 use Rattle.parser.specs.Record.{noTag, withList, zeroNode}
 use Rattle.parser.specs.Scalar.{scalarFrom, scalarStart, listAt, tagInfo, resolvedBy, scalarNode}
-use Rattle.parser.specs.Machine.{State, empty, Outcome, built, refused, completed, keeping, scalarKept, follow, runAll}
-use Rattle.parser.specs.Layout.{laidNodes, pieceRoom}
-use Rattle.parser.specs.Call.{returned, tableRow, building, oneScalar, readingScalar, Promised, PromisedScalar}
+use Rattle.parser.specs.Machine.{State, empty, Outcome, built, refused, completed, keeping, follow, runAll}
+use Rattle.parser.specs.Layout.{pieceRoom}
+use Rattle.parser.specs.Call.{building, oneScalar, readingScalar, Promised, PromisedScalar}
 use Rattle.parser.specs.Held.{Filled, Walks}
 use Rattle.parser.specs.declared.record.Node.{Node}
 use Rattle.parser.specs.declared.answer.Answer.{Answer}
@@ -127,7 +126,7 @@ module _ (text : List ℕ) (index column style : ℕ) (emptySpan : Bool) (value 
   pub one-is : (i : ℕ) (r : Resolved) (y : Node) → style ≤ 4 → i ≡ byteOffset text index → r ≡ resolveScalar value style false [] []
       → y ≡ scalarNode text (scalarFrom i column style emptySpan value 0) noTag r
       → oneScalar text index column style emptySpan value size
-        ≡ follow (keeping (pieceRoom size) y (listAt text (y .extent .start) (y .extent .end - y .extent .start) value style column) empty) outcome 0
+      ≡ follow (keeping (pieceRoom size) y (listAt text (y .extent .start) (y .extent .end - y .extent .start) value style column) empty) outcome 0
   unfolding oneScalar scalarStart tagInfo resolvedBy
   one-is i r y l ei er ey =
       rw (le-ltb 4 style l, ← ei)

@@ -1,7 +1,7 @@
 -- The two public calls, whole: what each comes to, and what it promises of its answer and of every lent number (R0 to R2, RZ, RS, B1).
 use mathlib.Core.Path.{_≡_}
 use Prim.Native.Nat.{ℕ}
-use mathlib.Core.Bool.{Bool, true, false}
+use mathlib.Core.Bool.{Bool, false}
 use mathlib.Core.List.{List, [], _∷_}
 use lib.Dec.{ltb}
 use lib.ListN.{length, replicate}
@@ -13,7 +13,6 @@ use Rattle.event.specs.Read.{eventsLimit}
 use Rattle.event.specs.declared.tag.YamlTag.the-variants.{Absent}
 use Rattle.parser.specs.Pick.{pick}
 use Rattle.parser.specs.Record.{zeroNode}
-use Rattle.provenance.specs.Reading.{Piece}
 use Rattle.parser.specs.Machine.{State, empty, Outcome, built, refused, scalarAt, scalarKept, follow, runAll}
 use Rattle.parser.specs.Layout.{laidNodes, laidPieces, recordRoom, pieceRoom}
 use Rattle.parser.specs.declared.record.Node.{Node}

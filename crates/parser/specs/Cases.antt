@@ -4,11 +4,11 @@ use Prim.Native.Nat.{ℕ, _+_}
 use mathlib.Core.Path.{_≡_, refl}
 use mathlib.Core.Bool.{false}
 use mathlib.Core.List.{List, [], _∷_}
-use mathlib.Core.Option.{Option, none, some}
+use mathlib.Core.Option.{none, some}
 use lib.IntN.{pos, negsuc}
 use Rattle.text.specs.Boundary.{isBoundary}
 use Rattle.text.specs.Offset.{byteOffset}
-use Rattle.text.specs.Utf8.{codes, charsAfter, firstChar, charOf, multiByte, twoBytes, threeBytes, fourBytes, encode, encodeAll}
+use Rattle.text.specs.Utf8.{codes, charsAfter, firstChar, charOf, encode, encodeAll}
 use Rattle.text.specs.WhiteSpace.{whiteSpace, isIn, isWhiteSpace}
 use Rattle.text.specs.Examples.{k1}
 use Rattle.schema.specs.Ascii.{bytes}

@@ -1,6 +1,6 @@
 -- Open collections, and the record of one that ends (E2, N2, S2, S3).
 use Prim.Native.Nat.{ℕ, _+_, _-_, _/_, _%_}
-use mathlib.Core.Bool.{Bool, true, false, _&&_, not}
+use mathlib.Core.Bool.{Bool, false, _&&_, not}
 use mathlib.Core.List.{List, [], _∷_}
 use lib.Dec.{eqb, ltb}
 use lib.ListN.{getD}
@@ -10,7 +10,6 @@ use Rattle.parser.specs.Record.{extent, noList}
 use Rattle.parser.specs.Scalar.{stepPast, tagInfo}
 use Rattle.parser.specs.declared.record.Node.{Node}
 use Rattle.parser.specs.declared.stack.Open.{Open}
-use Rattle.parser.specs.declared.stack.Suffix.{Suffix}
 
 -- ---- children
 

@@ -1,30 +1,26 @@
 -- Worked inputs of the two calls, by computation: the smallest input of each row of the table, and the places where the order of the
 -- rows, the free entry and the depth decide (R0 to R9, RO, E4, N1). Row 1 is stated for every input that is too long.
 use Prim.Native.Nat.{ℕ, zero, suc, _+_, _<_}
-use mathlib.Core.Path.{_≡_, refl, sym, ap, _∙_}
+use mathlib.Core.Path.{_≡_, refl}
 use mathlib.Core.Bool.{Bool, true, false}
 use mathlib.Core.List.{List, [], _∷_, _++_}
-use mathlib.Core.Option.{Option, none, some}
-use native.Mathlib.Omega.{arith}
 use borrow.Author.Tests.{lt-ltb}
 use lib.Dec.{ltb}
-use lib.ListN.{length, replicate}
+use lib.ListN.{length}
 use Rattle.text.specs.Boundary.{isBoundary}
 use Rattle.text.specs.Offset.{byteOffset}
-use Rattle.text.specs.Utf8.{codes, charsAfter, firstChar, charOf, multiByte, twoBytes, threeBytes, fourBytes, encode, encodeAll}
+use Rattle.text.specs.Utf8.{codes, charsAfter, firstChar, charOf, multiByte, encode, encodeAll}
 use Rattle.text.specs.WhiteSpace.{whiteSpace, isIn, isWhiteSpace}
-use Rattle.schema.specs.Ascii.{bytes}
 use Rattle.schema.specs.CoreSchema.{coreSchema}
-use Rattle.schema.specs.declared.plain.Resolved.the-variants.{Integer, Real, Str}
 use Rattle.measure.specs.Run.{whiteSpaceRun, afterRun, holdsNewline}
 use Rattle.measure.specs.Plain.{isFold, beginsWith, takesRun, plainReach, plainLen}
 use Rattle.measure.specs.Quoted.{passedTogether, toClosing, quotedLen, quotedOrValueLen}
 use Rattle.measure.specs.Block.{lines, isBlank, trimmedLen, endsBlock, laterReach, blockReach, blockLen}
-use Rattle.measure.specs.Scalar.{plain, singleQuoted, doubleQuoted, literal, styleLen, scalarLen}
+use Rattle.measure.specs.Scalar.{styleLen, scalarLen}
 use Rattle.provenance.specs.Run.{whiteRun, newlinesIn, throughLast, cut, blankRun, onlyNewlines}
 use Rattle.provenance.specs.Escape.{digitsFrom, digits, radix16, codeContent, singleQuoteEscapes, isOneOf, oneByteEscapes, backslashEscape, doubleQuoteEscapes, escapesOf}
 use Rattle.provenance.specs.Grammar.{sameBytes, breakPair, opensBreak, breakStep, equalStep, endStep, step}
-use Rattle.provenance.specs.Reading.{readBy, readingOf, Piece, piece, verbatim, replacement, stepPieces, joined, piecesOf}
+use Rattle.provenance.specs.Reading.{readBy, readingOf, piece, verbatim, stepPieces, joined, piecesOf}
 use Rattle.provenance.specs.Layout.{piecesIf}
 use Rattle.provenance.specs.Start.{atEmptyBlockHeader, beforeNewline, headerEnd, walkStart, listFrom, scalarList}
 use Rattle.text.specs.Admission.{textLimit, admission, admissionOfBoth}
@@ -38,7 +34,7 @@ use Rattle.schema.specs.Record.{both}
 use Rattle.event.specs.Number.{numberAt}
 use Rattle.event.specs.Read.{eventsLimit, readString, readTag, readStartTag, readScalar, readBody, readEvent}
 use Rattle.parser.specs.Pick.{pick}
-use Rattle.parser.specs.Record.{extent, noTag, noList, pieceList, aliasNode, zeroNode}
+use Rattle.parser.specs.Record.{extent, noTag, noList, pieceList, aliasNode}
 use Rattle.parser.specs.Scalar.{stepPast, scalarStart, spanLen, listAt, tagInfo, resolvedBy, scalarNode}
 use Rattle.parser.specs.Collection.{closes, collectionEnd, collectionStart, members, collectionOver, collectionNode}
 use Rattle.parser.specs.Machine.{Outcome, built, refused, rootDone, beforeRoot, withinDepth, withinRoom, completed, started, ended, aliased, keeping, scalarKept, scalared, ending, run, runAll}
@@ -151,19 +147,19 @@ pub record Lists : Type 0 where
   -- `[a, ]`: the list of the empty value has no pieces, and starts at the next free entry
   pub next-free : building (97 ∷ []) (sequence 0 ++ scalar 0 97 ++ empty 1 ++ sequenceEnd 1) 36 4
       ≡ built
-        (letter 0 0 22
-        ∷ record { kind = 1; extent = extent 1 1; tag = noTag; subtree = 1; list = pieceList 1 0; payload = both 0 0 }
-        ∷ record { kind = 7; extent = extent 0 1; tag = noTag; subtree = 3; list = noList; payload = both 2 0 }
-        ∷ [])
-        (piece verbatim 0 1 1 ∷ [])
+      (letter 0 0 22
+      ∷ record { kind = 1; extent = extent 1 1; tag = noTag; subtree = 1; list = pieceList 1 0; payload = both 0 0 }
+      ∷ record { kind = 7; extent = extent 0 1; tag = noTag; subtree = 3; list = noList; payload = both 2 0 }
+      ∷ [])
+      (piece verbatim 0 1 1 ∷ [])
   -- `:` as a key and a value: the value steps past the colon, the key does not; the mapping starts at its key
   pub past-colon : building (58 ∷ []) (mapping 0 ++ empty 0 ++ empty 0 ++ mappingEnd 1) 36 0
       ≡ built
-        (record { kind = 1; extent = extent 0 0; tag = noTag; subtree = 1; list = pieceList 0 0; payload = both 0 0 }
-        ∷ record { kind = 1; extent = extent 1 1; tag = noTag; subtree = 1; list = pieceList 0 0; payload = both 0 0 }
-        ∷ record { kind = 8; extent = extent 0 1; tag = noTag; subtree = 3; list = noList; payload = both 1 0 }
-        ∷ [])
-        []
+      (record { kind = 1; extent = extent 0 0; tag = noTag; subtree = 1; list = pieceList 0 0; payload = both 0 0 }
+      ∷ record { kind = 1; extent = extent 1 1; tag = noTag; subtree = 1; list = pieceList 0 0; payload = both 0 0 }
+      ∷ record { kind = 8; extent = extent 0 1; tag = noTag; subtree = 3; list = noList; payload = both 1 0 }
+      ∷ [])
+      []
   -- the call on one scalar: its value has the place 0, and its first piece the number 0
   pub one : readingScalar (97 ∷ []) 0 0 0 false (97 ∷ []) 4 ≡ built (letter 0 0 0 ∷ []) (piece verbatim 0 1 1 ∷ [])
   pub one-style : readingScalar [] 0 0 5 false [] 0 ≡ refused 3 0

@@ -5,8 +5,7 @@ use mathlib.Core.Bool.{Bool}
 use mathlib.Core.List.{List, [], _∷_}
 use mathlib.Core.Option.{Option, none, some}
 use lib.Dec.{eqb}
-use lib.ListN.{length, getD, set, replicate}
-use lib.Seq.{sets}
+use lib.ListN.{length, getD, replicate}
 use Rattle.text.specs.Boundary.{Boundary}
 use Rattle.text.specs.Offset.{Stands, isAscii}
 use Rattle.text.specs.AdmissionLaws.{Sound}
@@ -22,7 +21,6 @@ use Rattle.parser.specs.Record.{absent, recordWidth}
 use Rattle.provenance.specs.Reading.{Piece}
 use Rattle.provenance.specs.declared.walk.Walked.{Walked}
 use Rattle.provenance.specs.declared.walk.Walked.the-variants.{Listed, NoRoom, NoList}
-use Rattle.parser.specs.Collection.{withChild}
 use Rattle.parser.specs.Machine.{State, Next, go, stop, Outcome, built, refused, depthLimit, completed}
 use Rattle.parser.specs.Layout.{pieceWidth, pieceLimit, laidNodes, laidPieces}
 use Rattle.parser.specs.Call.{returned, tableRow}

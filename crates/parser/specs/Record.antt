@@ -2,7 +2,6 @@
 use Prim.Native.Nat.{ℕ}
 use mathlib.Core.List.{List, [], _∷_}
 use Rattle.schema.specs.Record.{both}
-use Rattle.schema.specs.declared.record.Payload.{Payload}
 use Rattle.parser.specs.declared.record.Extent.{Extent}
 use Rattle.parser.specs.declared.record.TagInfo.{TagInfo}
 use Rattle.parser.specs.declared.record.PieceList.{PieceList}

@@ -1,12 +1,12 @@
 -- The equations of the run, by what its step says; nothing else looks at the number it counts down. Assumes nothing.
-use mathlib.Core.Path.{_≡_, refl, sym, ap, _∙_}
+use mathlib.Core.Path.{_≡_, refl}
 use mathlib.Core.List.{List}
 use Prim.Native.Nat.{ℕ, zero, suc, _+_, _-_, _≤_, _<_}
 use native.Mathlib.Omega.{arith}
 use borrow.Author.Tests.{lt-ltb, le-ltb}
 use lib.ListN.{length}
 use Rattle.event.specs.Read.{readEvent}
-use Rattle.parser.specs.Machine.{State, go, stop, Outcome, refused, step, nextPlace, ending, run}
+use Rattle.parser.specs.Machine.{State, go, stop, refused, step, nextPlace, ending, run}
 
 module _ (text events : List ℕ) (room pieceRoom : ℕ) where
   -- no event is left

@@ -3,7 +3,7 @@
 use Prim.Native.Nat.{ℕ, _+_}
 use mathlib.Core.Bool.{Bool, true, false, _&&_}
 use mathlib.Core.List.{List, []}
-use mathlib.Core.Option.{Option, none, some}
+use mathlib.Core.Option.{Option, none}
 use lib.Dec.{eqb}
 use lib.ListN.{length, getD, drop}
 use Rattle.text.specs.Boundary.{isBoundary}
@@ -16,7 +16,6 @@ use Rattle.tag.specs.declared.property.Span.{Span}
 use Rattle.provenance.specs.Reading.{Piece}
 use Rattle.provenance.specs.Start.{scalarList}
 use Rattle.event.specs.Read.{partOf}
-use Rattle.event.specs.declared.string.Part.{Part}
 use Rattle.event.specs.declared.tag.YamlTag.{YamlTag}
 use Rattle.event.specs.declared.tag.YamlTag.the-variants.{Absent, Present}
 use Rattle.parser.specs.Pick.{pick}

@@ -25,11 +25,27 @@ fn next_place(e: Event) -> usize
     ensures { λ r. ⌜ r ≡ nextPlace e ⌝ }
 {
     match e {
-        Event::SequenceStart { index: _, tag: _, next } => next,
+        Event::SequenceStart {
+            index: _,
+            tag: _,
+            next,
+        } => next,
         Event::SequenceEnd { index: _, next } => next,
-        Event::MappingStart { index: _, tag: _, next } => next,
+        Event::MappingStart {
+            index: _,
+            tag: _,
+            next,
+        } => next,
         Event::MappingEnd { index: _, next } => next,
-        Event::Scalar { index: _, column: _, style: _, empty_span: _, tag: _, value: _, next } => next,
+        Event::Scalar {
+            index: _,
+            column: _,
+            style: _,
+            empty_span: _,
+            tag: _,
+            value: _,
+            next,
+        } => next,
         Event::Alias { index: _, next } => next,
         Event::Malformed => 0,
     }
@@ -104,7 +120,13 @@ pub fn build(text: &[u8], events: &[u8], records: &mut [u32], pieces: &mut [u32]
         Admission::Admitted { ascii } => {
             let n = usable(pieces.len());
             match fill(text, ascii, events, records, &mut pieces[..n]) {
-                Answer::Built { nodes, pieces: kept } => Answer::Built { nodes, pieces: kept },
+                Answer::Built {
+                    nodes,
+                    pieces: kept,
+                } => Answer::Built {
+                    nodes,
+                    pieces: kept,
+                },
                 Answer::Refused { number, place } => {
                     clear(records);
                     clear(pieces);

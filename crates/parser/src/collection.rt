@@ -1,6 +1,5 @@
 // Where collections start and end, and their records. (01: Reading rules, Collection end; S2, S3, E2.)
 ghost use mathlib.Core.Path.{_≡_};
-ghost use mathlib.Core.Bool.{Bool};
 ghost use Prim.Native.Nat.{_+_, _-_, _≤_, _<_};
 ghost use lib.ListN.{length};
 ghost use Rattle.text.specs.Boundary.{Boundary};

@@ -2,11 +2,11 @@
 //
 // `build::build` takes a whole document, `one::scalar` one scalar. Neither asks anything of its caller.
 pub mod answer;
-pub mod record;
 mod buffer;
-mod stack;
-mod collection;
-mod scalar;
-mod on_event;
 pub mod build;
+mod collection;
+mod on_event;
 pub mod one;
+pub mod record;
+mod scalar;
+mod stack;

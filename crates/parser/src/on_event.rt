@@ -1,11 +1,9 @@
 // What each event does to the stack and the buffers. (01: `on_event`, `push_complete`; rows 3 to 8.)
-ghost use mathlib.Core.Path.{_≡_};
-ghost use mathlib.Core.Bool.{Bool};
 ghost use Prim.Native.Nat.{_-_, _/_, _≤_, _<_};
 ghost use lib.ListN.{length};
 ghost use Rattle.text.specs.Boundary.{Boundary};
 ghost use Rattle.parser.specs.Scalar.{listAt};
-ghost use Rattle.parser.specs.Machine.{State, started, closed, aliased, keeping, scalared, step};
+ghost use Rattle.parser.specs.Machine.{started, closed, aliased, keeping, scalared, step};
 ghost use Rattle.parser.specs.Held.{Given, Read, ReadTag, ReadValue, Ready, ReadyBut, Pushable, Completes, Follows, FollowsBut};
 use crate::answer::Counts;
 use crate::answer::Move;
@@ -261,14 +259,34 @@ fn on_scalar(
     let start = scalar_start(text, cursor.offset, &events[at..end], style, awaited);
     let info = tag_info(text, start, suffix_of(events, tag));
     let resolved = resolve(events, &events[at..end], style, tag);
-    let x = scalar_node(text, start, &events[at..end], at as u32, style, empty, column, info, resolved);
+    let x = scalar_node(
+        text,
+        start,
+        &events[at..end],
+        at as u32,
+        style,
+        empty,
+        column,
+        info,
+        resolved,
+    );
     let moved = Counts {
         nodes,
         depth,
         used: c.used,
         cursor,
     };
-    keep_scalar(text, stack, records, pieces, moved, x, &events[at..end], style, column)
+    keep_scalar(
+        text,
+        stack,
+        records,
+        pieces,
+        moved,
+        x,
+        &events[at..end],
+        style,
+        column,
+    )
 }
 
 // One event: the next counts, or the number of the row that refuses it.
@@ -288,16 +306,50 @@ pub fn on_event(
     ensures { λ r. ⌜ Follows (now (text .entry)) c (now (stack .entry)) (now (records .entry)) (now (pieces .entry)) (λ room pieceRoom st. step (now (text .entry)) (now (events .entry)) room pieceRoom e st) r (now (stack .exit)) (now (records .exit)) (now (pieces .exit)) ⌝ }
 {
     match e {
-        Event::SequenceStart { index, tag, next: _ } => {
-            on_start(text, ascii, events, stack, records, c, false, index, tag)
-        }
-        Event::SequenceEnd { index, next: _ } => on_end(text, ascii, stack, records, c, false, index),
-        Event::MappingStart { index, tag, next: _ } => {
-            on_start(text, ascii, events, stack, records, c, true, index, tag)
-        }
+        Event::SequenceStart {
+            index,
+            tag,
+            next: _,
+        } => { on_start(text, ascii, events, stack, records, c, false, index, tag) }
+        Event::SequenceEnd { index, next: _ } => on_end(
+            text,
+            ascii,
+            stack,
+            records,
+            c,
+            false,
+            index,
+        ),
+        Event::MappingStart {
+            index,
+            tag,
+            next: _,
+        } => { on_start(text, ascii, events, stack, records, c, true, index, tag) }
         Event::MappingEnd { index, next: _ } => on_end(text, ascii, stack, records, c, true, index),
-        Event::Scalar { index, column, style, empty_span, tag, value, next: _ } => {
-            on_scalar(text, ascii, events, stack, records, pieces, c, index, column, style, empty_span, tag, value)
+        Event::Scalar {
+            index,
+            column,
+            style,
+            empty_span,
+            tag,
+            value,
+            next: _,
+        } => {
+            on_scalar(
+                text,
+                ascii,
+                events,
+                stack,
+                records,
+                pieces,
+                c,
+                index,
+                column,
+                style,
+                empty_span,
+                tag,
+                value,
+            )
         }
         Event::Alias { index, next: _ } => on_alias(text, ascii, stack, records, c, index),
         Event::Malformed => Move::Stop(3),

@@ -1,7 +1,6 @@
 // The call on one scalar. (01: the table's last lines; RS, RZ, B1.)
 ghost use mathlib.Core.Path.{_≡_};
-ghost use mathlib.Core.Bool.{Bool};
-ghost use Prim.Native.Nat.{ℕ, _≤_};
+ghost use Prim.Native.Nat.{_≤_};
 ghost use lib.ListN.{length, replicate};
 ghost use Rattle.text.specs.Offset.{isAscii};
 ghost use Rattle.text.specs.AdmissionLaws.{Sound};
@@ -83,16 +82,32 @@ fn one_scalar(
     let cursor = byte_offset_of_char(text, ascii, START, index as usize);
     let start = cursor.offset;
     let resolved = resolve_scalar(value, style, false, b"", b"");
-    let x = scalar_node(text, start, value, 0, style, empty, column, NO_TAG, resolved);
+    let x = scalar_node(
+        text,
+        start,
+        value,
+        0,
+        style,
+        empty,
+        column,
+        NO_TAG,
+        resolved,
+    );
     let len = x.extent.end as usize - start;
     match walk_scalar(text, start, len, value, style, column, pieces) {
         Walked::NoRoom => refused(8),
         Walked::NoList => ScalarAnswer {
-            answer: Answer::Built { nodes: 1, pieces: 0 },
+            answer: Answer::Built {
+                nodes: 1,
+                pieces: 0,
+            },
             node: x,
         },
         Walked::Listed(n) => ScalarAnswer {
-            answer: Answer::Built { nodes: 1, pieces: n },
+            answer: Answer::Built {
+                nodes: 1,
+                pieces: n,
+            },
             node: with_list(x, 0, n as u32),
         },
     }
@@ -117,7 +132,16 @@ pub fn scalar(
         Admission::NotUtf8 => refused(2),
         Admission::Admitted { ascii } => {
             let n = usable(pieces.len());
-            one_scalar(text, ascii, index, column, style, empty, value, &mut pieces[..n])
+            one_scalar(
+                text,
+                ascii,
+                index,
+                column,
+                style,
+                empty,
+                value,
+                &mut pieces[..n],
+            )
         }
     }
 }

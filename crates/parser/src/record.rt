@@ -1,6 +1,6 @@
 // A node's record, and where its twelve numbers stand. (01: Events, records, pieces; E2.)
 ghost use mathlib.Core.Path.{_≡_};
-ghost use Prim.Native.Nat.{_+_, _*_, _≤_, _/_, _<_};
+ghost use Prim.Native.Nat.{_*_, _/_, _<_};
 ghost use lib.ListN.{length};
 ghost use Rattle.parser.specs.Record.{withList};
 ghost use Rattle.parser.specs.Layout.{stored};

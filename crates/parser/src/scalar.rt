@@ -1,12 +1,10 @@
 // Scalars: their start, span, record and pieces, and the call on one scalar. (01: Reading rules, Start; S1, N1, RS.)
 ghost use mathlib.Core.Path.{_≡_};
-ghost use mathlib.Core.Bool.{Bool};
-ghost use Prim.Native.Nat.{_+_, _*_, _≤_, _<_};
+ghost use Prim.Native.Nat.{_+_, _≤_};
 ghost use lib.ListN.{length, replicate};
 ghost use Rattle.text.specs.Utf8.{Utf8};
 ghost use Rattle.text.specs.AdmissionLaws.{Sound};
-ghost use Rattle.event.specs.Meaning.{TextPart, TextParts};
-ghost use Rattle.event.specs.Read.{partOf};
+ghost use Rattle.event.specs.Meaning.{TextParts};
 ghost use Rattle.parser.specs.Scalar.{scalarFrom, scalarStart, spanLen, listAt, suffixOf, resolvedBy, scalarNode};
 ghost use Rattle.parser.specs.Held.{Walks};
 use crate::collection::step_past;
@@ -15,7 +13,6 @@ use crate::record::NO_LIST;
 use crate::record::Node;
 use crate::record::TagInfo;
 use crate::stack::Suffix;
-use event::string::Part;
 use event::tag::YamlTag;
 use measure::scalar::PLAIN;
 use measure::scalar::scalar_len;
@@ -45,7 +42,14 @@ pub fn scalar_start(text: &[u8], at: usize, value: &[u8], style: u8, awaited: bo
 }
 
 // The length of its span; 0 where `start` is past the text or inside a character.
-pub fn span_len(text: &[u8], start: usize, value: &[u8], style: u8, empty: bool, column: u32) -> usize
+pub fn span_len(
+    text: &[u8],
+    start: usize,
+    value: &[u8],
+    style: u8,
+    empty: bool,
+    column: u32,
+) -> usize
     requires { ⌜ Utf8 (now text) ⌝ }
     requires { ⌜ Utf8 (now value) ⌝ }
     ensures { λ r. ⌜ r ≡ spanLen (now (text .entry)) (scalarFrom start column style empty (now (value .entry)) 0) ⌝ }
@@ -103,7 +107,13 @@ pub fn resolve(events: &[u8], value: &[u8], style: u8, tag: YamlTag) -> Resolved
             let handle_end = h + handle.len;
             let x = suffix.at;
             let suffix_end = x + suffix.len;
-            resolve_scalar(value, style, true, &events[h..handle_end], &events[x..suffix_end])
+            resolve_scalar(
+                value,
+                style,
+                true,
+                &events[h..handle_end],
+                &events[x..suffix_end],
+            )
         }
     }
 }

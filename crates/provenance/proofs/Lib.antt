@@ -6,7 +6,7 @@ pub mod Runs
 -- escapes, as the code tells them
 pub mod Escapes
 -- the step that fits, as the code finds it
-pub mod Takes
+pub mod Steps
 -- where the walk starts, as the code asks
 pub mod Starts
 -- a turn of the walk

@@ -1,6 +1,6 @@
--- Demand 3, as one record with a field for each of its clauses, over any rules: a text, the walk's first byte in it, a value, and the
--- size of the buffer. What the walk answers and leaves is `answerOf` and `bufferOf` of its piece list, as the contract of
--- `scalar::scalar_provenance` says. That it holds is `demand3` and `demand3-of-scalars` in `DemandLaws`.
+-- Demand 3, as one record with a field for each of its clauses, over any rules: of a text, the walk's first byte in it, a value, the size
+-- of the lent buffer, and the answer and the buffer that a walk leaves. `DemandLaws` proves it of every answer and buffer that the
+-- contract of `scalar::scalar_provenance` allows.
 use Prim.{Unit}
 use Prim.Native.Nat.{ℕ, _+_, _≤_, _<_}
 use mathlib.Core.Path.{_≡_}
@@ -14,8 +14,7 @@ use Rattle.provenance.specs.declared.walk.Walked.{Walked}
 use Rattle.provenance.specs.declared.walk.Walked.the-variants.{Listed, NoRoom, NoList}
 use Rattle.provenance.specs.Grammar.{Rules, breakStep, escapeStep}
 use Rattle.provenance.specs.Reading.{Reading, sourceLen, contentLen, Piece, verbatim, piecesOf}
-use Rattle.provenance.specs.Layout.{room, zeros, filled, answerOf, bufferOf}
-use Rattle.provenance.specs.Start.{listFrom}
+use Rattle.provenance.specs.Layout.{room, zeros, filled}
 
 -- accepted: ended with a list, even an empty one, or with 8 (S13)
 abbrev pub Accepts : Walked → Type 0
@@ -55,21 +54,21 @@ EscapeLast r src val s v [] = ⊥
 EscapeLast r src val s v (t ∷ []) = (breakStep r (drop s src) (drop v val) ≡ NoStep) × (escapeStep r (drop s src) ≡ t)
 EscapeLast r src val s v (t ∷ u ∷ ts) = EscapeLast r src val (s + sourceLen t) (v + contentLen t) (u ∷ ts)
 
-pub record Demand3 (r : Rules) (text : List ℕ) (first : ℕ) (value : List ℕ) (size : ℕ) : Type 0 where
+pub record Demand3 (r : Rules) (text : List ℕ) (first : ℕ) (value : List ℕ) (size : ℕ) (answer : Walked) (buffer : List ℕ) : Type 0 where
   -- the walk accepts exactly when it starts at a boundary of the text and a reading exists
-  pub accepts-only : Accepts (answerOf size (listFrom r text first value)) → Boundary text first × ((ts : List Step) × Reading r (drop first text) value ts)
-  pub accepts-if : Boundary text first → (ts : List Step) → Reading r (drop first text) value ts → Accepts (answerOf size (listFrom r text first value))
+  pub accepts-only : Accepts answer → Boundary text first × ((ts : List Step) × Reading r (drop first text) value ts)
+  pub accepts-if : Boundary text first → (ts : List Step) → Reading r (drop first text) value ts → Accepts answer
   -- with 8 exactly when it can start and its reading's pieces are more than the room lets in
-  pub no-room-only : answerOf size (listFrom r text first value) ≡ NoRoom
+  pub no-room-only : answer ≡ NoRoom
       → Boundary text first × ((ts : List Step) × Reading r (drop first text) value ts × (room size < length (piecesOf first ts)))
   pub no-room-if : Boundary text first → (ts : List Step) → Reading r (drop first text) value ts → room size < length (piecesOf first ts)
-      → answerOf size (listFrom r text first value) ≡ NoRoom
+      → answer ≡ NoRoom
   -- any two readings are the same
   pub unique : (ts us : List Step) → Reading r (drop first text) value ts → Reading r (drop first text) value us → ts ≡ us
   -- a list that is left is the reading's pieces in order, and zeros; otherwise all is zero
-  pub list : (n : ℕ) → answerOf size (listFrom r text first value) ≡ Listed n → (ts : List Step) → Reading r (drop first text) value ts
-      → (n ≡ length (piecesOf first ts)) × (bufferOf size (listFrom r text first value) ≡ filled size (piecesOf first ts))
-  pub nothing-left : ((n : ℕ) → answerOf size (listFrom r text first value) ≡ Listed n → ⊥) → bufferOf size (listFrom r text first value) ≡ zeros size
+  pub list : (n : ℕ) → answer ≡ Listed n → (ts : List Step) → Reading r (drop first text) value ts
+      → (n ≡ length (piecesOf first ts)) × (buffer ≡ filled size (piecesOf first ts))
+  pub nothing-left : ((n : ℕ) → answer ≡ Listed n → ⊥) → buffer ≡ zeros size
   -- the first piece starts at the walk's first byte, every other where the one before it ends
   pub first-start : (ts : List Step) → Reading r (drop first text) value ts → StartsAt first (piecesOf first ts)
   pub tiling : (ts : List Step) → Reading r (drop first text) value ts → Follow (piecesOf first ts)

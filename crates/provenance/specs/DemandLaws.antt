@@ -4,7 +4,7 @@ use mathlib.Core.Bool.{true}
 use mathlib.Core.Option.{Option, none, some}
 use mathlib.Core.Logic.{_⊎_, inl, inr}
 use mathlib.Core.List.{List, [], _∷_}
-use Prim.{Unit, tt}
+use Prim.{tt}
 use Prim.Native.Nat.{ℕ, _+_, _≤_, _<_}
 use native.Mathlib.Omega.{arith}
 use lib.ListN.{length, take, drop, length-drop}
@@ -19,7 +19,7 @@ use Rattle.provenance.specs.Escape.{FairTable}
 use Rattle.provenance.specs.Grammar.{Rules, stepAt, rulesOf}
 use Rattle.provenance.specs.Reading.{Reads, Reading, sourceLen, contentLen, readingOf, Piece, piecesOf}
 use Rattle.provenance.specs.Layout.{room, zeros, filled, answerOf, bufferOf, piecesIf}
-use Rattle.provenance.specs.Start.{walkStart, listFrom}
+use Rattle.provenance.specs.Start.{walkStart, listFrom, scalarList}
 use Rattle.provenance.specs.Demand.{Accepts, StartsAt, Follow, AllCopied, contents, EscapeLast, Demand3}
 use Rattle.provenance.specs.Tests.{by-answer, by-order}
 use Rattle.provenance.specs.EscapeLaws.{style-fair}
@@ -130,7 +130,7 @@ module _ (r : Rules) (fair : FairTable (r .escapes)) (text : List ℕ) (first : 
   equal-bytes : (s v n : ℕ) → v < length value → at s v ≡ Verbatim n → take n (drop s src) ≡ take n (drop v value)
   equal-bytes s v n more e = step-same r fair (drop s src) (drop v value) n e .3
 
-  pub demand3 : (size : ℕ) → Demand3 r text first value size
+  pub demand3 : (size : ℕ) → Demand3 r text first value size (answerOf size (listFrom r text first value)) (bufferOf size (listFrom r text first value))
   demand3 size =
       record {
         accepts-only = λ a.
@@ -160,7 +160,14 @@ module _ (r : Rules) (fair : FairTable (r .escapes)) (text : List ℕ) (first : 
         content = λ ts h. content-of ts h;
       }
 
--- of every text, start, span length, value, style, column and room
-pub demand3-of-scalars : (text : List ℕ) (start len : ℕ) (value : List ℕ) (style column size : ℕ)
-    → Demand3 (rulesOf style column) text (walkStart text start len value style) value size
-demand3-of-scalars text start len value style column size = demand3 (rulesOf style column) (style-fair style) text (walkStart text start len value style) value size
+-- of every text, start, span length, value, style, column and room, and what a walk with this contract hands back and leaves
+pub demand3-of-scalars : (text : List ℕ) (start len : ℕ) (value : List ℕ) (style column size : ℕ) (answer : Walked) (buffer : List ℕ)
+    → answer ≡ answerOf size (scalarList text start len value style column)
+    → buffer ≡ bufferOf size (scalarList text start len value style column)
+    → Demand3 (rulesOf style column) text (walkStart text start len value style) value size answer buffer
+unfolding scalarList
+demand3-of-scalars text start len value style column size answer buffer ea eb =
+    let r : Rules = rulesOf style column in
+    let first : ℕ = walkStart text start len value style in
+    subst (λ (w : Walked). Demand3 r text first value size w buffer) (sym ea)
+    (subst (λ (l : List ℕ). Demand3 r text first value size (answerOf size (listFrom r text first value)) l) (sym eb) (demand3 r (style-fair style) text first value size))

@@ -3,22 +3,21 @@
 -- on. Nothing is left of the source at its end and past it.
 --
 -- The escape table and the facts of the style are parameters.
-use Prim.Native.Nat.{ℕ, _+_, _<_}
-use mathlib.Core.Path.{_≡_}
+use Prim.Native.Nat.{ℕ}
 use mathlib.Core.Bool.{Bool, true, false, _&&_, _||_}
 use mathlib.Core.List.{List, [], _∷_}
 use lib.Dec.{ltb, eqb}
 use lib.ListN.{length, take, drop, getD}
 use Rattle.text.specs.Class.{isWhiteSpaceByte}
 use Rattle.measure.specs.Scalar.{doubleQuoted}
-use Rattle.provenance.specs.declared.run.Run.{Run}
 use Rattle.provenance.specs.declared.escape.Escape.{Escape}
 use Rattle.provenance.specs.declared.escape.Escape.the-variants.{Takes, NoEscape}
 use Rattle.provenance.specs.declared.step.Step.{Step}
 use Rattle.provenance.specs.declared.step.Step.the-variants.{Verbatim, Replacement, NoStep}
-use Rattle.provenance.specs.Run.{pick, tab, newline, carriageReturn, whiteRun, newlinesIn, cut, isBlank, blankRun, onlyNewlines, noRun, runOf}
+use Rattle.provenance.specs.Run.{pick, tab, newline, carriageReturn, whiteRun, newlinesIn, cut, isBlank, blankRun, onlyNewlines}
 use Rattle.provenance.specs.Escape.{EscapeTable, escapesOf}
 
+-- what a style decides: its escapes, whether it is a block, and the column, which only blocks look at
 pub record Rules : Type 0 where
   pub escapes : EscapeTable
   pub block : Bool
@@ -32,13 +31,13 @@ orElse NoStep t = t
 
 -- ---- step 1, a break
 
--- source bytes and content: verbatim if they are equal, else a replacement
 unfoldable pub sameBytes : List ℕ → List ℕ → Bool
 sameBytes [] [] = true
 sameBytes [] (y ∷ ys) = false
 sameBytes (x ∷ xs) [] = false
 sameBytes (x ∷ xs) (y ∷ ys) = eqb x y && sameBytes xs ys
 
+-- source bytes and content: verbatim if they are equal, else a replacement
 abbrev pub paired : List ℕ → List ℕ → Step
 paired xs ys = pick (sameBytes xs ys) (Verbatim (length xs)) (Replacement (length xs) (length ys))
 
@@ -102,17 +101,3 @@ isBlock style = ltb doubleQuoted style
 
 abbrev pub rulesOf : ℕ → ℕ → Rules
 rulesOf style column = record { escapes = escapesOf style; block = isBlock style; column = column }
-
--- ---- the run that step 1 looks at, in numbers; none where the two bytes let it not begin
-
-unfoldable pub breakRun : Bool → List ℕ → List ℕ → Run
-breakRun block src val = pick (opensBreak block (getD src 0 0) (getD val 0 0)) (runOf src) noRun
-
--- `run` says of these places what step 1 needs: the run, or that there is no newline to be met
-pub record Tells (run : Run) (block : Bool) (src val : List ℕ) : Type 0 where
-  pub fits : 0 < run .newlines → run ≡ breakRun block src val
-  pub falls : run .newlines ≡ 0 → breakRun block src val .newlines ≡ 0
-
--- with `known` the place up to which no run of the source holds a newline: that place after the run at s was looked at
-unfoldable pub knownAfter : ℕ → ℕ → Run → ℕ
-knownAfter known s run = pick (ltb 0 (run .newlines)) known (pick (eqb (run .len) 0) known (s + run .len))

@@ -11,6 +11,8 @@ pub mod Reading
 pub mod Layout
 -- where a walk starts, and the pieces of a scalar
 pub mod Start
+-- runs, as the walk looks at them
+pub mod Looked
 -- pieces, written one after the other
 pub mod Writing
 -- demand 3

@@ -7,7 +7,7 @@ use native.Mathlib.Omega.{arith}
 use lib.Dec.{ltb, eqb}
 use lib.ListN.{length, take, drop, length-take}
 use lib.Seq.{take-all, take-take, length-take-le}
-use borrow.Author.Tests.{lt-ltb, le-ltb, ne-eqb}
+use borrow.Author.Tests.{eqb-true, lt-ltb, le-ltb, ne-eqb}
 use Rattle.text.specs.Class.{isWhiteSpaceByte}
 use Rattle.provenance.specs.Run.{pick, newline, whiteRun, newlinesIn, throughLast, cut, isBlank, blankRun, inNumbers, cutLen}
 use Rattle.provenance.specs.Start.{beforeNewline, headerEnd}
@@ -57,6 +57,33 @@ cut-some block column l h =
     by-test (λ (t : Bool). 0 < length (pick t (take (throughLast l + column) l) l)) (block && ltb 0 column)
     (let e = length-take (throughLast l + column) l in omega arith)
     (omega arith)
+
+-- the column never cuts off a newline: to count before the cut or after it comes to the same
+front-keeps : (l : List ℕ) (n : ℕ) → throughLast l ≤ n → newlinesIn (take n l) ≡ newlinesIn l
+unfolding throughLast newlinesIn
+front-keeps [] zero h = refl
+front-keeps [] (suc n) h = refl
+front-keeps (b ∷ bs) zero h =
+    by-answer (eqb (throughLast bs) 0)
+    (λ z.
+    let h′ = rw z at h in
+    by-answer (eqb b newline)
+    (λ e. let h″ = rw e at h′ in absurd (omega arith))
+    (λ e. rw e (front-keeps bs zero (let q : throughLast bs ≡ 0 = eqb-true _ _ z in omega arith))))
+    (λ z. let h′ = rw z at h in absurd (omega arith))
+front-keeps (b ∷ bs) (suc n) h =
+    let le : throughLast bs ≤ n =
+    by-answer (eqb (throughLast bs) 0)
+    (λ z. let q : throughLast bs ≡ 0 = eqb-true _ _ z in omega arith)
+    (λ z. let h′ = rw z at h in omega arith) in
+    rw (front-keeps bs n le)
+
+pub cut-keeps-newlines : (block : Bool) (column : ℕ) (l : List ℕ) → newlinesIn (cut block column l) ≡ newlinesIn l
+unfolding cut
+cut-keeps-newlines block column l =
+    by-test (λ (t : Bool). newlinesIn (pick t (take (throughLast l + column) l) l) ≡ newlinesIn l) (block && ltb 0 column)
+    (front-keeps l (throughLast l + column) (omega arith))
+    refl
 
 -- the numbers of a cut run
 pub cut-numbers : (block : Bool) (column : ℕ) (l : List ℕ) → cutLen block column (inNumbers l) ≡ length (cut block column l)

@@ -1,15 +1,14 @@
-use mathlib.Core.Path.{_≡_, refl, sym, ap, ap₂, _∙_, subst}
-use Prim.Native.Nat.{ℕ, zero, suc, _+_, _-_, _*_, _/_, _≤_, _<_, zero-le}
+-- `clear` meets its contract: the first i numbers are zero, the others as they were; i goes up to the end. Assumes nothing.
+use mathlib.Core.Path.{_≡_, refl, ap, _∙_}
+use Prim.Native.Nat.{ℕ, _+_, _-_, _≤_, _<_, zero-le}
 use native.Mathlib.Omega.{arith}
-use mathlib.Core.List.{List, [], _∷_, _++_, append-nil}
-use lib.ListN.{length, getD, set, take, drop, replicate, length-set, length-drop}
+use mathlib.Core.List.{List, _++_, append-nil}
+use lib.ListN.{length, set, drop, replicate, length-set}
 use lib.Seq.{drop-length}
 use borrow.Author.Fill.{fill-none, fill-more}
 use borrow.Author.Needs.{needs}
 use Rattle.parser.proofs.buffer.clear.Statement.{statement}
 use Rattle.parser.proofs.buffer.clear.Tie as tie
-use Rattle.parser.proofs.buffer.clear.Reads as reads
-use Rattle.parser.proofs.buffer.clear.Lts as lts
 
 abbrev Inv-loop : tie.InvT-loop
 Inv-loop buffer₀ i₀ buffer i = (i ≤ length buffer₀) × (buffer ≡ replicate i 0 ++ drop i buffer₀) × (length buffer ≡ length buffer₀)
@@ -17,41 +16,33 @@ Inv-loop buffer₀ i₀ buffer i = (i ≤ length buffer₀) × (buffer ≡ repli
 abbrev μ-loop : tie.MeasureT-loop
 μ-loop buffer₀ i₀ buffer i = length buffer₀ - i
 
--- src/buffer.rt:25:5
 loop-holds : tie.Need-loop-holds Inv-loop μ-loop
 loop-holds c = (zero-le, fill-none _ 0, refl)
 
--- src/buffer.rt:26:9
 mul-buffer : tie.Need-mul-buffer Inv-loop μ-loop
 mul-buffer c = search needs
 
--- src/buffer.rt:26:9
 slice-write-buffer : tie.Need-slice-write-buffer Inv-loop μ-loop
 slice-write-buffer c = omega arith
 
--- src/buffer.rt:27:9
 add-i : tie.Need-add-i Inv-loop μ-loop
 add-i c = omega arith
 
--- src/buffer.rt:25:5
 loop-less : tie.Need-loop-less Inv-loop μ-loop
 loop-less c = omega arith
 
--- src/buffer.rt:25:5
 loop-again : tie.Need-loop-again Inv-loop μ-loop
-loop-again c = 
+loop-again c =
     let i = c .before .loop .i in
     let b = c .before .before .args .buffer .now in
     let l : i < length b = omega arith in
     (omega arith, ap (λ (x : List ℕ). set x i 0) (c .before .loop .inv .1) ∙ fill-more i 0 b l, simp length-set (c .before .loop .inv .2))
 
--- src/buffer.rt:21:1
 same-length : tie.Need-same-length Inv-loop μ-loop
 same-length c = c .before .loop .inv .2
 
--- src/buffer.rt:21:1
 returns : tie.Need-returns Inv-loop μ-loop
-returns c = 
+returns c =
     let b = c .before .before .args .buffer .now in
     let e : c .before .loop .i ≡ length b = omega arith in
     c .before .loop .inv .1 ∙ ap (λ (k : ℕ). replicate k 0 ++ drop k b) e ∙ ap (λ (x : List ℕ). replicate (length b) 0 ++ x) (drop-length b) ∙ append-nil (replicate (length b) 0)

@@ -1,41 +1,30 @@
+-- `build` meets its contract: sizes, then the text, then the run over the part of the pieces that is used; a refusal clears both buffers. Assumes nothing.
 use borrow.Author.Needs.{needs}
-use mathlib.Core.Path.{_≡_, refl, sym, ap, ap₂, _∙_, subst, subst₂}
-use Prim.Native.Nat.{ℕ, zero, suc, _+_, _-_, _*_, _/_, _≤_, _<_, zero-le}
+use mathlib.Core.Path.{_≡_, sym, ap, _∙_, subst₂}
+use Prim.Native.Nat.{ℕ, _-_, _/_, _≤_}
 use native.Mathlib.Omega.{arith}
-use lib.ListN.{length, getD, set, take, drop, replicate, length-set, length-drop}
-use Rattle.parser.proofs.Wholes.{zeros-front, too-many, text-too-long, text-no-utf8, when-built, when-refused, length-front, listed-few, one-no-room, one-no-list, one-listed, style-unknown, one-is, scalar-too-long, scalar-no-utf8, scalar-read}
+use lib.ListN.{length, take, replicate}
+use Rattle.parser.proofs.Wholes.{zeros-front, too-many, text-too-long, text-no-utf8, when-built, when-refused, length-front}
 use lib.Seq.{length-take-le}
-use Rattle.text.specs.AdmissionLaws.{admitted-sound, admitted-ascii, both-text-sound, both-value-sound, both-ascii}
+use Rattle.text.specs.AdmissionLaws.{admitted-sound, admitted-ascii}
 use Prim.Native.Nat.{min}
-use mathlib.Core.List.{List}
 use Rattle.parser.specs.Held.{Filled}
 use Rattle.parser.specs.Machine.{runAll}
 use Rattle.parser.proofs.build.build.Statement.{statement}
 use Rattle.parser.proofs.build.build.Tie as tie
-use Rattle.parser.proofs.build.build.Reads as reads
-use Rattle.parser.proofs.build.build.Lts as lts
-use Rattle.parser.proofs.buffer.clear.Reads as clear-reads
-use Rattle.parser.proofs.buffer.usable.Reads as usable-reads
-use Rattle.parser.proofs.build.fill.Reads as fill-reads
-use Rattle.text.proofs.admission.admit_text.Reads as admit-text-reads
 
--- src/build.rt:87:5
 clear-requires : tie.Need-clear-requires
 clear-requires c κs = search needs
 
--- src/build.rt:88:5
 clear-requires-2 : tie.Need-clear-requires-2
 clear-requires-2 c κs = search needs
 
--- src/build.rt:90:9
 same-length : tie.Need-same-length
 same-length c = search needs
 
--- src/build.rt:90:9
 same-length-2 : tie.Need-same-length-2
 same-length-2 c = search needs
 
--- src/build.rt:90:9
 returns : tie.Need-returns
 returns c =
     let a = c .before .before .before .before .before .before .before .before .before .before .before .before .before .args in
@@ -45,35 +34,27 @@ returns c =
     let p = c .before .before .before .clear2 in
     too-many (a .text .now) (a .events .now) size piece-size _ _ (c .if1 .taken) (b .ensures) (p .ensures)
 
--- src/build.rt:95:11
 admit-text-requires : tie.Need-admit-text-requires
 admit-text-requires c κs = search needs
 
--- src/build.rt:96:31
 enum-told : tie.Need-enum-told
 enum-told c = search needs
 
--- src/build.rt:100:31
 enum-told-2 : tie.Need-enum-told-2
 enum-told-2 c = search needs
 
--- src/build.rt:104:31
 enum-known-ascii : tie.Need-enum-known-ascii
 enum-known-ascii c = search needs
 
--- src/build.rt:105:17
 usable-requires : tie.Need-usable-requires
 usable-requires c κs = search needs
 
--- src/build.rt:106:54
 slice-relend-prefix-fill : tie.Need-slice-relend-prefix-fill
 slice-relend-prefix-fill c = search needs
 
--- src/build.rt:106:54
 slice-aggregate-fill : tie.Need-slice-aggregate-fill
 slice-aggregate-fill c = let n = c .before .before .usable in sym (length-take-le (n .result) (c .before .before .before .before .before .before .before .before .before .before .clear2 .last .0) (let e = n .ensures in omega arith))
 
--- src/build.rt:106:19
 fill-requires : tie.Need-fill-requires
 fill-requires c κs =
     let a = c .before .before .before .before .before .before .before .before .before .before .before .before .before .before .before .before .before .before .before .before .args in
@@ -86,38 +67,36 @@ fill-requires c κs =
     let l : n .result ≤ length (p .last .0) = omega arith in
     let part : length (take (n .result) (p .last .0)) ≡ n .result = length-take-le (n .result) (p .last .0) l in
     let told = sym (c .before .before .before .before .before .before .admit-text .ensures) ∙ c .before .before .before .before .ascii .given .1 in
-    let ascii = c .before .before .before .before .ascii .given .0 .0 in
-    (record { sound = admitted-sound (a .text .now) ascii told; ascii-is = admitted-ascii (a .text .now) ascii told },
-    (c .before .before .before .before .before .before .before .if1 .left,
-    (b .ensures ∙ ap (λ (m : ℕ). replicate m 0) (sym (b .kept .0)),
-    zeros-front (n .result) piece-size (p .last .0) (p .ensures) l ∙ ap (λ (m : ℕ). replicate m 0) (sym part),
-    omega arith)))
+    let ascii = c .before .before .before .before .ascii .given .0 .0 in (
+      record { sound = admitted-sound (a .text .now) ascii told; ascii-is = admitted-ascii (a .text .now) ascii told },
+      (
+        c .before .before .before .before .before .before .before .if1 .left,
+        (
+          b .ensures ∙ ap (λ (m : ℕ). replicate m 0) (sym (b .kept .0)),
+          zeros-front (n .result) piece-size (p .last .0) (p .ensures) l ∙ ap (λ (m : ℕ). replicate m 0) (sym part),
+          omega arith,
+        ),
+      ),
+    )
 
--- src/build.rt:107:33
 enum-known-nodes : tie.Need-enum-known-nodes
 enum-known-nodes c = search needs
 
--- src/build.rt:108:35
 enum-known-number : tie.Need-enum-known-number
 enum-known-number c = search needs
 
--- src/build.rt:109:21
 clear-requires-3 : tie.Need-clear-requires-3
 clear-requires-3 c κs = search needs
 
--- src/build.rt:110:21
 clear-requires-4 : tie.Need-clear-requires-4
 clear-requires-4 c κs = search needs
 
--- src/build.rt:84:1
 same-length-3 : tie.Need-same-length-3
 same-length-3 c = search needs
 
--- src/build.rt:84:1
 same-length-4 : tie.Need-same-length-4
 same-length-4 c = search needs
 
--- src/build.rt:84:1
 returns-2 : tie.Need-returns-2
 returns-2 c =
     let a = c .before .before .before .before .before .before .before .before .before .before .before .before .before .before .before .before .args in
@@ -127,15 +106,12 @@ returns-2 c =
     let p = c .before .before .before .before .before .before .clear2 in
     text-too-long (a .text .now) (a .events .now) size piece-size (c .before .before .before .if1 .left) _ _ (sym (c .before .before .admit-text .ensures) ∙ c .enum-told .given .1) (b .ensures) (p .ensures)
 
--- src/build.rt:84:1
 same-length-5 : tie.Need-same-length-5
 same-length-5 c = search needs
 
--- src/build.rt:84:1
 same-length-6 : tie.Need-same-length-6
 same-length-6 c = search needs
 
--- src/build.rt:84:1
 returns-3 : tie.Need-returns-3
 returns-3 c =
     let a = c .before .before .before .before .before .before .before .before .before .before .before .before .before .before .before .before .args in
@@ -145,15 +121,12 @@ returns-3 c =
     let p = c .before .before .before .before .before .before .clear2 in
     text-no-utf8 (a .text .now) (a .events .now) size piece-size (c .before .before .before .if1 .left) _ _ (sym (c .before .before .admit-text .ensures) ∙ c .enum-told2 .given .1) (b .ensures) (p .ensures)
 
--- src/build.rt:84:1
 same-length-7 : tie.Need-same-length-7
 same-length-7 c = search needs
 
--- src/build.rt:84:1
 same-length-8 : tie.Need-same-length-8
 same-length-8 c = search needs
 
--- src/build.rt:84:1
 returns-4 : tie.Need-returns-4
 returns-4 c =
     let a = c .before .before .before .before .before .before .before .before .before .before .before .before .before .before .before .before .before .before .before .before .before .before .before .before .before .before .before .before .args in
@@ -169,15 +142,12 @@ returns-4 c =
     let d = c .before .nodes .given in
     when-built (a .text .now) (a .events .now) size piece-size (c .before .before .before .before .before .before .before .before .before .before .before .before .before .before .before .if1 .left) (c .before .before .before .before .before .before .before .before .before .before .before .before .ascii .given .0 .0) told (n .result) is-n (filled .result) (filled .last .1 .1 .1 .0) (filled .last .1 .1 .1 .1 .0) (p .last .0) (filled .kept .1 .1 .1 .1 .0 ∙ part) (p .ensures) (subst₂ (λ (m k : ℕ). Filled m k (runAll (a .text .now) (a .events .now) (m / 12) (k / 4)) (filled .result) (filled .last .1 .1 .1 .0) (filled .last .1 .1 .1 .1 .0)) (b .kept .0) part (filled .ensures)) (d .0 .0) (d .0 .1 .0) (d .1)
 
--- src/build.rt:84:1
 same-length-9 : tie.Need-same-length-9
 same-length-9 c = search needs
 
--- src/build.rt:84:1
 same-length-10 : tie.Need-same-length-10
 same-length-10 c = search needs
 
--- src/build.rt:84:1
 returns-5 : tie.Need-returns-5
 returns-5 c =
     let a = c .before .before .before .before .before .before .before .before .before .before .before .before .before .before .before .before .before .before .before .before .before .before .before .before .before .before .before .before .before .before .before .before .before .before .before .before .args in

@@ -1,18 +1,14 @@
-use mathlib.Core.Path.{_≡_, refl, sym, ap, ap₂, _∙_, subst}
-use Prim.Native.Nat.{ℕ, zero, suc, _+_, _-_, _*_, _/_, _≤_, _<_, zero-le}
+-- `fill` meets its contract: at the head of the loop the run from the state held, at this place and number, is the whole run (`Heads`);
+-- each event takes at least a byte, so the bytes left go down. Assumes nothing.
+use mathlib.Core.Path.{refl, sym, _∙_}
+use Prim.Native.Nat.{_-_}
 use native.Mathlib.Omega.{arith}
-use lib.ListN.{length, getD, set, take, drop, replicate, length-set, length-drop}
+use lib.ListN.{length}
 use borrow.Author.Needs.{needs}
 use Rattle.parser.proofs.Heads.{Head, first-head, read-of, ready, next-head, refused-here, built-now, not-built}
 use Rattle.event.specs.Number.{Bytes}
 use Rattle.parser.proofs.build.fill.Statement.{statement}
 use Rattle.parser.proofs.build.fill.Tie as tie
-use Rattle.parser.proofs.build.fill.Reads as reads
-use Rattle.parser.proofs.build.fill.Lts as lts
-use Rattle.event.proofs.read.read_event.Reads as read-event-reads
-use Rattle.parser.proofs.answer.root_done.Reads as root-done-reads
-use Rattle.parser.proofs.build.next_place.Reads as next-place-reads
-use Rattle.parser.proofs.on_event.on_event.Reads as on-event-reads
 
 abbrev Inv-loop : tie.InvT-loop
 Inv-loop text ascii events records₀ pieces₀ stack₀ c₀ at₀ number₀ records pieces stack c at number =
@@ -22,19 +18,15 @@ abbrev μ-loop : tie.MeasureT-loop
 μ-loop text ascii events records₀ pieces₀ stack₀ c₀ at₀ number₀ records pieces stack c at number =
     length events - at
 
--- src/build.rt:54:5
 loop-holds : tie.Need-loop-holds Inv-loop μ-loop
 loop-holds c = let given = c .before .before .before .before in first-head (given .args .text .now) (given .args .events .now) (given .args .records .now) (given .args .pieces .now) _ (given .pre .1 .1 .0) (given .pre .1 .1 .1) (given .pre .1 .1 .2) refl
 
--- src/build.rt:55:13
 read-event-requires : tie.Need-read-event-requires Inv-loop μ-loop
 read-event-requires c κs = search needs
 
--- src/build.rt:56:45
 slice-aggregate-on-event : tie.Need-slice-aggregate-on-event Inv-loop μ-loop
 slice-aggregate-on-event c = let l = c .before .before .before .loop .inv .held .stack-size in search needs
 
--- src/build.rt:56:15
 on-event-requires : tie.Need-on-event-requires Inv-loop μ-loop
 on-event-requires c κs =
     let given = c .before .before .before .before .before .before .before .before .before .before in
@@ -42,19 +34,15 @@ on-event-requires c κs =
     let here = c .before .before .before .before .before .loop in
     (given .pre .0, (ready (a .text .now) (a .events .now) (length (a .records .now)) (length (a .pieces .now)) (here .stack) (here .records) (here .pieces) (here .c) (here .at) (here .number) (here .inv) (given .pre .1 .0) (c .before .before .before .before .loop-test .taken), read-of (a .events .now) (λ k. c .before .before .before .before .before .before .before .before .shared-slice-known2 .given k .fits) (given .pre .1 .0) (here .at) (c .before .before .before .read-event .result) (c .before .before .before .read-event .ensures)))
 
--- src/build.rt:57:24
 enum-known-n : tie.Need-enum-known-n Inv-loop μ-loop
 enum-known-n c = search needs
 
--- src/build.rt:58:17
 same-length : tie.Need-same-length Inv-loop μ-loop
 same-length c = c .before .before .before .before .before .before .before .before .on-event .kept .1 .1 .1 .1 .0 ∙ c .before .before .before .before .before .before .before .before .before .before .before .before .before .before .loop .inv .held .size-is
 
--- src/build.rt:58:17
 same-length-2 : tie.Need-same-length-2 Inv-loop μ-loop
 same-length-2 c = c .before .before .before .before .before .before .before .before .on-event .kept .1 .1 .1 .1 .1 .0 ∙ c .before .before .before .before .before .before .before .before .before .before .before .before .before .before .loop .inv .held .piece-size-is
 
--- src/build.rt:58:17
 returns : tie.Need-returns Inv-loop μ-loop
 returns c =
     let given = c .before .before .before .before .before .before .before .before .before .before .before .before .before .before .before .before .before .before .before in
@@ -64,15 +52,12 @@ returns c =
     let bytes : Bytes (a .events .now) = λ k. c .before .before .before .before .before .before .before .before .before .before .before .before .before .before .before .before .before .shared-slice-known2 .given k .fits in
     refused-here (a .text .now) (a .events .now) (length (a .records .now)) (length (a .pieces .now)) (here .stack) (here .records) (here .pieces) (here .c) (here .at) (here .number) (here .inv) bytes (c .before .before .before .before .before .before .before .before .before .before .before .before .before .loop-test .taken) (c .before .before .before .before .before .before .before .before .before .before .before .before .read-event .result) (c .before .before .before .before .before .before .before .before .before .before .before .before .read-event .ensures) (on .result) (on .last .1 .1 .1 .0) (on .last .1 .1 .1 .1 .0) (on .last .1 .1 .1 .1 .1 .0) (on .ensures) (c .before .n .given .0 .0) (c .before .n .given .1)
 
--- src/build.rt:63:22
 enum-known-d : tie.Need-enum-known-d Inv-loop μ-loop
 enum-known-d c = search needs
 
--- src/build.rt:67:9
 next-place-requires : tie.Need-next-place-requires Inv-loop μ-loop
 next-place-requires c κs = search needs
 
--- src/build.rt:68:9
 add-number : tie.Need-add-number Inv-loop μ-loop
 add-number c =
     let given = c .before .before .before .before .before .before .before .before .before .before .before .before .before .before .before .before .before .before .before .before in
@@ -83,7 +68,6 @@ add-number c =
     let next = next-head (a .text .now) (a .events .now) (length (a .records .now)) (length (a .pieces .now)) (here .stack) (here .records) (here .pieces) (here .c) (here .at) (here .number) (here .inv) bytes (c .before .before .before .before .before .before .before .before .before .before .before .before .before .before .loop-test .taken) (c .before .before .before .before .before .before .before .before .before .before .before .before .before .read-event .result) (c .before .before .before .before .before .before .before .before .before .before .before .before .before .read-event .ensures) (on .result) (on .last .1 .1 .1 .0) (on .last .1 .1 .1 .1 .0) (on .last .1 .1 .1 .1 .1 .0) (on .ensures) (c .before .before .d .given .0 .0) (c .next-place .result) (c .before .before .d .given .1) (c .next-place .ensures) in
     let numbered = here .inv .numbered in omega (arith, given .pre .1 .0, here .inv .within)
 
--- src/build.rt:54:5
 loop-less : tie.Need-loop-less Inv-loop μ-loop
 loop-less c =
     let given = c .before .before .before .before .before .before .before .before .before .before .before .before .before .before .before .before .before .before .before .before in
@@ -94,7 +78,6 @@ loop-less c =
     let next = next-head (a .text .now) (a .events .now) (length (a .records .now)) (length (a .pieces .now)) (here .stack) (here .records) (here .pieces) (here .c) (here .at) (here .number) (here .inv) bytes (c .before .before .before .before .before .before .before .before .before .before .before .before .before .before .loop-test .taken) (c .before .before .before .before .before .before .before .before .before .before .before .before .before .read-event .result) (c .before .before .before .before .before .before .before .before .before .before .before .before .before .read-event .ensures) (on .result) (on .last .1 .1 .1 .0) (on .last .1 .1 .1 .1 .0) (on .last .1 .1 .1 .1 .1 .0) (on .ensures) (c .before .before .d .given .0 .0) (c .next-place .result) (c .before .before .d .given .1) (c .next-place .ensures) in
     omega (arith, next .onward, next .head .within)
 
--- src/build.rt:54:5
 loop-again : tie.Need-loop-again Inv-loop μ-loop
 loop-again c =
     let given = c .before .before .before .before .before .before .before .before .before .before .before .before .before .before .before .before .before .before .before .before in
@@ -105,34 +88,27 @@ loop-again c =
     let next = next-head (a .text .now) (a .events .now) (length (a .records .now)) (length (a .pieces .now)) (here .stack) (here .records) (here .pieces) (here .c) (here .at) (here .number) (here .inv) bytes (c .before .before .before .before .before .before .before .before .before .before .before .before .before .before .loop-test .taken) (c .before .before .before .before .before .before .before .before .before .before .before .before .before .read-event .result) (c .before .before .before .before .before .before .before .before .before .before .before .before .before .read-event .ensures) (on .result) (on .last .1 .1 .1 .0) (on .last .1 .1 .1 .1 .0) (on .last .1 .1 .1 .1 .1 .0) (on .ensures) (c .before .before .d .given .0 .0) (c .next-place .result) (c .before .before .d .given .1) (c .next-place .ensures) in
     next .head
 
--- src/build.rt:70:8
 root-done-requires : tie.Need-root-done-requires Inv-loop μ-loop
 root-done-requires c κs = search needs
 
--- src/build.rt:71:9
 same-length-3 : tie.Need-same-length-3 Inv-loop μ-loop
 same-length-3 c = c .before .before .before .loop .inv .held .size-is
 
--- src/build.rt:71:9
 same-length-4 : tie.Need-same-length-4 Inv-loop μ-loop
 same-length-4 c = c .before .before .before .loop .inv .held .piece-size-is
 
--- src/build.rt:71:9
 returns-2 : tie.Need-returns-2 Inv-loop μ-loop
 returns-2 c =
     let a = c .before .before .before .before .before .before .before .before .args in
     let here = c .before .before .before .loop in
     built-now (a .text .now) (a .events .now) (length (a .records .now)) (length (a .pieces .now)) (here .stack) (here .records) (here .pieces) (here .c) (here .at) (here .number) (here .inv) (c .before .before .loop-test .left) (sym (c .before .root-done .ensures) ∙ c .if1 .taken)
 
--- src/build.rt:39:1
 same-length-5 : tie.Need-same-length-5 Inv-loop μ-loop
 same-length-5 c = c .before .before .before .loop .inv .held .size-is
 
--- src/build.rt:39:1
 same-length-6 : tie.Need-same-length-6 Inv-loop μ-loop
 same-length-6 c = c .before .before .before .loop .inv .held .piece-size-is
 
--- src/build.rt:39:1
 returns-3 : tie.Need-returns-3 Inv-loop μ-loop
 returns-3 c =
     let a = c .before .before .before .before .before .before .before .before .args in

@@ -1,63 +1,48 @@
+-- `next_place` meets its contract, by the event's case. Assumes nothing.
 use borrow.Author.Needs.{needs}
-use mathlib.Core.Path.{_≡_, refl, sym, ap, ap₂, _∙_, subst}
+use mathlib.Core.Path.{refl}
 use Rattle.parser.proofs.build.next_place.Statement.{statement}
 use Rattle.parser.proofs.build.next_place.Tie as tie
-use Rattle.parser.proofs.build.next_place.Reads as reads
-use Rattle.parser.proofs.build.next_place.Lts as lts
 
--- src/build.rt:28:50
 enum-known-e : tie.Need-enum-known-e
 enum-known-e c = search needs
 
--- src/build.rt:29:40
 enum-known-e-2 : tie.Need-enum-known-e-2
 enum-known-e-2 c = search needs
 
--- src/build.rt:30:49
 enum-known-e-3 : tie.Need-enum-known-e-3
 enum-known-e-3 c = search needs
 
--- src/build.rt:31:39
 enum-known-e-4 : tie.Need-enum-known-e-4
 enum-known-e-4 c = search needs
 
--- src/build.rt:32:89
 enum-known-e-5 : tie.Need-enum-known-e-5
 enum-known-e-5 c = search needs
 
--- src/build.rt:33:34
 enum-known-e-6 : tie.Need-enum-known-e-6
 enum-known-e-6 c = search needs
 
--- src/build.rt:34:29
 enum-told : tie.Need-enum-told
 enum-told c = search needs
 
--- src/build.rt:24:1
 returns : tie.Need-returns
 returns c = search needs
 
--- src/build.rt:24:1
 returns-2 : tie.Need-returns-2
 returns-2 c = search needs
 
--- src/build.rt:24:1
 returns-3 : tie.Need-returns-3
 returns-3 c = search needs
 
--- src/build.rt:24:1
 returns-4 : tie.Need-returns-4
 returns-4 c = search needs
 
--- src/build.rt:24:1
 returns-5 : tie.Need-returns-5
 returns-5 c = rw (c .before .e5 .given .1) refl
 
--- src/build.rt:24:1
 returns-6 : tie.Need-returns-6
 returns-6 c = search needs
 
--- src/build.rt:24:1
 returns-7 : tie.Need-returns-7
 returns-7 c = search needs
 

@@ -1,31 +1,22 @@
+-- `collection_node` meets its contract: the start is a boundary and the end within the text, as the search and the record ask. Assumes nothing.
 use borrow.Author.Needs.{needs}
-use mathlib.Core.Path.{_≡_, refl, sym, ap, ap₂, _∙_, subst}
-use Rattle.parser.specs.Collection.{closes, members, collectionEnd, collectionStart, collectionOver, collectionNode}
+use Rattle.parser.specs.Collection.{collectionNode}
 use Rattle.parser.proofs.Starts.{collection-start-boundary, end-within}
 use Rattle.parser.proofs.collection.collection_node.Statement.{statement}
 use Rattle.parser.proofs.collection.collection_node.Tie as tie
-use Rattle.parser.proofs.collection.collection_node.Reads as reads
-use Rattle.parser.proofs.collection.collection_node.Lts as lts
-use Rattle.parser.proofs.collection.collection_end.Reads as collection-end-reads
-use Rattle.parser.proofs.collection.collection_over.Reads as collection-over-reads
-use Rattle.parser.proofs.collection.collection_start.Reads as collection-start-reads
 
--- src/collection.rt:163:9
 collection-start-requires : tie.Need-collection-start-requires
 collection-start-requires c κs = search needs
 
--- src/collection.rt:164:9
 collection-end-requires : tie.Need-collection-end-requires
 collection-end-requires c κs = search needs
 
--- src/collection.rt:165:5
 collection-over-requires : tie.Need-collection-over-requires
-collection-over-requires c κs = 
+collection-over-requires c κs =
     let given = c .before .before .before in
     let a = given .args in
     (given .pre .0, (rw (c .before .collection-start .ensures) (collection-start-boundary (a .text .now) (a .o) (given .pre .1 .0 .0) (given .pre .1 .0 .1)), (rw (c .collection-end .ensures) (end-within (a .text .now) (a .o .mapping) (a .at) (given .pre .1 .1 .0)), given .pre .1 .1 .1)))
 
--- src/collection.rt:156:1
 returns : tie.Need-returns
 unfolding collectionNode
 returns c = rw (← c .before .collection-end .ensures, ← c .before .before .collection-start .ensures) (c .collection-over .ensures)

@@ -1,82 +1,62 @@
+-- `keep_scalar` meets its contract: the free part of the pieces is zero and is lent to the walk; by its answer it comes back as it was, or
+-- with the list in it. Assumes nothing.
 use borrow.Author.Needs.{needs}
-use mathlib.Core.Path.{_≡_, refl, sym, ap, ap₂, _∙_, subst}
-use Prim.Native.Nat.{ℕ, zero, suc, _+_, _-_, _*_, _/_, _≤_, _<_, zero-le}
+use mathlib.Core.Path.{refl}
+use Prim.Native.Nat.{_-_}
 use native.Mathlib.Omega.{arith}
-use Rattle.parser.proofs.Turns.{moved-on, after-root, before-root, too-deep, not-deep, no-room, in-room, moved-cursor, pushable, opened, none-open, mismatched, matched, inner-below, inner-on, popped, outside, inner, free-zero, walk-no-room, walk-no-list, walk-listed, scalar-kept}
-use Rattle.parser.proofs.Starts.{cursor-offset, offset-start, collection-node-boundary, scalar-spans, suffix-placed, range-is, part-few, span-within}
-use Rattle.parser.specs.Machine.{State, started, closed, aliased, keeping, scalared, scalarAt}
-use lib.ListN.{length, getD, set, take, drop, replicate, length-set, length-drop}
-use Rattle.parser.specs.Scalar.{scalarFrom, stepPast, scalarStart, spanLen, listAt, tagInfo, withSpan, resolvedBy, scalarNode}
+use Rattle.parser.proofs.Turns.{moved-on, pushable, free-zero, walk-no-room, walk-no-list, walk-listed}
+use Rattle.parser.specs.Scalar.{listAt}
 use Rattle.parser.proofs.on_event.keep_scalar.Statement.{statement}
 use Rattle.parser.proofs.on_event.keep_scalar.Tie as tie
-use Rattle.parser.proofs.on_event.keep_scalar.Reads as reads
-use Rattle.parser.proofs.on_event.keep_scalar.Lts as lts
-use Rattle.parser.proofs.on_event.push_complete.Reads as push-complete-reads
-use Rattle.parser.proofs.record.with_list.Reads as with-list-reads
-use Rattle.parser.proofs.scalar.walk_scalar.Reads as walk-scalar-reads
 
--- src/on_event.rt:210:17
 cast-start : tie.Need-cast-start
 cast-start c = search needs
 
--- src/on_event.rt:211:15
 cast-len : tie.Need-cast-len
 cast-len c = search needs
 
--- src/on_event.rt:211:15
 sub-len : tie.Need-sub-len
 sub-len c = search needs
 
--- src/on_event.rt:212:16
 mul-free : tie.Need-mul-free
 mul-free c = search needs
 
--- src/on_event.rt:213:63
 mul-walk-scalar : tie.Need-mul-walk-scalar
 mul-walk-scalar c = search needs
 
--- src/on_event.rt:213:63
 sub-walk-scalar : tie.Need-sub-walk-scalar
 sub-walk-scalar c = search needs
 
--- src/on_event.rt:213:63
 part-walk-scalar-start : tie.Need-part-walk-scalar-start
 part-walk-scalar-start c = search needs
 
--- src/on_event.rt:213:63
 part-walk-scalar-end : tie.Need-part-walk-scalar-end
 part-walk-scalar-end c = search needs
 
--- src/on_event.rt:213:11
 walk-scalar-requires : tie.Need-walk-scalar-requires
-walk-scalar-requires c κs = 
+walk-scalar-requires c κs =
     let given = c .before .before .before .before .before .before .before .before .before in
     let small = given .pre .1 .1 .0 in
     let span = given .pre .1 .1 .1 .1 in
     ((small .0, small .1, omega arith), free-zero _ _ _ _ _ _ _ _ (given .pre .0 .held))
 
--- src/on_event.rt:214:27
 enum-told : tie.Need-enum-told
 enum-told c = search needs
 
--- src/on_event.rt:215:50
 enum-told-2 : tie.Need-enum-told-2
 enum-told-2 c = search needs
 
--- src/on_event.rt:215:36
 push-complete-requires : tie.Need-push-complete-requires
-push-complete-requires c κs = 
+push-complete-requires c κs =
     let given = c .before .before .before .before .before .before .before .before .before .before .before .before .before .before .before .before in
     let ready = given .pre .0 in
     pushable _ _ _ _ _ _ _ _ (ready .held) (ready .few) (rw (← ready .held .size-is) (given .pre .1 .0))
 
--- src/on_event.rt:216:24
 enum-known-n : tie.Need-enum-known-n
 enum-known-n c = search needs
 
--- src/on_event.rt:220:23
 add-t31 : tie.Need-add-t31
-add-t31 c = 
+add-t31 c =
     let given = c .before .before .before .before .before .before .before .before .before .before .before .before .before .before .before in
     let a = given .args in
     let walked = c .before .before .before .before .before .walk-scalar in
@@ -85,9 +65,8 @@ add-t31 c =
     let more = walk-listed _ _ _ _ _ _ _ _ (given .pre .0 .held) (a .x) (listAt (a .text .now) (a .x .extent .start) (a .x .extent .end - a .x .extent .start) (a .value .now) (a .style) (a .column)) (n .0 .0) (walked .last .1 .1 .1 .1 .1 .1 .0) (walked .kept .1 .1 .1 .1 .1 .1 .0) w in
     omega (arith, more .fits)
 
--- src/on_event.rt:223:71
 cast-with-list : tie.Need-cast-with-list
-cast-with-list c = 
+cast-with-list c =
     let given = c .before .before .before .before .before .before .before .before .before .before .before .before .before .before .before .before .before in
     let a = given .args in
     let walked = c .before .before .before .before .before .before .before .walk-scalar in
@@ -96,9 +75,8 @@ cast-with-list c =
     let more = walk-listed _ _ _ _ _ _ _ _ (given .pre .0 .held) (a .x) (listAt (a .text .now) (a .x .extent .start) (a .x .extent .end - a .x .extent .start) (a .value .now) (a .style) (a .column)) (n .0 .0) (walked .last .1 .1 .1 .1 .1 .1 .0) (walked .kept .1 .1 .1 .1 .1 .1 .0) w in
     omega (arith, more .fits)
 
--- src/on_event.rt:223:84
 cast-with-list-2 : tie.Need-cast-with-list-2
-cast-with-list-2 c = 
+cast-with-list-2 c =
     let given = c .before .before .before .before .before .before .before .before .before .before .before .before .before .before .before .before .before in
     let a = given .args in
     let walked = c .before .before .before .before .before .before .before .walk-scalar in
@@ -107,13 +85,11 @@ cast-with-list-2 c =
     let more = walk-listed _ _ _ _ _ _ _ _ (given .pre .0 .held) (a .x) (listAt (a .text .now) (a .x .extent .start) (a .x .extent .end - a .x .extent .start) (a .value .now) (a .style) (a .column)) (n .0 .0) (walked .last .1 .1 .1 .1 .1 .1 .0) (walked .kept .1 .1 .1 .1 .1 .1 .0) w in
     omega (arith, more .fits)
 
--- src/on_event.rt:223:58
 with-list-requires : tie.Need-with-list-requires
 with-list-requires c κs = search needs
 
--- src/on_event.rt:223:22
 push-complete-requires-2 : tie.Need-push-complete-requires-2
-push-complete-requires-2 c κs = 
+push-complete-requires-2 c κs =
     let given = c .before .before .before .before .before .before .before .before .before .before .before .before .before .before .before .before .before .before in
     let a = given .args in
     let walked = c .before .before .before .before .before .before .before .before .walk-scalar in
@@ -122,11 +98,9 @@ push-complete-requires-2 c κs =
     let more = walk-listed _ _ _ _ _ _ _ _ (given .pre .0 .held) (a .x) (listAt (a .text .now) (a .x .extent .start) (a .x .extent .end - a .x .extent .start) (a .value .now) (a .style) (a .column)) (n .0 .0) (walked .last .1 .1 .1 .1 .1 .1 .0) (walked .kept .1 .1 .1 .1 .1 .1 .0) w in
     pushable _ _ _ _ _ _ _ _ (more .held) (given .pre .0 .few) (rw (← given .pre .0 .held .size-is) (given .pre .1 .0))
 
--- src/on_event.rt:188:1
 same-length : tie.Need-same-length
 same-length c = search needs
 
--- src/on_event.rt:188:1
 returns : tie.Need-returns
 returns c = λ size piece-size st h.
     let given = c .before .before .before .before .before .before .before .before .before .before .before .before .before .before in
@@ -134,19 +108,15 @@ returns c = λ size piece-size st h.
     let walked = c .before .before .before .before .walk-scalar in
     rw (walk-no-room _ _ _ _ _ _ _ _ h (a .x) (listAt (a .text .now) (a .x .extent .start) (a .x .extent .end - a .x .extent .start) (a .value .now) (a .style) (a .column)) (walked .last .1 .1 .1 .1 .1 .1 .0) (rw (c .enum-told .given .1) at (walked .ensures))) refl
 
--- src/on_event.rt:188:1
 same-length-2 : tie.Need-same-length-2
 same-length-2 c = search needs
 
--- src/on_event.rt:188:1
 same-length-3 : tie.Need-same-length-3
 same-length-3 c = search needs
 
--- src/on_event.rt:188:1
 same-length-4 : tie.Need-same-length-4
 same-length-4 c = search needs
 
--- src/on_event.rt:188:1
 returns-2 : tie.Need-returns-2
 returns-2 c = λ size piece-size st h.
     let given = c .before .before .before .before .before .before .before .before .before .before .before .before .before .before .before .before .before .before .before .before .before in
@@ -155,19 +125,15 @@ returns-2 c = λ size piece-size st h.
     let same = walk-no-list _ _ _ _ _ _ _ _ h (a .x) (listAt (a .text .now) (a .x .extent .start) (a .x .extent .end - a .x .extent .start) (a .value .now) (a .style) (a .column)) (walked .last .1 .1 .1 .1 .1 .1 .0) (rw (c .before .before .before .before .before .before .before .enum-told2 .given .1) at (walked .ensures)) in
     rw (same .0, same .1) (moved-on _ _ _ st (a .c) _ _ _ _ _ (h .nodes-are) (c .before .before .before .before .push-complete .ensures (a .text .now) size piece-size st (a .pieces .now) (given .pre .1 .1 .1 .0) h))
 
--- src/on_event.rt:188:1
 same-length-5 : tie.Need-same-length-5
 same-length-5 c = search needs
 
--- src/on_event.rt:188:1
 same-length-6 : tie.Need-same-length-6
 same-length-6 c = search needs
 
--- src/on_event.rt:188:1
 same-length-7 : tie.Need-same-length-7
 same-length-7 c = search needs
 
--- src/on_event.rt:188:1
 returns-3 : tie.Need-returns-3
 returns-3 c = λ size piece-size st h.
     let given = c .before .before .before .before .before .before .before .before .before .before .before .before .before .before .before .before .before .before .before .before .before .before .before in

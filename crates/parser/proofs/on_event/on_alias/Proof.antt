@@ -1,26 +1,18 @@
+-- `on_alias` meets its contract: rows 5 and 7 by the counts; then its record is complete. Assumes nothing.
 use borrow.Author.Needs.{needs}
-use mathlib.Core.Path.{_≡_, refl, sym, ap, ap₂, _∙_, subst}
-use Prim.Native.Nat.{ℕ, zero, suc, _+_, _-_, _*_, _/_, _≤_, _<_, zero-le}
+use mathlib.Core.Path.{refl, sym, _∙_}
+use Prim.Native.Nat.{_-_, _/_, _≤_, _<_}
 use native.Mathlib.Omega.{arith}
-use Rattle.parser.proofs.Turns.{moved-on, after-root, before-root, too-deep, not-deep, no-room, in-room, moved-cursor, pushable, opened, none-open, mismatched, matched, inner-below, inner-on, popped, outside, inner, free-zero, walk-no-room, walk-no-list, walk-listed, scalar-kept}
-use Rattle.parser.proofs.Starts.{cursor-offset, offset-start, collection-node-boundary, scalar-spans, suffix-placed, range-is, part-few, span-within}
+use Rattle.parser.proofs.Turns.{moved-on, after-root, before-root, no-room, in-room, moved-cursor}
+use Rattle.parser.proofs.Starts.{cursor-offset}
 use Rattle.text.specs.OffsetLaws.{offset-within, offset-boundary}
-use Rattle.parser.specs.Machine.{State, started, closed, aliased, keeping, scalared, scalarAt}
-use lib.ListN.{length, getD, set, take, drop, replicate, length-set, length-drop}
-use Rattle.parser.specs.Scalar.{scalarFrom, stepPast, scalarStart, spanLen, listAt, tagInfo, withSpan, resolvedBy, scalarNode}
+use Rattle.parser.specs.Machine.{aliased}
 use Rattle.parser.proofs.on_event.on_alias.Statement.{statement}
 use Rattle.parser.proofs.on_event.on_alias.Tie as tie
-use Rattle.parser.proofs.on_event.on_alias.Reads as reads
-use Rattle.parser.proofs.on_event.on_alias.Lts as lts
-use Rattle.parser.proofs.answer.root_done.Reads as root-done-reads
-use Rattle.parser.proofs.on_event.push_complete.Reads as push-complete-reads
-use Rattle.text.proofs.offset.byte_offset_of_char.Reads as byte-offset-of-char-reads
 
--- src/on_event.rt:157:8
 root-done-requires : tie.Need-root-done-requires
 root-done-requires c κs = search needs
 
--- src/on_event.rt:158:9
 returns : tie.Need-returns
 unfolding aliased
 returns c = λ p size piece-size st h.
@@ -28,7 +20,6 @@ returns c = λ p size piece-size st h.
     let a = given .args in
     rw (after-root _ _ _ _ _ _ _ _ h _ (sym (c .before .root-done .ensures) ∙ c .if1 .taken)) refl
 
--- src/on_event.rt:163:9
 returns-2 : tie.Need-returns-2
 unfolding aliased
 returns-2 c = λ p size piece-size st h.
@@ -37,32 +28,26 @@ returns-2 c = λ p size piece-size st h.
     let l : size / 12 ≤ a .c .nodes = rw (← h .size-is) (c .if2 .taken) in
     rw (before-root _ _ _ _ _ _ _ _ h _ (sym (c .before .before .root-done .ensures) ∙ c .before .if1 .left), no-room _ _ _ _ _ _ _ _ h _ l) refl
 
--- src/on_event.rt:165:9
 byte-offset-of-char-requires : tie.Need-byte-offset-of-char-requires
 byte-offset-of-char-requires c κs = search needs
 
--- src/on_event.rt:166:14
 cast-at : tie.Need-cast-at
-cast-at c = 
+cast-at c =
     let given = c .before .before .before .before .before .before .before .before in
     let a = given .args in
     let e = cursor-offset (a .text .now) (a .index) (c .before .byte-offset-of-char .result) (c .before .byte-offset-of-char .ensures) in
     let w = offset-within (given .pre .0 .sound .utf8) (a .index) in
     omega (arith, given .pre .0 .sound .within)
 
--- src/on_event.rt:184:14
 push-complete-requires : tie.Need-push-complete-requires
 push-complete-requires c κs = search needs
 
--- src/on_event.rt:145:1
 same-length : tie.Need-same-length
 same-length c = search needs
 
--- src/on_event.rt:145:1
 same-length-2 : tie.Need-same-length-2
 same-length-2 c = search needs
 
--- src/on_event.rt:145:1
 returns-3 : tie.Need-returns-3
 unfolding aliased
 returns-3 c = λ p size piece-size st h.

@@ -1,44 +1,31 @@
+-- `on_end` meets its contract: rows 4 and 7 by the innermost frame and the counts; then that frame's record is complete. Assumes nothing.
 use borrow.Author.Needs.{needs}
-use mathlib.Core.Path.{_≡_, refl, sym, ap, ap₂, _∙_, subst}
-use Prim.Native.Nat.{ℕ, zero, suc, _+_, _-_, _*_, _/_, _≤_, _<_, zero-le}
+use mathlib.Core.Path.{_≡_, refl, sym, ap, _∙_}
+use Prim.Native.Nat.{_-_, _/_, _≤_, _<_}
 use native.Mathlib.Omega.{arith}
-use Rattle.parser.proofs.Turns.{moved-on, after-root, before-root, too-deep, not-deep, no-room, in-room, moved-cursor, pushable, opened, none-open, mismatched, matched, inner-below, inner-on, popped, outside, inner, free-zero, walk-no-room, walk-no-list, walk-listed, scalar-kept}
-use Rattle.parser.proofs.Starts.{cursor-offset, offset-start, collection-node-boundary, scalar-spans, suffix-placed, range-is, part-few, span-within}
-use Rattle.text.specs.OffsetLaws.{offset-within, offset-boundary}
-use Rattle.parser.specs.Machine.{State, started, closed, aliased, keeping, scalared, scalarAt}
-use lib.ListN.{length, getD, set, take, drop, replicate, length-set, length-drop}
-use Rattle.parser.specs.Collection.{closes, members, collectionEnd, collectionStart, collectionOver, collectionNode}
-use borrow.Author.Tests.{lt-ltb, le-ltb, le-leb, lt-leb, eq-eqb, ne-eqb, not-true, not-false}
+use Rattle.parser.proofs.Turns.{moved-on, no-room, in-room, pushable, none-open, mismatched, matched, inner-below, inner-on, popped, outside, inner}
+use Rattle.parser.proofs.Starts.{cursor-offset, collection-node-boundary}
+use Rattle.text.specs.OffsetLaws.{offset-within}
+use Rattle.parser.specs.Collection.{closes, collectionNode}
+use borrow.Author.Tests.{not-true, not-false}
 use Rattle.parser.proofs.on_event.on_end.Statement.{statement}
 use Rattle.parser.proofs.on_event.on_end.Tie as tie
-use Rattle.parser.proofs.on_event.on_end.Reads as reads
-use Rattle.parser.proofs.on_event.on_end.Lts as lts
-use Rattle.parser.proofs.collection.closes_open.Reads as closes-open-reads
-use Rattle.parser.proofs.collection.collection_node.Reads as collection-node-reads
-use Rattle.parser.proofs.on_event.push_complete.Reads as push-complete-reads
-use Rattle.parser.proofs.stack.innermost.Reads as innermost-reads
-use Rattle.text.proofs.offset.byte_offset_of_char.Reads as byte-offset-of-char-reads
 
--- src/on_event.rt:124:9
 returns : tie.Need-returns
 returns c = λ p size piece-size st h.
     let given = c .before .before .before .before in
     let a = given .args in
     rw (none-open _ _ _ _ _ _ _ _ h (size / 12) (a .index) (a .mapping) (c .if1 .taken)) refl
 
--- src/on_event.rt:126:9
 innermost-requires : tie.Need-innermost-requires
 innermost-requires c κs = search needs
 
--- src/on_event.rt:127:9
 closes-open-requires : tie.Need-closes-open-requires
 closes-open-requires c κs = search needs
 
--- src/on_event.rt:128:9
 same-length : tie.Need-same-length
 same-length c = search needs
 
--- src/on_event.rt:128:9
 returns-2 : tie.Need-returns-2
 returns-2 c = λ p size piece-size st h.
     let given = c .before .before .before .before .before .before .before .before in
@@ -46,11 +33,9 @@ returns-2 c = λ p size piece-size st h.
     let d : 0 < a .c .depth = let z = c .before .before .before .before .if1 .left in omega arith in
     rw (mismatched _ _ _ _ _ _ _ _ h d (size / 12) (a .index) (a .mapping) (ap (closes (a .mapping)) (sym (c .before .before .innermost .ensures)) ∙ sym (c .before .closes-open .ensures) ∙ not-true (c .before .closes-open .result) (c .if2 .taken))) refl
 
--- src/on_event.rt:131:9
 same-length-2 : tie.Need-same-length-2
 same-length-2 c = search needs
 
--- src/on_event.rt:131:9
 returns-3 : tie.Need-returns-3
 returns-3 c = λ p size piece-size st h.
     let given = c .before .before .before .before .before .before .before .before .before in
@@ -59,13 +44,11 @@ returns-3 c = λ p size piece-size st h.
     let l : size / 12 ≤ a .c .nodes = rw (← h .size-is) (c .if3 .taken) in
     rw (matched _ _ _ _ _ _ _ _ h d (size / 12) (a .index) (a .mapping) (ap (closes (a .mapping)) (sym (c .before .before .before .innermost .ensures)) ∙ sym (c .before .before .closes-open .ensures) ∙ not-false (c .before .before .closes-open .result) (c .before .if2 .left)), no-room _ _ _ _ _ _ _ _ h _ l) refl
 
--- src/on_event.rt:133:9
 byte-offset-of-char-requires : tie.Need-byte-offset-of-char-requires
 byte-offset-of-char-requires c κs = search needs
 
--- src/on_event.rt:134:9
 collection-node-requires : tie.Need-collection-node-requires
-collection-node-requires c κs = 
+collection-node-requires c κs =
     let given = c .before .before .before .before .before .before .before .before .before .before in
     let a = given .args in
     let ready = given .pre .1 .1 in
@@ -76,13 +59,11 @@ collection-node-requires c κs =
     let w = offset-within (given .pre .0 .sound .utf8) (a .index) in
     (given .pre .0 .sound, (rw (c .before .before .before .before .innermost .ensures) (on .0, on .1), (rw e w, (rw (c .before .before .before .before .innermost .ensures) (let q = few .0 in omega arith), ready .few))))
 
--- src/on_event.rt:137:16
 sub-t19 : tie.Need-sub-t19
 sub-t19 c = search needs
 
--- src/on_event.rt:141:14
 push-complete-requires : tie.Need-push-complete-requires
-push-complete-requires c κs = 
+push-complete-requires c κs =
     let given = c .before .before .before .before .before .before .before .before .before .before .before .before .before in
     let a = given .args in
     let ready = given .pre .1 .1 in
@@ -90,15 +71,12 @@ push-complete-requires c κs =
     let l : a .c .nodes < ready .size / 12 = rw (← ready .held .size-is) (c .before .before .before .before .if3 .left) in
     pushable _ _ _ _ _ _ _ _ (popped _ _ _ _ _ _ _ _ (ready .held) d (a .index) (c .before .before .before .byte-offset-of-char .result) (c .before .before .before .byte-offset-of-char .ensures)) (ready .few) l
 
--- src/on_event.rt:108:1
 same-length-3 : tie.Need-same-length-3
 same-length-3 c = search needs
 
--- src/on_event.rt:108:1
 same-length-4 : tie.Need-same-length-4
 same-length-4 c = search needs
 
--- src/on_event.rt:108:1
 returns-4 : tie.Need-returns-4
 returns-4 c = λ p size piece-size st h.
     let given = c .before .before .before .before .before .before .before .before .before .before .before .before .before .before .before .before .before .before in
@@ -109,7 +87,7 @@ returns-4 c = λ p size piece-size st h.
     let e = cursor-offset (a .text .now) (a .index) (cur .result) (cur .ensures) in
     let on = inner-on _ _ _ _ _ _ _ _ h d in
     let x : c .before .before .before .before .before .before .before .collection-node .result ≡ collectionNode (a .text .now) (inner _ _ _ _ _ _ _ _ h d) (cur .result .offset) (a .c .nodes) =
-      c .before .before .before .before .before .before .before .collection-node .ensures ∙ ap (λ o. collectionNode (a .text .now) o (cur .result .offset) (a .c .nodes)) (c .before .before .before .before .before .before .before .before .before .before .before .before .innermost .ensures) in
+    c .before .before .before .before .before .before .before .collection-node .ensures ∙ ap (λ o. collectionNode (a .text .now) o (cur .result .offset) (a .c .nodes)) (c .before .before .before .before .before .before .before .before .before .before .before .before .innermost .ensures) in
     rw (matched _ _ _ _ _ _ _ _ h d (size / 12) (a .index) (a .mapping) (ap (closes (a .mapping)) (sym (c .before .before .before .before .before .before .before .before .before .before .before .before .innermost .ensures)) ∙ sym (c .before .before .before .before .before .before .before .before .before .before .before .closes-open .ensures) ∙ not-false (c .before .before .before .before .before .before .before .before .before .before .before .closes-open .result) (c .before .before .before .before .before .before .before .before .before .before .if2 .left)), in-room _ _ _ _ _ _ _ _ h _ l, ← e, ← x)
     (moved-on _ _ _ (outside _ _ _ _ _ _ _ _ h d) (a .c) _ _ _ _ _ (h .nodes-are) (c .before .before .before .before .push-complete .ensures (a .text .now) size piece-size (outside _ _ _ _ _ _ _ _ h d) p (rw x (collection-node-boundary (a .text .now) (inner _ _ _ _ _ _ _ _ h d) (cur .result .offset) (a .c .nodes) (on .0) (on .1))) (popped _ _ _ _ _ _ _ _ h d (a .index) (cur .result) (cur .ensures))))
 

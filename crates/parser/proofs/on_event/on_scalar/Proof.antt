@@ -1,36 +1,23 @@
+-- `on_scalar` meets its contract: rows 5 and 7 by the counts; start, tag, resolution and record are those of the definitions, and the
+-- walk decides the rest. Assumes nothing.
 use borrow.Author.Needs.{needs}
-use mathlib.Core.Path.{_≡_, refl, sym, ap, ap₂, _∙_, subst}
-use Prim.Native.Nat.{ℕ, zero, suc, _+_, _-_, _*_, _/_, _≤_, _<_, zero-le}
+use mathlib.Core.Path.{_≡_, refl, sym, ap, _∙_}
+use Prim.Native.Nat.{_+_, _-_, _/_, _≤_, _<_}
 use native.Mathlib.Omega.{arith}
-use Rattle.parser.proofs.Turns.{moved-on, after-root, before-root, too-deep, not-deep, no-room, in-room, moved-cursor, pushable, opened, none-open, mismatched, matched, inner-below, inner-on, popped, outside, inner, free-zero, walk-no-room, walk-no-list, walk-listed, scalar-kept}
-use Rattle.parser.proofs.Starts.{cursor-offset, offset-start, collection-node-boundary, scalar-spans, suffix-placed, range-is, part-few, span-within}
+use Rattle.parser.proofs.Turns.{after-root, before-root, no-room, in-room, moved-cursor, scalar-kept}
+use Rattle.parser.proofs.Starts.{cursor-offset, offset-start, scalar-spans, range-is, part-few, span-within}
 use Rattle.text.specs.OffsetLaws.{offset-within, offset-boundary}
-use Rattle.parser.specs.Machine.{State, started, closed, aliased, keeping, scalared, scalarAt}
-use lib.ListN.{length, getD, set, take, drop, replicate, length-set, length-drop}
-use Rattle.parser.specs.Scalar.{scalarFrom, scalarStart, spanLen, listAt, suffixOf, tagInfo, resolvedBy, scalarNode}
+use Rattle.parser.specs.Machine.{scalared}
+use Rattle.parser.specs.Scalar.{scalarFrom, spanLen, suffixOf, tagInfo, scalarNode}
 use Rattle.event.specs.Read.{partOf}
 use Rattle.text.specs.Boundary.{Boundary}
-use mathlib.Core.List.{List}
 use Rattle.parser.specs.Collection.{awaitsValue}
 use Rattle.parser.proofs.on_event.on_scalar.Statement.{statement}
 use Rattle.parser.proofs.on_event.on_scalar.Tie as tie
-use Rattle.parser.proofs.on_event.on_scalar.Reads as reads
-use Rattle.parser.proofs.on_event.on_scalar.Lts as lts
-use Rattle.parser.proofs.answer.root_done.Reads as root-done-reads
-use Rattle.parser.proofs.collection.tag_info.Reads as tag-info-reads
-use Rattle.parser.proofs.on_event.keep_scalar.Reads as keep-scalar-reads
-use Rattle.parser.proofs.scalar.resolve.Reads as resolve-reads
-use Rattle.parser.proofs.scalar.scalar_node.Reads as scalar-node-reads
-use Rattle.parser.proofs.scalar.scalar_start.Reads as scalar-start-reads
-use Rattle.parser.proofs.scalar.suffix_of.Reads as suffix-of-reads
-use Rattle.parser.proofs.stack.expecting_value.Reads as expecting-value-reads
-use Rattle.text.proofs.offset.byte_offset_of_char.Reads as byte-offset-of-char-reads
 
--- src/on_event.rt:250:8
 root-done-requires : tie.Need-root-done-requires
 root-done-requires c κs = search needs
 
--- src/on_event.rt:251:9
 returns : tie.Need-returns
 unfolding scalared
 returns c = λ size piece-size st h.
@@ -38,7 +25,6 @@ returns c = λ size piece-size st h.
     let a = given .args in
     rw (after-root _ _ _ _ _ _ _ _ h _ (sym (c .before .root-done .ensures) ∙ c .if1 .taken)) refl
 
--- src/on_event.rt:256:9
 returns-2 : tie.Need-returns-2
 unfolding scalared
 returns-2 c = λ size piece-size st h.
@@ -47,33 +33,26 @@ returns-2 c = λ size piece-size st h.
     let l : size / 12 ≤ a .c .nodes = rw (← h .size-is) (c .if2 .taken) in
     rw (before-root _ _ _ _ _ _ _ _ h _ (sym (c .before .before .root-done .ensures) ∙ c .before .if1 .left), no-room _ _ _ _ _ _ _ _ h _ l) refl
 
--- src/on_event.rt:258:9
 byte-offset-of-char-requires : tie.Need-byte-offset-of-char-requires
 byte-offset-of-char-requires c κs = search needs
 
--- src/on_event.rt:260:15
 add-end : tie.Need-add-end
 add-end c = search needs
 
--- src/on_event.rt:261:9
 expecting-value-requires : tie.Need-expecting-value-requires
 expecting-value-requires c κs = search needs
 
--- src/on_event.rt:262:51
 sub-scalar-start : tie.Need-sub-scalar-start
 sub-scalar-start c = search needs
 
--- src/on_event.rt:262:51
 part-scalar-start-start : tie.Need-part-scalar-start-start
 part-scalar-start-start c = search needs
 
--- src/on_event.rt:262:51
 part-scalar-start-end : tie.Need-part-scalar-start-end
 part-scalar-start-end c = search needs
 
--- src/on_event.rt:262:9
 scalar-start-requires : tie.Need-scalar-start-requires
-scalar-start-requires c κs = 
+scalar-start-requires c κs =
     let given = c .before .before .before .before .before .before .before .before .before .before .before .before .before in
     let a = given .args in
     let cur = c .before .before .before .before .byte-offset-of-char in
@@ -81,13 +60,11 @@ scalar-start-requires c κs =
     let u = given .pre .0 .sound .utf8 in
     rw e (offset-within u (a .index))
 
--- src/on_event.rt:263:38
 suffix-of-requires : tie.Need-suffix-of-requires
 suffix-of-requires c κs = search needs
 
--- src/on_event.rt:263:9
 tag-info-requires : tie.Need-tag-info-requires
-tag-info-requires c κs = 
+tag-info-requires c κs =
     let given = c .before .before .before .before .before .before .before .before .before .before .before .before .before .before .before in
     let a = given .args in
     let cur = c .before .before .before .before .before .before .byte-offset-of-char in
@@ -97,41 +74,32 @@ tag-info-requires c κs =
     let on : Boundary (a .text .now) (c .before .scalar-start .result) = rw begins (offset-start (a .text .now) u _ (a .style) _ (cur .result .offset) (rw e (offset-boundary u (a .index)))) in
     (given .pre .0 .sound, on)
 
--- src/on_event.rt:264:36
 sub-resolve : tie.Need-sub-resolve
 sub-resolve c = search needs
 
--- src/on_event.rt:264:36
 part-resolve-start : tie.Need-part-resolve-start
 part-resolve-start c = search needs
 
--- src/on_event.rt:264:36
 part-resolve-end : tie.Need-part-resolve-end
 part-resolve-end c = let i = c .before .before .before .before .before .before .before .before .before .before .before .before .before .before .before .before .pre .1 .1 .1 .part .inside in search needs
 
--- src/on_event.rt:264:9
 resolve-requires : tie.Need-resolve-requires
 resolve-requires c κs = c .before .before .before .before .before .before .before .before .before .before .before .before .before .before .before .before .before .pre .1 .1 .0 .parts
 
--- src/on_event.rt:265:38
 sub-scalar-node : tie.Need-sub-scalar-node
 sub-scalar-node c = search needs
 
--- src/on_event.rt:265:38
 part-scalar-node-start : tie.Need-part-scalar-node-start
 part-scalar-node-start c = search needs
 
--- src/on_event.rt:265:38
 part-scalar-node-end : tie.Need-part-scalar-node-end
 part-scalar-node-end c = let i = c .before .before .before .before .before .before .before .before .before .before .before .before .before .before .before .before .before .before .pre .1 .1 .1 .part .inside in search needs
 
--- src/on_event.rt:265:56
 cast-scalar-node : tie.Need-cast-scalar-node
 cast-scalar-node c = let i = c .before .before .before .before .before .before .before .before .before .before .before .before .before .before .before .before .before .before .before .pre .1 .1 .1 .part .inside in omega (arith, c .before .before .before .before .before .before .before .before .before .before .before .before .before .before .before .before .before .before .before .pre .1 .1 .0 .short)
 
--- src/on_event.rt:265:9
 scalar-node-requires : tie.Need-scalar-node-requires
-scalar-node-requires c κs = 
+scalar-node-requires c κs =
     let given = c .before .before .before .before .before .before .before .before .before .before .before .before .before .before .before .before .before .before .before in
     let a = given .args in
     let cur = c .before .before .before .before .before .before .before .before .before .before .byte-offset-of-char in
@@ -144,21 +112,17 @@ scalar-node-requires c κs =
     let few = part-few (a .events .now) (a .value) 65535 (read .few) in
     (given .pre .0 .sound, (rw is (read .part .utf8), (rw is (omega arith), on .within)))
 
--- src/on_event.rt:272:57
 sub-keep-scalar : tie.Need-sub-keep-scalar
 sub-keep-scalar c = search needs
 
--- src/on_event.rt:272:57
 part-keep-scalar-start : tie.Need-part-keep-scalar-start
 part-keep-scalar-start c = search needs
 
--- src/on_event.rt:272:57
 part-keep-scalar-end : tie.Need-part-keep-scalar-end
 part-keep-scalar-end c = let i = c .before .before .before .before .before .before .before .before .before .before .before .before .before .before .before .before .before .before .before .before .before .before .before .pre .1 .1 .1 .part .inside in search needs
 
--- src/on_event.rt:272:5
 keep-scalar-requires : tie.Need-keep-scalar-requires
-keep-scalar-requires c κs = 
+keep-scalar-requires c κs =
     let given = c .before .before .before .before .before .before .before .before .before .before .before .before .before .before .before .before .before .before .before .before .before .before .before .before in
     let a = given .args in
     let cur = c .before .before .before .before .before .before .before .before .before .before .before .before .before .before .before .byte-offset-of-char in
@@ -174,23 +138,20 @@ keep-scalar-requires c κs =
     let sp = scalar-spans (a .text .now) (scalarFrom (c .before .before .before .before .before .before .before .before .before .before .scalar-start .result) (a .column) (a .style) (a .empty) (partOf (a .events .now) (a .value)) (a .value .at)) (c .before .before .before .before .before .before .before .before .tag-info .result) (c .before .before .before .before .before .before .resolve .result) in
     let from : c .before .before .before .before .scalar-node .result .extent .start ≡ c .before .before .before .before .before .before .before .before .before .before .scalar-start .result = ap (λ y. y .extent .start) x ∙ sp .from in
     let to : c .before .before .before .before .scalar-node .result .extent .end ≡ c .before .before .before .before .before .before .before .before .before .before .scalar-start .result + spanLen (a .text .now) (scalarFrom (c .before .before .before .before .before .before .before .before .before .before .scalar-start .result) (a .column) (a .style) (a .empty) (partOf (a .events .now) (a .value)) (a .value .at)) = ap (λ y. y .extent .end) x ∙ sp .to in
-    let w = span-within (a .text .now) (scalarFrom (c .before .before .before .before .before .before .before .before .before .before .scalar-start .result) (a .column) (a .style) (a .empty) (partOf (a .events .now) (a .value)) (a .value .at)) (on .within) in
-    (record { size = ready .size; piece-size = ready .piece-size; st = ready .st; held = moved-cursor _ _ _ _ _ _ _ _ (ready .held) (a .index) (cur .result) (cur .ensures); few = ready .few },
-    (c .before .before .before .before .before .before .before .before .before .before .before .before .before .before .before .before .if2 .left, ((given .pre .0 .sound .within, rw is (omega arith)), (rw from on, (omega arith, omega arith)))))
+    let w = span-within (a .text .now) (scalarFrom (c .before .before .before .before .before .before .before .before .before .before .scalar-start .result) (a .column) (a .style) (a .empty) (partOf (a .events .now) (a .value)) (a .value .at)) (on .within) in (
+      record { size = ready .size; piece-size = ready .piece-size; st = ready .st; held = moved-cursor _ _ _ _ _ _ _ _ (ready .held) (a .index) (cur .result) (cur .ensures); few = ready .few },
+      (c .before .before .before .before .before .before .before .before .before .before .before .before .before .before .before .before .if2 .left, ((given .pre .0 .sound .within, rw is (omega arith)), (rw from on, (omega arith, omega arith)))),
+    )
 
--- src/on_event.rt:229:1
 same-length : tie.Need-same-length
 same-length c = search needs
 
--- src/on_event.rt:229:1
 same-length-2 : tie.Need-same-length-2
 same-length-2 c = search needs
 
--- src/on_event.rt:229:1
 same-length-3 : tie.Need-same-length-3
 same-length-3 c = search needs
 
--- src/on_event.rt:229:1
 returns-3 : tie.Need-returns-3
 unfolding scalared
 returns-3 c = λ size piece-size st h.

@@ -1,27 +1,18 @@
+-- `on_start` meets its contract: rows 5 and 6 by the counts; then the new frame is the machine's new collection. Assumes nothing.
 use borrow.Author.Needs.{needs}
-use mathlib.Core.Path.{_≡_, refl, sym, ap, ap₂, _∙_, subst}
-use Prim.Native.Nat.{ℕ, zero, suc, _+_, _-_, _*_, _/_, _≤_, _<_, zero-le}
+use mathlib.Core.Path.{refl, sym, _∙_}
+use Prim.Native.Nat.{_-_}
 use native.Mathlib.Omega.{arith}
-use Rattle.parser.proofs.Turns.{moved-on, after-root, before-root, too-deep, not-deep, no-room, in-room, moved-cursor, pushable, opened, none-open, mismatched, matched, inner-below, inner-on, popped, outside, inner, free-zero, walk-no-room, walk-no-list, walk-listed, scalar-kept}
-use Rattle.parser.proofs.Starts.{cursor-offset, offset-start, collection-node-boundary, scalar-spans, suffix-placed, range-is, part-few, span-within}
-use Rattle.text.specs.OffsetLaws.{offset-within, offset-boundary}
-use Rattle.parser.specs.Machine.{State, started, closed, aliased, keeping, scalared, scalarAt}
-use lib.ListN.{length, getD, set, take, drop, replicate, length-set, length-drop}
-use Rattle.parser.specs.Scalar.{scalarFrom, stepPast, scalarStart, spanLen, listAt, tagInfo, withSpan, resolvedBy, scalarNode}
+use Rattle.parser.proofs.Turns.{after-root, before-root, too-deep, opened}
+use Rattle.parser.proofs.Starts.{cursor-offset, suffix-placed}
+use Rattle.text.specs.OffsetLaws.{offset-within}
+use Rattle.parser.specs.Machine.{started}
 use Rattle.parser.proofs.on_event.on_start.Statement.{statement}
 use Rattle.parser.proofs.on_event.on_start.Tie as tie
-use Rattle.parser.proofs.on_event.on_start.Reads as reads
-use Rattle.parser.proofs.on_event.on_start.Lts as lts
-use Rattle.parser.proofs.answer.root_done.Reads as root-done-reads
-use Rattle.parser.proofs.scalar.suffix_of.Reads as suffix-of-reads
-use Rattle.parser.proofs.stack.push_open.Reads as push-open-reads
-use Rattle.text.proofs.offset.byte_offset_of_char.Reads as byte-offset-of-char-reads
 
--- src/on_event.rt:78:8
 root-done-requires : tie.Need-root-done-requires
 root-done-requires c κs = search needs
 
--- src/on_event.rt:79:9
 returns : tie.Need-returns
 unfolding started
 returns c = λ p size piece-size st h.
@@ -29,7 +20,6 @@ returns c = λ p size piece-size st h.
     let a = given .args in
     rw (after-root _ _ _ _ _ _ _ _ h _ (sym (c .before .root-done .ensures) ∙ c .if1 .taken)) refl
 
--- src/on_event.rt:84:9
 returns-2 : tie.Need-returns-2
 unfolding started
 returns-2 c = λ p size piece-size st h.
@@ -37,40 +27,32 @@ returns-2 c = λ p size piece-size st h.
     let a = given .args in
     rw (before-root _ _ _ _ _ _ _ _ h _ (sym (c .before .before .root-done .ensures) ∙ c .before .if1 .left), too-deep _ _ _ _ _ _ _ _ h _ (c .if2 .taken)) refl
 
--- src/on_event.rt:86:9
 byte-offset-of-char-requires : tie.Need-byte-offset-of-char-requires
 byte-offset-of-char-requires c κs = search needs
 
--- src/on_event.rt:92:20
 cast-t19 : tie.Need-cast-t19
-cast-t19 c = 
+cast-t19 c =
     let given = c .before .before .before .before .before .before .before .before .before .before in
     let a = given .args in
     let e = cursor-offset (a .text .now) (a .index) (c .before .before .byte-offset-of-char .result) (c .before .before .byte-offset-of-char .ensures) in
     let w = offset-within (given .pre .0 .sound .utf8) (a .index) in
     omega (arith, given .pre .0 .sound .within)
 
--- src/on_event.rt:93:21
 suffix-of-requires : tie.Need-suffix-of-requires
 suffix-of-requires c κs = search needs
 
--- src/on_event.rt:96:21
 cast-t21 : tie.Need-cast-t21
 cast-t21 c = search needs
 
--- src/on_event.rt:87:5
 push-open-requires : tie.Need-push-open-requires
 push-open-requires c κs = search needs
 
--- src/on_event.rt:101:16
 add-t15 : tie.Need-add-t15
 add-t15 c = search needs
 
--- src/on_event.rt:62:1
 same-length : tie.Need-same-length
 same-length c = search needs
 
--- src/on_event.rt:62:1
 returns-3 : tie.Need-returns-3
 returns-3 c = λ p size piece-size st h.
     let given = c .before .before .before .before .before .before .before .before .before .before .before .before .before .before in

@@ -1,49 +1,35 @@
+-- `one_scalar` meets its contract: the machine's scalar from the empty state, by what its walk answers. Assumes nothing.
 use borrow.Author.Needs.{needs}
-use mathlib.Core.Path.{_≡_, refl, sym, ap, ap₂, _∙_, subst}
-use Prim.Native.Nat.{ℕ, zero, suc, _+_, _-_, _*_, _/_, _≤_, _<_, zero-le}
+use mathlib.Core.Path.{_≡_, ap, _∙_}
+use Prim.Native.Nat.{_+_, _-_, _≤_}
 use native.Mathlib.Omega.{arith}
-use lib.ListN.{length, getD, set, take, drop, replicate, length-set, length-drop}
-use Rattle.parser.proofs.Wholes.{zeros-front, too-many, text-too-long, text-no-utf8, when-built, when-refused, length-front, listed-few, one-no-room, one-no-list, one-listed, style-unknown, one-is, scalar-too-long, scalar-no-utf8, scalar-read}
+use lib.ListN.{length}
+use Rattle.parser.proofs.Wholes.{listed-few, one-no-room, one-no-list, one-listed, style-unknown, one-is}
 use Rattle.parser.proofs.Starts.{cursor-offset, scalar-spans, span-within}
 use Rattle.text.specs.OffsetLaws.{offset-within, stands-start}
 use Rattle.parser.specs.Record.{noTag}
 use Rattle.parser.specs.Scalar.{scalarFrom, spanLen, listAt}
 use Rattle.parser.proofs.one.one_scalar.Statement.{statement}
 use Rattle.parser.proofs.one.one_scalar.Tie as tie
-use Rattle.parser.proofs.one.one_scalar.Reads as reads
-use Rattle.parser.proofs.one.one_scalar.Lts as lts
-use Rattle.parser.proofs.one.refused.Reads as refused-reads
-use Rattle.parser.proofs.record.with_list.Reads as with-list-reads
-use Rattle.parser.proofs.scalar.scalar_node.Reads as scalar-node-reads
-use Rattle.parser.proofs.scalar.walk_scalar.Reads as walk-scalar-reads
-use Rattle.schema.proofs.tag.resolve_scalar.Reads as resolve-scalar-reads
-use Rattle.text.proofs.offset.byte_offset_of_char.Reads as byte-offset-of-char-reads
 
--- src/one.rt:81:9
 refused-requires : tie.Need-refused-requires
 refused-requires c κs = search needs
 
--- src/one.rt:81:9
 returns : tie.Need-returns
 returns c = let given = c .before .before .before .before .before in let a = given .args in rw (c .refused .ensures) (style-unknown (a .text .now) (a .index) (a .column) (a .style) (a .empty) (a .value .now) (length (a .pieces .now)) _ (c .before .if1 .taken) (given .pre .1 .1 .1 .0))
 
--- src/one.rt:83:9
 byte-offset-of-char-requires : tie.Need-byte-offset-of-char-requires
 byte-offset-of-char-requires c κs = let given = c .before .before .before .before in (given .pre .0 .utf8, (given .pre .1 .1 .0, stands-start (given .args .text .now)))
 
--- src/one.rt:85:56
 slice-aggregate-resolve-scalar : tie.Need-slice-aggregate-resolve-scalar
 slice-aggregate-resolve-scalar c = search needs
 
--- src/one.rt:85:61
 slice-aggregate-resolve-scalar-2 : tie.Need-slice-aggregate-resolve-scalar-2
 slice-aggregate-resolve-scalar-2 c = search needs
 
--- src/one.rt:85:9
 resolve-scalar-requires : tie.Need-resolve-scalar-requires
 resolve-scalar-requires c κs = search needs
 
--- src/one.rt:86:9
 scalar-node-requires : tie.Need-scalar-node-requires
 scalar-node-requires c κs =
     let given = c .before .before .before .before .before .before .before .before in
@@ -53,11 +39,9 @@ scalar-node-requires c κs =
     let inside : cur .result .offset ≤ length (a .text .now) = rw e (offset-within (given .pre .0 .utf8) (a .index)) in
     (given .pre .0, (given .pre .1 .0 .utf8, (let l = given .pre .1 .0 .within in omega arith, inside)))
 
--- src/one.rt:87:15
 cast-len : tie.Need-cast-len
 cast-len c = search needs
 
--- src/one.rt:87:15
 sub-len : tie.Need-sub-len
 sub-len c =
     let given = c .before .before .before .before .before .before .before .before .before .before in
@@ -71,7 +55,6 @@ sub-len c =
     let to : y .result .extent .end ≡ cur .result .offset + spanLen (a .text .now) (scalarFrom (cur .result .offset) (a .column) (a .style) (a .empty) (a .value .now) 0) = ap (λ z. z .extent .end) (y .ensures) ∙ sp .to in
     omega arith
 
--- src/one.rt:88:11
 walk-scalar-requires : tie.Need-walk-scalar-requires
 walk-scalar-requires c κs =
     let given = c .before .before .before .before .before .before .before .before .before .before .before in
@@ -86,23 +69,18 @@ walk-scalar-requires c κs =
     let w = span-within (a .text .now) (scalarFrom (cur .result .offset) (a .column) (a .style) (a .empty) (a .value .now) 0) inside in
     ((given .pre .0 .within, given .pre .1 .0 .within, omega arith), given .pre .1 .1 .1 .0)
 
--- src/one.rt:89:27
 enum-told : tie.Need-enum-told
 enum-told c = search needs
 
--- src/one.rt:89:27
 refused-requires-2 : tie.Need-refused-requires-2
 refused-requires-2 c κs = search needs
 
--- src/one.rt:91:21
 enum-told-2 : tie.Need-enum-told-2
 enum-told-2 c = search needs
 
--- src/one.rt:94:24
 enum-known-n : tie.Need-enum-known-n
 enum-known-n c = search needs
 
--- src/one.rt:96:35
 cast-with-list : tie.Need-cast-with-list
 cast-with-list c =
     let given = c .before .before .before .before .before .before .before .before .before .before .before .before .before .before .before .before .before in
@@ -118,15 +96,12 @@ cast-with-list c =
     let w = rw (← from) at (walked .ensures) in
     let n = c .before .n .given in omega (arith, listed-few (length (a .pieces .now)) (given .pre .1 .1 .1 .1) (y .result) (listAt (a .text .now) (y .result .extent .start) (y .result .extent .end - y .result .extent .start) (a .value .now) (a .style) (a .column)) (n .0 .0) (walked .last .1 .1 .1 .1 .1 .1 .0) (walked .kept .1 .1 .1 .1 .1 .1 .0) (rw (n .1) at w), given .pre .1 .1 .1 .1)
 
--- src/one.rt:96:19
 with-list-requires : tie.Need-with-list-requires
 with-list-requires c κs = search needs
 
--- src/one.rt:64:1
 same-length : tie.Need-same-length
 same-length c = search needs
 
--- src/one.rt:64:1
 returns-2 : tie.Need-returns-2
 returns-2 c =
     let given = c .before .before .before .before .before .before .before .before .before .before .before .before .before .before .before .before .before in
@@ -142,11 +117,9 @@ returns-2 c =
     let w = rw (← from) at (walked .ensures) in
     rw ((one-is (a .text .now) (a .index) (a .column) (a .style) (a .empty) (a .value .now) (length (a .pieces .now)) (cur .result .offset) (c .before .before .before .before .before .before .before .before .before .resolve-scalar .result) (y .result) (c .before .before .before .before .before .before .before .before .before .before .before .before .before .if1 .left) e (c .before .before .before .before .before .before .before .before .before .resolve-scalar .ensures) (y .ensures)), c .refused2 .ensures) (one-no-room (length (a .pieces .now)) (given .pre .1 .1 .1 .1) (y .result) (listAt (a .text .now) (y .result .extent .start) (y .result .extent .end - y .result .extent .start) (a .value .now) (a .style) (a .column)) (walked .last .1 .1 .1 .1 .1 .1 .0) (rw (c .before .enum-told .given .1) at w))
 
--- src/one.rt:64:1
 same-length-2 : tie.Need-same-length-2
 same-length-2 c = search needs
 
--- src/one.rt:64:1
 returns-3 : tie.Need-returns-3
 returns-3 c =
     let given = c .before .before .before .before .before .before .before .before .before .before .before .before .before .before .before .before in
@@ -162,11 +135,9 @@ returns-3 c =
     let w = rw (← from) at (walked .ensures) in
     rw (one-is (a .text .now) (a .index) (a .column) (a .style) (a .empty) (a .value .now) (length (a .pieces .now)) (cur .result .offset) (c .before .before .before .before .before .before .before .before .resolve-scalar .result) (y .result) (c .before .before .before .before .before .before .before .before .before .before .before .before .if1 .left) e (c .before .before .before .before .before .before .before .before .resolve-scalar .ensures) (y .ensures)) (one-no-list (length (a .pieces .now)) (given .pre .1 .1 .1 .1) (y .result) (listAt (a .text .now) (y .result .extent .start) (y .result .extent .end - y .result .extent .start) (a .value .now) (a .style) (a .column)) (walked .last .1 .1 .1 .1 .1 .1 .0) (rw (c .enum-told2 .given .1) at w))
 
--- src/one.rt:64:1
 same-length-3 : tie.Need-same-length-3
 same-length-3 c = search needs
 
--- src/one.rt:64:1
 returns-4 : tie.Need-returns-4
 returns-4 c =
     let given = c .before .before .before .before .before .before .before .before .before .before .before .before .before .before .before .before .before .before in

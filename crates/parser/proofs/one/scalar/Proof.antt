@@ -1,63 +1,46 @@
-use mathlib.Core.Path.{_≡_, refl, sym, ap, ap₂, _∙_, subst}
-use Prim.Native.Nat.{ℕ, zero, suc, _+_, _-_, _*_, _/_, _≤_, _<_, zero-le}
+-- `scalar` meets its contract: text and value, then the scalar over the part of the pieces that is used. Assumes nothing.
+use mathlib.Core.Path.{_≡_, sym, ap, _∙_}
+use Prim.Native.Nat.{ℕ, _-_, _≤_}
 use native.Mathlib.Omega.{arith}
-use lib.ListN.{length, getD, set, take, drop, replicate, length-set, length-drop}
-use Rattle.parser.proofs.Wholes.{zeros-front, too-many, text-too-long, text-no-utf8, when-built, when-refused, length-front, listed-few, one-no-room, one-no-list, one-listed, style-unknown, one-is, scalar-too-long, scalar-no-utf8, scalar-read}
+use lib.ListN.{length, take, replicate}
+use Rattle.parser.proofs.Wholes.{zeros-front, scalar-too-long, scalar-no-utf8, scalar-read}
 use lib.Seq.{length-take-le}
-use Rattle.text.specs.AdmissionLaws.{admitted-sound, admitted-ascii, both-text-sound, both-value-sound, both-ascii}
+use Rattle.text.specs.AdmissionLaws.{both-text-sound, both-value-sound, both-ascii}
 use Prim.Native.Nat.{min}
 use borrow.Author.Needs.{needs}
 use Rattle.parser.proofs.one.scalar.Statement.{statement}
 use Rattle.parser.proofs.one.scalar.Tie as tie
-use Rattle.parser.proofs.one.scalar.Reads as reads
-use Rattle.parser.proofs.one.scalar.Lts as lts
-use Rattle.parser.proofs.buffer.clear.Reads as clear-reads
-use Rattle.parser.proofs.buffer.usable.Reads as usable-reads
-use Rattle.parser.proofs.one.one_scalar.Reads as one-scalar-reads
-use Rattle.parser.proofs.one.refused.Reads as refused-reads
-use Rattle.text.proofs.admission.admit_text_and_value.Reads as admit-text-and-value-reads
 
--- src/one.rt:114:5
 clear-requires : tie.Need-clear-requires
 clear-requires c κs = search needs
 
--- src/one.rt:115:11
 admit-text-and-value-requires : tie.Need-admit-text-and-value-requires
 admit-text-and-value-requires c κs = search needs
 
--- src/one.rt:116:31
 enum-told : tie.Need-enum-told
 enum-told c = search needs
 
--- src/one.rt:116:31
 refused-requires : tie.Need-refused-requires
 refused-requires c κs = search needs
 
--- src/one.rt:117:31
 enum-told-2 : tie.Need-enum-told-2
 enum-told-2 c = search needs
 
--- src/one.rt:117:31
 refused-requires-2 : tie.Need-refused-requires-2
 refused-requires-2 c κs = search needs
 
--- src/one.rt:118:31
 enum-known-ascii : tie.Need-enum-known-ascii
 enum-known-ascii c = search needs
 
--- src/one.rt:119:17
 usable-requires : tie.Need-usable-requires
 usable-requires c κs = search needs
 
--- src/one.rt:120:73
 slice-relend-prefix-one-scalar : tie.Need-slice-relend-prefix-one-scalar
 slice-relend-prefix-one-scalar c = search needs
 
--- src/one.rt:120:73
 slice-aggregate-one-scalar : tie.Need-slice-aggregate-one-scalar
 slice-aggregate-one-scalar c = let n = c .before .usable in sym (length-take-le (n .result) (c .before .before .before .before .before .before .before .before .clear .last .0) (let e = n .ensures in omega arith))
 
--- src/one.rt:120:13
 one-scalar-requires : tie.Need-one-scalar-requires
 one-scalar-requires c κs =
     let a = c .before .before .before .before .before .before .before .before .before .before .before .before .before .args in
@@ -68,17 +51,20 @@ one-scalar-requires c κs =
     let l : n .result ≤ length (p .last .0) = omega arith in
     let part : length (take (n .result) (p .last .0)) ≡ n .result = length-take-le (n .result) (p .last .0) l in
     let told = sym (c .before .before .before .before .before .admit-text-and-value .ensures) ∙ c .before .before .before .ascii .given .1 in
-    let ascii = c .before .before .before .ascii .given .0 .0 in
-    (both-text-sound (a .text .now) (a .value .now) ascii told,
-    (both-value-sound (a .text .now) (a .value .now) ascii told,
-    (both-ascii (a .text .now) (a .value .now) ascii told,
-    (zeros-front (n .result) size (p .last .0) (p .ensures) l ∙ ap (λ (m : ℕ). replicate m 0) (sym part), omega arith))))
+    let ascii = c .before .before .before .ascii .given .0 .0 in (
+      both-text-sound (a .text .now) (a .value .now) ascii told,
+      (
+        both-value-sound (a .text .now) (a .value .now) ascii told,
+        (
+          both-ascii (a .text .now) (a .value .now) ascii told,
+          (zeros-front (n .result) size (p .last .0) (p .ensures) l ∙ ap (λ (m : ℕ). replicate m 0) (sym part), omega arith),
+        ),
+      ),
+    )
 
--- src/one.rt:103:1
 same-length : tie.Need-same-length
 same-length c = search needs
 
--- src/one.rt:103:1
 returns : tie.Need-returns
 returns c =
     let a = c .before .before .before .before .before .before .before .before .before .before .before .args in
@@ -86,11 +72,9 @@ returns c =
     let p = c .before .before .before .before .before .before .clear in
     rw (c .refused .ensures) (scalar-too-long (a .text .now) (a .index) (a .column) (a .style) (a .empty) (a .value .now) size _ (sym (c .before .before .before .admit-text-and-value .ensures) ∙ c .before .enum-told .given .1) (p .ensures))
 
--- src/one.rt:103:1
 same-length-2 : tie.Need-same-length-2
 same-length-2 c = search needs
 
--- src/one.rt:103:1
 returns-2 : tie.Need-returns-2
 returns-2 c =
     let a = c .before .before .before .before .before .before .before .before .before .before .before .args in
@@ -98,11 +82,9 @@ returns-2 c =
     let p = c .before .before .before .before .before .before .clear in
     rw (c .refused2 .ensures) (scalar-no-utf8 (a .text .now) (a .index) (a .column) (a .style) (a .empty) (a .value .now) size _ (sym (c .before .before .before .admit-text-and-value .ensures) ∙ c .before .enum-told2 .given .1) (p .ensures))
 
--- src/one.rt:103:1
 same-length-3 : tie.Need-same-length-3
 same-length-3 c = search needs
 
--- src/one.rt:103:1
 returns-3 : tie.Need-returns-3
 returns-3 c =
     let a = c .before .before .before .before .before .before .before .before .before .before .before .before .before .before .before .before .args in

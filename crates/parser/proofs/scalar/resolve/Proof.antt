@@ -1,80 +1,61 @@
+-- `resolve` meets its contract: handle and suffix are parts of the event bytes. Assumes nothing.
 use borrow.Author.Needs.{needs}
-use mathlib.Core.Path.{_≡_, refl, sym, ap, ap₂, _∙_, subst}
+use mathlib.Core.Path.{_≡_}
 use native.Mathlib.Omega.{arith}
-use Rattle.parser.specs.Scalar.{scalarFrom, stepPast, scalarStart, spanLen, listAt, tagInfo, withSpan, resolvedBy, scalarNode}
-use Rattle.event.specs.Meaning.{TextParts}
-use Prim.Native.Nat.{ℕ, zero, suc, _+_, _-_, _*_, _/_, _≤_, _<_, zero-le}
+use Rattle.parser.specs.Scalar.{resolvedBy}
+use Prim.Native.Nat.{_+_, _-_}
 use Rattle.parser.proofs.scalar.resolve.Statement.{statement}
 use Rattle.parser.proofs.scalar.resolve.Tie as tie
-use Rattle.parser.proofs.scalar.resolve.Reads as reads
-use Rattle.parser.proofs.scalar.resolve.Lts as lts
-use Rattle.schema.proofs.tag.resolve_scalar.Reads as resolve-scalar-reads
 
--- src/scalar.rt:100:64
 enum-told : tie.Need-enum-told
 enum-told c = search needs
 
--- src/scalar.rt:100:64
 slice-aggregate-resolve-scalar : tie.Need-slice-aggregate-resolve-scalar
 slice-aggregate-resolve-scalar c = search needs
 
--- src/scalar.rt:100:69
 slice-aggregate-resolve-scalar-2 : tie.Need-slice-aggregate-resolve-scalar-2
 slice-aggregate-resolve-scalar-2 c = search needs
 
--- src/scalar.rt:100:28
 resolve-scalar-requires : tie.Need-resolve-scalar-requires
 resolve-scalar-requires c κs = search needs
 
--- src/scalar.rt:101:28
 enum-known-tag : tie.Need-enum-known-tag
 enum-known-tag c = search needs
 
--- src/scalar.rt:103:30
 add-handle-end : tie.Need-add-handle-end
 add-handle-end c = let t = c .before .before .tag .given in let p = rw (t .1) at (c .before .before .before .before .before .before .pre) in let i = p .0 .inside in search needs
 
--- src/scalar.rt:105:30
 add-suffix-end : tie.Need-add-suffix-end
 add-suffix-end c = let t = c .before .before .before .tag .given in let p = rw (t .1) at (c .before .before .before .before .before .before .before .pre) in let i = p .1 .inside in search needs
 
--- src/scalar.rt:106:48
 sub-resolve-scalar : tie.Need-sub-resolve-scalar
 sub-resolve-scalar c = search needs
 
--- src/scalar.rt:106:48
 part-resolve-scalar-start : tie.Need-part-resolve-scalar-start
 part-resolve-scalar-start c = search needs
 
--- src/scalar.rt:106:48
 part-resolve-scalar-end : tie.Need-part-resolve-scalar-end
 part-resolve-scalar-end c = let t = c .before .before .before .tag .given in let p = rw (t .1) at (c .before .before .before .before .before .before .before .pre) in let i = p .0 .inside in search needs
 
--- src/scalar.rt:106:72
 sub-resolve-scalar-2 : tie.Need-sub-resolve-scalar-2
 sub-resolve-scalar-2 c = search needs
 
--- src/scalar.rt:106:72
 part-resolve-scalar-start-2 : tie.Need-part-resolve-scalar-start-2
 part-resolve-scalar-start-2 c = search needs
 
--- src/scalar.rt:106:72
 part-resolve-scalar-end-2 : tie.Need-part-resolve-scalar-end-2
 part-resolve-scalar-end-2 c = let t = c .before .before .before .before .tag .given in let p = rw (t .1) at (c .before .before .before .before .before .before .before .before .pre) in let i = p .1 .inside in search needs
 
--- src/scalar.rt:106:13
 resolve-scalar-requires-2 : tie.Need-resolve-scalar-requires-2
 resolve-scalar-requires-2 c κs = search needs
 
--- src/scalar.rt:95:1
 returns : tie.Need-returns
 unfolding resolvedBy
 returns c = rw (c .before .before .before .enum-told .given .1) (c .resolve-scalar .ensures)
 
--- src/scalar.rt:95:1
 returns-2 : tie.Need-returns-2
 unfolding resolvedBy
-returns-2 c = 
+returns-2 c =
     let t = c .before .before .before .before .before .before .tag .given in
     let h = t .0 .0 in
     let x = t .0 .1 .0 in

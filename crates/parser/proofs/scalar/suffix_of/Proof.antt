@@ -1,33 +1,25 @@
+-- `suffix_of` meets its contract: a suffix lies within the event bytes, so its numbers fit. Assumes nothing.
 use borrow.Author.Needs.{needs}
-use mathlib.Core.Path.{_≡_, refl, sym, ap, ap₂, _∙_, subst}
+use mathlib.Core.Path.{refl}
 use native.Mathlib.Omega.{arith}
-use Rattle.event.specs.Meaning.{TextParts}
 use Rattle.parser.proofs.scalar.suffix_of.Statement.{statement}
 use Rattle.parser.proofs.scalar.suffix_of.Tie as tie
-use Rattle.parser.proofs.scalar.suffix_of.Reads as reads
-use Rattle.parser.proofs.scalar.suffix_of.Lts as lts
 
--- src/scalar.rt:86:28
 enum-told : tie.Need-enum-told
 enum-told c = search needs
 
--- src/scalar.rt:87:39
 enum-known-tag : tie.Need-enum-known-tag
 enum-known-tag c = search needs
 
--- src/scalar.rt:88:20
 cast-t5 : tie.Need-cast-t5
 cast-t5 c = let t = c .before .before .tag .given in let p = rw (t .1) at (c .before .before .before .before .pre .0) in let i = p .1 .inside in omega (arith, c .before .before .before .before .pre .1)
 
--- src/scalar.rt:89:18
 cast-t6 : tie.Need-cast-t6
 cast-t6 c = let t = c .before .before .before .tag .given in let p = rw (t .1) at (c .before .before .before .before .before .pre .0) in let i = p .1 .inside in omega (arith, c .before .before .before .before .before .pre .1)
 
--- src/scalar.rt:80:1
 returns : tie.Need-returns
 returns c = rw (c .enum-told .given .1) refl
 
--- src/scalar.rt:80:1
 returns-2 : tie.Need-returns-2
 returns-2 c = rw (c .before .before .before .tag .given .1) refl
 

@@ -1,32 +1,24 @@
+-- `walk_scalar` meets its contract: the walk's answer and buffer are those of its list. Assumes nothing.
 use borrow.Author.Needs.{needs}
-use mathlib.Core.Path.{_≡_, refl, sym, ap, ap₂, _∙_, subst}
-use Rattle.parser.specs.Scalar.{scalarFrom, stepPast, scalarStart, spanLen, listAt, tagInfo, withSpan, resolvedBy, scalarNode}
+use mathlib.Core.Path.{sym, _∙_}
+use Rattle.parser.specs.Scalar.{listAt}
 use Rattle.parser.proofs.Pieces.{walks-of}
 use Rattle.parser.proofs.scalar.walk_scalar.Statement.{statement}
 use Rattle.parser.proofs.scalar.walk_scalar.Tie as tie
-use Rattle.parser.proofs.scalar.walk_scalar.Reads as reads
-use Rattle.parser.proofs.scalar.walk_scalar.Lts as lts
-use Rattle.provenance.proofs.scalar.scalar_provenance.Reads as scalar-provenance-reads
-use Rattle.text.proofs.utf8.is_boundary.Reads as is-boundary-reads
 
--- src/scalar.rt:73:8
 is-boundary-requires : tie.Need-is-boundary-requires
 is-boundary-requires c κs = search needs
 
--- src/scalar.rt:74:9
 scalar-provenance-requires : tie.Need-scalar-provenance-requires
 scalar-provenance-requires c κs = search needs
 
--- src/scalar.rt:74:9
 same-length : tie.Need-same-length
 same-length c = search needs
 
--- src/scalar.rt:74:9
 returns : tie.Need-returns
 unfolding listAt
 returns c = rw (sym (c .before .before .before .before .before .is-boundary .ensures) ∙ c .before .before .before .before .if1 .taken) (walks-of _ _ _ _ (c .before .before .scalar-provenance .ensures .0) (c .before .before .scalar-provenance .ensures .1))
 
--- src/scalar.rt:60:1
 returns-2 : tie.Need-returns-2
 unfolding listAt
 returns-2 c = rw (sym (c .before .is-boundary .ensures) ∙ c .if1 .left) (c .before .before .before .before .before .pre .1)

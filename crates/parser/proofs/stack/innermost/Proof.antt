@@ -1,104 +1,78 @@
+-- `innermost` meets its contract: seven reads. Assumes nothing.
 use borrow.Author.Needs.{needs}
-use mathlib.Core.Path.{_≡_, refl, sym, ap, ap₂, _∙_, subst}
+use mathlib.Core.Path.{refl}
 use Rattle.parser.proofs.stack.innermost.Statement.{statement}
 use Rattle.parser.proofs.stack.innermost.Tie as tie
-use Rattle.parser.proofs.stack.innermost.Reads as reads
-use Rattle.parser.proofs.stack.innermost.Lts as lts
-use Rattle.parser.proofs.stack.suffix_at.Reads as suffix-at-reads
 
--- src/stack.rt:75:28
 sub-k : tie.Need-sub-k
 sub-k c = search needs
 
--- src/stack.rt:75:13
 mul-k : tie.Need-mul-k
 mul-k c = search needs
 
--- src/stack.rt:77:18
 mul-t4 : tie.Need-mul-t4
 mul-t4 c = search needs
 
--- src/stack.rt:77:18
 shared-slice-read-t6 : tie.Need-shared-slice-read-t6
 shared-slice-read-t6 c = search needs
 
--- src/stack.rt:78:22
 add-t8 : tie.Need-add-t8
 add-t8 c = search needs
 
--- src/stack.rt:78:16
 mul-t9 : tie.Need-mul-t9
 mul-t9 c = search needs
 
--- src/stack.rt:78:16
 shared-slice-read-t11 : tie.Need-shared-slice-read-t11
 shared-slice-read-t11 c = search needs
 
--- src/stack.rt:79:33
 add-suffix-at : tie.Need-add-suffix-at
 add-suffix-at c = search needs
 
--- src/stack.rt:79:27
 mul-suffix-at : tie.Need-mul-suffix-at
 mul-suffix-at c = search needs
 
--- src/stack.rt:79:27
 shared-slice-read-suffix-at : tie.Need-shared-slice-read-suffix-at
 shared-slice-read-suffix-at c = search needs
 
--- src/stack.rt:79:47
 add-suffix-at-2 : tie.Need-add-suffix-at-2
 add-suffix-at-2 c = search needs
 
--- src/stack.rt:79:41
 mul-suffix-at-2 : tie.Need-mul-suffix-at-2
 mul-suffix-at-2 c = search needs
 
--- src/stack.rt:79:41
 shared-slice-read-suffix-at-2 : tie.Need-shared-slice-read-suffix-at-2
 shared-slice-read-suffix-at-2 c = search needs
 
--- src/stack.rt:79:17
 suffix-at-requires : tie.Need-suffix-at-requires
 suffix-at-requires c κs = search needs
 
--- src/stack.rt:80:25
 add-t21 : tie.Need-add-t21
 add-t21 c = search needs
 
--- src/stack.rt:80:19
 mul-t22 : tie.Need-mul-t22
 mul-t22 c = search needs
 
--- src/stack.rt:80:19
 shared-slice-read-t24 : tie.Need-shared-slice-read-t24
 shared-slice-read-t24 c = search needs
 
--- src/stack.rt:81:22
 add-t25 : tie.Need-add-t25
 add-t25 c = search needs
 
--- src/stack.rt:81:16
 mul-t26 : tie.Need-mul-t26
 mul-t26 c = search needs
 
--- src/stack.rt:81:16
 shared-slice-read-t28 : tie.Need-shared-slice-read-t28
 shared-slice-read-t28 c = search needs
 
--- src/stack.rt:82:23
 add-t29 : tie.Need-add-t29
 add-t29 c = search needs
 
--- src/stack.rt:82:17
 mul-t30 : tie.Need-mul-t30
 mul-t30 c = search needs
 
--- src/stack.rt:82:17
 shared-slice-read-t32 : tie.Need-shared-slice-read-t32
 shared-slice-read-t32 c = search needs
 
--- src/stack.rt:70:1
 returns : tie.Need-returns
 returns c = rw (c .before .before .before .suffix-at .ensures) refl
 

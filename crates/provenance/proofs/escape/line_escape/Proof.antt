@@ -4,7 +4,7 @@ use native.Mathlib.Omega.{arith}
 use Prim.Native.Nat.{ℕ, _+_}
 use Rattle.provenance.specs.declared.escape.Escape.the-variants.{Takes}
 use Rattle.provenance.specs.RunLaws.{run-within}
-use Rattle.provenance.proofs.Takes.{numbers-of}
+use Rattle.provenance.proofs.Steps.{numbers-of}
 use borrow.Author.Needs.{needs}
 use Rattle.provenance.proofs.escape.line_escape.Statement.{statement}
 use Rattle.provenance.proofs.escape.line_escape.Tie as tie

@@ -7,7 +7,7 @@ use borrow.Author.Needs.{needs}
 use borrow.Author.Tests.{lt-ltb, not-true, not-false}
 use Rattle.provenance.specs.Grammar.{isBlock, opensBreak}
 use Rattle.provenance.proofs.Parts.{part-is}
-use Rattle.provenance.proofs.Takes.{opens-told, opens-inside, run-closed, run-opened}
+use Rattle.provenance.proofs.Steps.{opens-told, opens-inside, run-closed, run-opened}
 use Rattle.provenance.proofs.step.break_run.Statement.{statement}
 use Rattle.provenance.proofs.step.break_run.Tie as tie
 

@@ -7,7 +7,7 @@ use borrow.Author.Needs.{needs}
 use Rattle.provenance.specs.Run.{whiteRun, newlinesIn, cut, blankRun}
 use Rattle.provenance.specs.RunLaws.{run-within, last-within}
 use Rattle.provenance.proofs.Parts.{part-is}
-use Rattle.provenance.proofs.Takes.{numbers-of, cut-of, blanks-of, cut-inside, blanks-inside, pair-same, pair-other}
+use Rattle.provenance.proofs.Steps.{numbers-of, cut-of, blanks-of, cut-inside, blanks-inside, pair-same, pair-other}
 use Rattle.provenance.proofs.step.break_step.Statement.{statement}
 use Rattle.provenance.proofs.step.break_step.Tie as tie
 

@@ -1,6 +1,6 @@
 -- `provenance::step::end_step` meets its contract: only newlines may be left. Assumes nothing.
 use mathlib.Core.Path.{sym, _∙_}
-use Rattle.provenance.proofs.Takes.{end-fits, end-not}
+use Rattle.provenance.proofs.Steps.{end-fits, end-not}
 use borrow.Author.Needs.{needs}
 use Rattle.provenance.proofs.step.end_step.Statement.{statement}
 use Rattle.provenance.proofs.step.end_step.Tie as tie

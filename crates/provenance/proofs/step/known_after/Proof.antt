@@ -1,6 +1,6 @@
 -- `provenance::step::known_after` meets its contract: it asks as the definition does. Assumes nothing.
 use borrow.Author.Tests.{lt-ltb, le-ltb, eq-eqb, ne-eqb}
-use Rattle.provenance.specs.Grammar.{knownAfter}
+use Rattle.provenance.specs.Looked.{knownAfter}
 use borrow.Author.Needs.{needs}
 use Rattle.provenance.proofs.step.known_after.Statement.{statement}
 use Rattle.provenance.proofs.step.known_after.Tie as tie

@@ -1,7 +1,7 @@
 -- `provenance::step::opens_break` meets its contract: first the value's byte, then the source's. Assumes nothing.
 use mathlib.Core.Path.{sym, _∙_}
 use borrow.Author.Tests.{not-true, not-false}
-use Rattle.provenance.proofs.Takes.{opens-not, opens-wide, opens-newline, opens-return}
+use Rattle.provenance.proofs.Steps.{opens-not, opens-wide, opens-newline, opens-return}
 use borrow.Author.Needs.{needs}
 use Rattle.provenance.proofs.step.opens_break.Statement.{statement}
 use Rattle.provenance.proofs.step.opens_break.Tie as tie

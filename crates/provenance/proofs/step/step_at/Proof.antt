@@ -8,7 +8,7 @@ use Rattle.provenance.specs.Run.{whiteRun}
 use Rattle.provenance.specs.Grammar.{isBlock, rulesOf, breakPair}
 use Rattle.provenance.proofs.Parts.{part-is}
 use Rattle.provenance.specs.EscapeLaws.{escape-nowhere}
-use Rattle.provenance.proofs.Takes.{found, found-inside, step-break, step-escape, step-end, step-equal, step-nothing}
+use Rattle.provenance.proofs.Steps.{found, found-inside, step-break, step-escape, step-end, step-equal, step-nothing}
 use borrow.Author.Needs.{needs}
 use Rattle.provenance.proofs.step.step_at.Statement.{statement}
 use Rattle.provenance.proofs.step.step_at.Tie as tie

@@ -13,7 +13,7 @@ use Rattle.provenance.specs.Grammar.{isBlock, rulesOf, stepAt}
 use Rattle.provenance.specs.Writing.{writtenLen}
 use Rattle.provenance.specs.EscapeLaws.{style-fair}
 use Rattle.provenance.specs.StepLaws.{Fair, grammar-fair}
-use Rattle.provenance.proofs.Takes.{Clear, tells, run-small, clear-after, clear-on}
+use Rattle.provenance.proofs.Steps.{Clear, tells, run-small, clear-after, clear-on}
 use Rattle.provenance.proofs.Turn.{Going, begins, on-verbatim, on-replacement, within-of}
 use Rattle.provenance.proofs.Walks.{ends-stuck, ends-listed, ends-full}
 use Rattle.provenance.proofs.walk.walk_scalar_provenance.Statement.{statement}

@@ -15,7 +15,8 @@ use Rattle.provenance.specs.declared.escape.Escape.the-variants.{Takes, 
 use Rattle.provenance.specs.declared.step.Step.{Step}
 use Rattle.provenance.specs.declared.step.Step.the-variants.{Verbatim, Replacement, NoStep}
 use Rattle.provenance.specs.Run.{pick, newline, carriageReturn, whiteRun, newlinesIn, throughLast, cut, blankRun, onlyNewlines, noRun, runOf, cutLen}
-use Rattle.provenance.specs.Grammar.{Rules, orElse, sameBytes, breakPair, startsBreak, isBreakByte, opensBreak, breakStep, asStep, escapeStep, equalStep, endStep, step, breakRun, Tells, knownAfter}
+use Rattle.provenance.specs.Grammar.{Rules, orElse, sameBytes, breakPair, startsBreak, isBreakByte, opensBreak, breakStep, asStep, escapeStep, equalStep, endStep, step}
+use Rattle.provenance.specs.Looked.{breakRun, Tells, knownAfter}
 use Rattle.provenance.specs.Tests.{clash, by-test, by-answer, by-order, byte-past, and-no}
 use Rattle.provenance.specs.RunLaws.{run-within, cut-within, cut-numbers, cut-is, blanks-within, blanks-are, front-of, clear-inside}
 use Rattle.provenance.specs.StepLaws.{same-refl, same-true}
