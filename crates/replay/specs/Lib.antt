@@ -3,3 +3,5 @@
 pub mod Case
 -- a case that was read
 pub mod Stream
+-- the count of verdicts
+pub mod Tally

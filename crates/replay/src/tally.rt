@@ -1,4 +1,6 @@
 // The outcome of a replay, counted and printed.
+ghost use mathlib.Core.Path.{_≡_};
+ghost use Rattle.replay.specs.Tally.{oneMore, countedOf, closedOf};
 use libc::STDOUT_FILENO;
 
 // What one case came to.
@@ -33,7 +35,9 @@ pub const START: Tally = Tally {
 };
 
 // A count stays at its largest value, which no run reaches.
-fn more(n: u64) -> u64 {
+fn more(n: u64) -> u64
+    ensures { λ r. ⌜ r ≡ oneMore n ⌝ }
+{
     if n < u64::MAX {
         return n + 1;
     }
@@ -41,29 +45,57 @@ fn more(n: u64) -> u64 {
 }
 
 // One more case.
-pub fn counted(mut t: Tally, v: Verdict) -> Tally {
+pub fn counted(t: Tally, v: Verdict) -> Tally
+    ensures { λ r. ⌜ r ≡ countedOf t v ⌝ }
+{
     match v {
-        Verdict::Same => {
-            t.same = more(t.same);
-        }
-        Verdict::Panicked => {
-            t.panicked = more(t.panicked);
-        }
-        Verdict::TooLarge => {
-            t.passed = more(t.passed);
-        }
-        Verdict::Different => {
-            t.different = more(t.different);
-        }
+        Verdict::Same => Tally {
+            same: more(t.same),
+            panicked: t.panicked,
+            different: t.different,
+            passed: t.passed,
+            going: t.going,
+            broken: t.broken,
+        },
+        Verdict::Panicked => Tally {
+            same: t.same,
+            panicked: more(t.panicked),
+            different: t.different,
+            passed: t.passed,
+            going: t.going,
+            broken: t.broken,
+        },
+        Verdict::TooLarge => Tally {
+            same: t.same,
+            panicked: t.panicked,
+            different: t.different,
+            passed: more(t.passed),
+            going: t.going,
+            broken: t.broken,
+        },
+        Verdict::Different => Tally {
+            same: t.same,
+            panicked: t.panicked,
+            different: more(t.different),
+            passed: t.passed,
+            going: t.going,
+            broken: t.broken,
+        },
     }
-    t
 }
 
 // No more cases.
-pub fn closed(mut t: Tally, broken: bool) -> Tally {
-    t.going = false;
-    t.broken = broken;
-    t
+pub fn closed(t: Tally, broken: bool) -> Tally
+    ensures { λ r. ⌜ r ≡ closedOf t broken ⌝ }
+{
+    Tally {
+        same: t.same,
+        panicked: t.panicked,
+        different: t.different,
+        passed: t.passed,
+        going: false,
+        broken,
+    }
 }
 
 fn line(n: u64, what: &[u8]) {
