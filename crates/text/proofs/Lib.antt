@@ -9,3 +9,5 @@ pub mod Ascii
 pub mod Search
 -- the answer on a text and a value
 pub mod Admit
+-- a cursor that is lent, and a contract of three facts
+pub mod Lent

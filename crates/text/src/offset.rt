@@ -71,7 +71,7 @@ fn backward(text: &[u8], cursor: Cursor, target: usize) -> Cursor
 
 // The cursor at the character index `target`, or at the text's end where that comes first, from wherever it stood. It moves by one
 // character a step, in either direction; an ASCII text needs no step.
-pub fn byte_offset_of_char(text: &[u8], ascii: bool, cursor: Cursor, target: usize) -> Cursor
+fn moved_to(text: &[u8], ascii: bool, cursor: Cursor, target: usize) -> Cursor
     requires { ⌜ Utf8 (now text) ⌝ }
     requires { ⌜ ascii ≡ isAscii (now text) ⌝ }
     requires { ⌜ Stands (now text) (cursor .chars) (cursor .offset) ⌝ }
@@ -93,4 +93,30 @@ pub fn byte_offset_of_char(text: &[u8], ascii: bool, cursor: Cursor, target: usi
         return forward(text, cursor, target);
     }
     backward(text, cursor, target)
+}
+
+// Moves the cursor that is lent to the character index `target`, or to the text's end where that comes first, and gives the byte
+// offset there. (01: Forms that stand in the way, the cursor.)
+fn move_cursor(cursor: &mut Cursor, text: &[u8], ascii: bool, target: usize) -> usize
+    requires { ⌜ Utf8 (now text) ⌝ }
+    requires { ⌜ ascii ≡ isAscii (now text) ⌝ }
+    requires { ⌜ Stands (now text) (now cursor .chars) (now cursor .offset) ⌝ }
+    ensures { λ r. ⌜ (now (cursor .exit) ≡ cursorAt (now (text .entry)) target)
+        × (r ≡ cursorAt (now (text .entry)) target .offset) ⌝ }
+{
+    *cursor = moved_to(text, ascii, *cursor, target);
+    cursor.offset
+}
+
+// The cursor at the character index `target`, or at the text's end where that comes first, from wherever it stood: it is lent to
+// `move_cursor` and handed back. A caller has no reference to a struct, so its proof needs no walk.
+pub fn byte_offset_of_char(text: &[u8], ascii: bool, cursor: Cursor, target: usize) -> Cursor
+    requires { ⌜ Utf8 (now text) ⌝ }
+    requires { ⌜ ascii ≡ isAscii (now text) ⌝ }
+    requires { ⌜ Stands (now text) (cursor .chars) (cursor .offset) ⌝ }
+    ensures { λ r. ⌜ r ≡ cursorAt (now (text .entry)) target ⌝ }
+{
+    let mut lent = cursor;
+    move_cursor(&mut lent, text, ascii, target);
+    lent
 }
