@@ -11,13 +11,13 @@ use Rattle.text.specs.OffsetLaws.{stands-start}
 use Rattle.event.specs.Number.{Bytes}
 use Rattle.event.specs.Encode.{YamlEvent, sequenceStart, sequenceEnd, mappingStart, mappingEnd, scalar, alias, Sound}
 use Rattle.event.specs.EncodeLaws.{body-length, rest-length}
-use Rattle.event.specs.Meaning.{Within, Answers, placed}
+use Rattle.event.specs.Meaning.{Answers, placed}
 use Rattle.event.specs.Read.{readEvent}
 use Rattle.event.specs.ReadLaws.{malformed-or-answers, answer-within}
 use Rattle.event.specs.declared.read.Event.{Event}
-use Rattle.event.specs.declared.read.Event.the-variants.{SequenceStart, SequenceEnd, MappingStart, MappingEnd, Scalar, Alias, Malformed}
+use Rattle.event.specs.declared.read.Event.the-variants.{Malformed}
 use Rattle.parser.specs.Machine.{State, empty, Next, go, stop, refused, step, nextPlace, ending, run, runAll}
-use Rattle.parser.specs.RunLaws.{run-ended, run-on, run-stopped}
+use Rattle.parser.specs.RunLaws.{run-ended, run-on, run-stopped, onward, stop-not-go}
 use Rattle.parser.specs.Held.{ValueShort, Read, Held, Ready, Moved, Follows, Filled}
 use Rattle.parser.specs.declared.answer.Answer.the-variants.{Built, Refused}
 use Rattle.parser.specs.declared.answer.Move.{Move}
@@ -51,15 +51,6 @@ value-short s b i = by (malformed-or-answers s b i)
 
 pub read-of : (s : List ℕ) → Bytes s → length s ≤ 4194304 → (i : ℕ) (e : Event) → e ≡ readEvent s i → Read s e
 read-of s b h i e is = rw is (record { place = i; within = answer-within s i b; value-short = value-short s b i; short = h })
-
-onward : (s : List ℕ) (i : ℕ) (e : Event) → Within s i e → (e ≡ Malformed → ⊥) → (i < nextPlace e) × (nextPlace e ≤ length s)
-onward s i (SequenceStart m t n) w x = (w .0 .onward, w .0 .inside)
-onward s i (SequenceEnd m n) w x = (w .onward, w .inside)
-onward s i (MappingStart m t n) w x = (w .0 .onward, w .0 .inside)
-onward s i (MappingEnd m n) w x = (w .onward, w .inside)
-onward s i (Scalar m c y f t v n) w x = (w .passed .onward, w .passed .inside)
-onward s i (Alias m n) w x = (w .onward, w .inside)
-onward s i Malformed w x = absurd (x refl)
 
 -- ---- the head
 
@@ -108,9 +99,6 @@ moved-go text size pieceSize k (stop n) d s b p h = absurd h
 moved-stop : (text : List ℕ) (size pieceSize k : ℕ) (n : Next) (m : ℕ) (s b p : List ℕ) → Moved text size pieceSize k n (Stop m) s b p → n ≡ stop m
 moved-stop text size pieceSize k (go st) m s b p h = absurd h
 moved-stop text size pieceSize k (stop n) m s b p h = ap stop h
-
-stop-not-go : (n : ℕ) (st : State) → stop n ≡ go st → ⊥
-stop-not-go n st e = let z : _≡_ {A = ℕ} 0 1 = cc in omega arith
 
 module _ (text events : List ℕ) (size pieceSize : ℕ) (s b p : List ℕ) (c : Counts) (i k : ℕ) (h : Head text events size pieceSize s b p c i k) where
   pub ready : length events ≤ 4194304 → i < length events → Ready text c s b p

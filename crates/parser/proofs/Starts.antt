@@ -24,7 +24,7 @@ use Rattle.event.specs.declared.tag.YamlTag.{YamlTag}
 use Rattle.event.specs.declared.tag.YamlTag.the-variants.{Absent, Present}
 use Rattle.schema.specs.declared.plain.Resolved.{Resolved}
 use Rattle.parser.specs.Collection.{collectionStart, collectionEnd, collectionOver, collectionNode}
-use Rattle.parser.specs.Held.{Placed}
+use Rattle.parser.specs.Held.{TagFits, Placed}
 use Rattle.parser.specs.declared.record.Node.{Node}
 use Rattle.parser.specs.declared.record.TagInfo.{TagInfo}
 use Rattle.parser.specs.declared.stack.Open.{Open}
@@ -122,9 +122,13 @@ scalar-spans text x t r = record { from = refl; to = refl }
 
 -- ---- a suffix within the event bytes
 
-pub suffix-placed : (events : List ℕ) (t : YamlTag) → TextParts events t → length events ≤ 4194304 → Placed (suffixOf t)
-suffix-placed events Absent p h = tt
-suffix-placed events (Present a x) p h = let i = p .1 .inside in omega arith
+pub tag-fits : (events : List ℕ) (t : YamlTag) → TextParts events t → length events ≤ 4194304 → TagFits t
+tag-fits events Absent p h = tt
+tag-fits events (Present a x) p h = let i = p .1 .inside in (omega arith, omega arith)
+
+pub suffix-placed : (t : YamlTag) → TagFits t → Placed (suffixOf t)
+suffix-placed Absent p = tt
+suffix-placed (Present a x) p = p .0
 
 -- a part, as a range of the event bytes
 pub range-is : (events : List ℕ) (v : Part) → take (v .at + v .len - v .at) (drop (v .at) events) ≡ partOf events v

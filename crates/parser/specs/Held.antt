@@ -14,6 +14,7 @@ use Rattle.event.specs.Read.{eventsLimit}
 use Rattle.event.specs.Meaning.{TextPart, TextParts, Within}
 use Rattle.event.specs.declared.string.Part.{Part}
 use Rattle.event.specs.declared.tag.YamlTag.{YamlTag}
+use Rattle.event.specs.declared.tag.YamlTag.the-variants as tag
 use Rattle.event.specs.declared.read.Event.{Event}
 use Rattle.event.specs.declared.read.Event.the-variants.{SequenceStart, SequenceEnd, MappingStart, MappingEnd, Scalar, Alias, Malformed}
 use Rattle.parser.specs.Pick.{pick}
@@ -82,6 +83,12 @@ abbrev pub Below : List Open → ℕ → Type 0
 Below [] n = Unit {0}
 Below (o ∷ os) n = (o .before + o .children ≤ n) × Below os n
 
+-- so no count of children is at its largest
+pub record Countable (d : ℕ) (s : List ℕ) : Type 0 where
+  pub nodes : ℕ
+  pub below : Below (openOf d s) nodes
+  pub few : nodes < eventsLimit
+
 -- every start, and every first child's, is a boundary of the text
 abbrev pub OnBoundaries : List ℕ → List Open → Type 0
 OnBoundaries text [] = Unit {0}
@@ -127,6 +134,11 @@ pub record Read (events : List ℕ) (e : Event) : Type 0 where
   pub within : Within events place e
   pub value-short : ValueShort e
   pub short : length events ≤ eventsLimit
+
+-- the numbers of its suffix fit a record, and none is the number that says there is none
+abbrev pub TagFits : YamlTag → Type 0
+TagFits tag.Absent = Unit {0}
+TagFits (tag.Present h x) = (x .at < absent) × (x .len < absent)
 
 -- what that says of a tag, and of a value
 pub record ReadTag (events : List ℕ) (t : YamlTag) : Type 0 where

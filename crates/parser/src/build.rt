@@ -13,6 +13,7 @@ use crate::answer::root_done;
 use crate::buffer::clear;
 use crate::buffer::usable;
 use crate::on_event::on_event;
+use crate::stack::STACK_SIZE;
 use event::read::EVENTS_LIMIT;
 use event::read::Event;
 use event::read::read_event;
@@ -58,7 +59,7 @@ fn fill(text: &[u8], ascii: bool, events: &[u8], records: &mut [u32], pieces: &m
     requires { ⌜ (now records ≡ replicate (length (now records)) 0) × (now pieces ≡ replicate (length (now pieces)) 0) × (length (now pieces) ≤ 17179869176) ⌝ }
     ensures { λ r. ⌜ Filled (length (now (records .entry))) (length (now (pieces .entry))) (runAll (now (text .entry)) (now (events .entry)) (recordRoom (length (now (records .entry)))) (length (now (pieces .entry)) / pieceWidth)) r (now (records .exit)) (now (pieces .exit)) ⌝ }
 {
-    let mut stack = [0u32; 448];
+    let mut stack = [0u32; STACK_SIZE];
     let mut c = Counts {
         nodes: 0,
         depth: 0,

@@ -4,7 +4,7 @@ ghost use lib.ListN.{length};
 ghost use Rattle.text.specs.Boundary.{Boundary};
 ghost use Rattle.parser.specs.Scalar.{listAt};
 ghost use Rattle.parser.specs.Machine.{started, closed, aliased, keeping, scalared, step};
-ghost use Rattle.parser.specs.Held.{Given, Read, ReadTag, ReadValue, Ready, ReadyBut, Pushable, Completes, Follows, FollowsBut};
+ghost use Rattle.parser.specs.Held.{Given, Read, ReadTag, ReadValue, TagFits, Ready, ReadyBut, Pushable, Completes, Follows, FollowsBut};
 use crate::answer::Counts;
 use crate::answer::Move;
 use crate::answer::root_done;
@@ -37,6 +37,9 @@ use provenance::walk::Walked;
 use schema::record::Payload;
 use text::offset::byte_offset_of_char;
 
+// How many numbers a piece has.
+const PIECE_WIDTH: usize = 4;
+
 // The node `x` is complete: its record is written, and the innermost open collection has a child more.
 fn push_complete(stack: &mut [u32], records: &mut [u32], c: Counts, x: Node) -> Counts
     requires { ⌜ Pushable c (now stack) (now records) ⌝ }
@@ -46,7 +49,7 @@ fn push_complete(stack: &mut [u32], records: &mut [u32], c: Counts, x: Node) -> 
     let depth = c.depth;
     let cursor = c.cursor;
     put_record(records, nodes, x);
-    add_child(stack, depth, x.extent.start, nodes);
+    add_child(stack, depth, x.extent.start);
     Counts {
         nodes: nodes + 1,
         depth,
@@ -59,7 +62,6 @@ fn push_complete(stack: &mut [u32], records: &mut [u32], c: Counts, x: Node) -> 
 fn on_start(
     text: &[u8],
     ascii: bool,
-    events: &[u8],
     stack: &mut [u32],
     records: &mut [u32],
     c: Counts,
@@ -69,7 +71,7 @@ fn on_start(
 ) -> Move
     requires { ⌜ Given (now text) ascii ⌝ }
     requires { ⌜ ReadyBut (now text) c (now stack) (now records) ⌝ }
-    requires { ⌜ ReadTag (now events) tag ⌝ }
+    requires { ⌜ TagFits tag ⌝ }
     ensures { λ r. ⌜ FollowsBut (now (text .entry)) c (now (stack .entry)) (now (records .entry)) (λ room st. started (now (text .entry)) mapping index tag st) r (now (stack .exit)) (now (records .exit)) ⌝ }
 {
     if root_done(c) {
@@ -87,7 +89,7 @@ fn on_start(
         Open {
             mapping,
             start: cursor.offset as u32,
-            suffix: suffix_of(events, tag),
+            suffix: suffix_of(tag),
             children: 0,
             first: 0,
             before: nodes as u32,
@@ -206,7 +208,7 @@ fn keep_scalar(
     let cursor = c.cursor;
     let start = x.extent.start as usize;
     let len = x.extent.end as usize - start;
-    let free = 4 * used;
+    let free = PIECE_WIDTH * used;
     match walk_scalar(text, start, len, value, style, column, &mut pieces[free..]) {
         Walked::NoRoom => Move::Stop(8),
         Walked::NoList => Move::Go(push_complete(stack, records, c, x)),
@@ -257,7 +259,7 @@ fn on_scalar(
     let end = at + value.len;
     let awaited = expecting_value(stack, depth);
     let start = scalar_start(text, cursor.offset, &events[at..end], style, awaited);
-    let info = tag_info(text, start, suffix_of(events, tag));
+    let info = tag_info(text, start, suffix_of(tag));
     let resolved = resolve(events, &events[at..end], style, tag);
     let x = scalar_node(
         text,
@@ -310,7 +312,7 @@ pub fn on_event(
             index,
             tag,
             next: _,
-        } => { on_start(text, ascii, events, stack, records, c, false, index, tag) }
+        } => { on_start(text, ascii, stack, records, c, false, index, tag) }
         Event::SequenceEnd { index, next: _ } => on_end(
             text,
             ascii,
@@ -324,7 +326,7 @@ pub fn on_event(
             index,
             tag,
             next: _,
-        } => { on_start(text, ascii, events, stack, records, c, true, index, tag) }
+        } => { on_start(text, ascii, stack, records, c, true, index, tag) }
         Event::MappingEnd { index, next: _ } => on_end(text, ascii, stack, records, c, true, index),
         Event::Scalar {
             index,

@@ -6,7 +6,7 @@ ghost use Rattle.text.specs.Utf8.{Utf8};
 ghost use Rattle.text.specs.AdmissionLaws.{Sound};
 ghost use Rattle.event.specs.Meaning.{TextParts};
 ghost use Rattle.parser.specs.Scalar.{scalarFrom, scalarStart, spanLen, listAt, suffixOf, resolvedBy, scalarNode};
-ghost use Rattle.parser.specs.Held.{Walks};
+ghost use Rattle.parser.specs.Held.{TagFits, Walks};
 use crate::collection::step_past;
 use crate::record::Extent;
 use crate::record::NO_LIST;
@@ -81,9 +81,8 @@ pub fn walk_scalar(
 }
 
 // The suffix of a tag, as a record has it.
-pub fn suffix_of(events: &[u8], tag: YamlTag) -> Suffix
-    requires { ⌜ TextParts (now events) tag ⌝ }
-    requires { ⌜ length (now events) ≤ 4194304 ⌝ }
+pub fn suffix_of(tag: YamlTag) -> Suffix
+    requires { ⌜ TagFits tag ⌝ }
     ensures { λ r. ⌜ r ≡ suffixOf tag ⌝ }
 {
     match tag {

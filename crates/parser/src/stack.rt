@@ -6,7 +6,7 @@ ghost use lib.ListN.{length};
 ghost use lib.Seq.{sets};
 ghost use Rattle.parser.specs.Pick.{pick};
 ghost use Rattle.parser.specs.Collection.{withChild, awaitsValue};
-ghost use Rattle.parser.specs.Held.{suffixAt, suffixPlace, suffixLen, frame, frameNumbers, openOf, Below};
+ghost use Rattle.parser.specs.Held.{suffixAt, suffixPlace, suffixLen, frame, frameNumbers, openOf, Countable};
 use crate::buffer::put;
 use crate::record::ABSENT;
 
@@ -129,10 +129,9 @@ fn first_child(children: u32, first: u32, start: u32) -> u32
 }
 
 // The innermost of `depth` open collections, if there is one, has a child more, which starts at `start`.
-pub fn add_child(stack: &mut [u32], depth: usize, start: u32, nodes: usize)
+pub fn add_child(stack: &mut [u32], depth: usize, start: u32)
     requires { ⌜ 7 * depth ≤ length (now stack) ⌝ }
-    requires { ⌜ Below (openOf depth (now stack)) nodes ⌝ }
-    requires { ⌜ nodes < 4194304 ⌝ }
+    requires { ⌜ Countable depth (now stack) ⌝ }
     ensures { λ _. ⌜ openOf depth (now (stack .exit)) ≡ withChild start (openOf depth (now (stack .entry))) ⌝ }
 {
     if depth == 0 {

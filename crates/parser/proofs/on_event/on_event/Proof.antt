@@ -1,6 +1,7 @@
 -- `on_event` meets its contract, by the event's case. Assumes nothing.
 use borrow.Author.Needs.{needs}
 use mathlib.Core.Path.{refl}
+use Rattle.parser.proofs.Starts.{tag-fits}
 use Rattle.parser.proofs.on_event.on_event.Statement.{statement}
 use Rattle.parser.proofs.on_event.on_event.Tie as tie
 
@@ -12,7 +13,7 @@ on-start-requires c κs =
     let given = c .before .before .before .before .before .before .before .before .before .before in
     let read = given .pre .1 .1 in
     let w = rw (c .before .before .before .e .given .1) at (read .within) in
-    (given .pre .0, ((given .args .pieces .now, given .pre .1 .0), record { parts = w .1; short = read .short }))
+    (given .pre .0, ((given .args .pieces .now, given .pre .1 .0), tag-fits (given .args .events .now) (c .before .before .before .e .given .0 .1 .0) (w .1) (read .short)))
 
 enum-known-e-2 : tie.Need-enum-known-e-2
 enum-known-e-2 c = search needs
@@ -28,7 +29,7 @@ on-start-requires-2 c κs =
     let given = c .before .before .before .before .before .before .before .before .before .before in
     let read = given .pre .1 .1 in
     let w = rw (c .before .before .before .e3 .given .1) at (read .within) in
-    (given .pre .0, ((given .args .pieces .now, given .pre .1 .0), record { parts = w .1; short = read .short }))
+    (given .pre .0, ((given .args .pieces .now, given .pre .1 .0), tag-fits (given .args .events .now) (c .before .before .before .e3 .given .0 .1 .0) (w .1) (read .short)))
 
 enum-known-e-4 : tie.Need-enum-known-e-4
 enum-known-e-4 c = search needs

@@ -5,7 +5,7 @@ use mathlib.Core.Path.{_≡_, refl, sym, ap, _∙_}
 use Prim.Native.Nat.{_+_, _-_, _/_, _≤_, _<_}
 use native.Mathlib.Omega.{arith}
 use Rattle.parser.proofs.Turns.{after-root, before-root, no-room, in-room, moved-cursor, scalar-kept}
-use Rattle.parser.proofs.Starts.{cursor-offset, offset-start, scalar-spans, range-is, part-few, span-within}
+use Rattle.parser.proofs.Starts.{tag-fits, cursor-offset, offset-start, scalar-spans, range-is, part-few, span-within}
 use Rattle.text.specs.OffsetLaws.{offset-within, offset-boundary}
 use Rattle.parser.specs.Machine.{scalared}
 use Rattle.parser.specs.Scalar.{scalarFrom, spanLen, suffixOf, tagInfo, scalarNode}
@@ -61,7 +61,7 @@ scalar-start-requires c κs =
     rw e (offset-within u (a .index))
 
 suffix-of-requires : tie.Need-suffix-of-requires
-suffix-of-requires c κs = search needs
+suffix-of-requires c κs = let given = c .before .before .before .before .before .before .before .before .before .before .before .before .before .before in let tag = given .pre .1 .1 .0 in tag-fits (given .args .events .now) (given .args .tag) (tag .parts) (tag .short)
 
 tag-info-requires : tie.Need-tag-info-requires
 tag-info-requires c κs =

@@ -16,23 +16,19 @@ root-done-requires c κs = search needs
 returns : tie.Need-returns
 unfolding started
 returns c = λ p size piece-size st h.
-    let given = c .before .before .before .before .before .before in
-    let a = given .args in
     rw (after-root _ _ _ _ _ _ _ _ h _ (sym (c .before .root-done .ensures) ∙ c .if1 .taken)) refl
 
 returns-2 : tie.Need-returns-2
 unfolding started
 returns-2 c = λ p size piece-size st h.
-    let given = c .before .before .before .before .before .before .before in
-    let a = given .args in
     rw (before-root _ _ _ _ _ _ _ _ h _ (sym (c .before .before .root-done .ensures) ∙ c .before .if1 .left), too-deep _ _ _ _ _ _ _ _ h _ (c .if2 .taken)) refl
 
 byte-offset-of-char-requires : tie.Need-byte-offset-of-char-requires
 byte-offset-of-char-requires c κs = search needs
 
-cast-t19 : tie.Need-cast-t19
-cast-t19 c =
-    let given = c .before .before .before .before .before .before .before .before .before .before in
+cast-t18 : tie.Need-cast-t18
+cast-t18 c =
+    let given = c .before .before .before .before .before .before .before .before .before in
     let a = given .args in
     let e = cursor-offset (a .text .now) (a .index) (c .before .before .byte-offset-of-char .result) (c .before .before .byte-offset-of-char .ensures) in
     let w = offset-within (given .pre .0 .sound .utf8) (a .index) in
@@ -41,27 +37,26 @@ cast-t19 c =
 suffix-of-requires : tie.Need-suffix-of-requires
 suffix-of-requires c κs = search needs
 
-cast-t21 : tie.Need-cast-t21
-cast-t21 c = search needs
+cast-t20 : tie.Need-cast-t20
+cast-t20 c = search needs
 
 push-open-requires : tie.Need-push-open-requires
 push-open-requires c κs = search needs
 
-add-t15 : tie.Need-add-t15
-add-t15 c = search needs
+add-t14 : tie.Need-add-t14
+add-t14 c = search needs
 
 same-length : tie.Need-same-length
 same-length c = search needs
 
 returns-3 : tie.Need-returns-3
 returns-3 c = λ p size piece-size st h.
-    let given = c .before .before .before .before .before .before .before .before .before .before .before .before .before .before in
+    let given = c .before .before .before .before .before .before .before .before .before .before .before .before .before in
     let a = given .args in
     let cur = c .before .before .before .before .before .before .byte-offset-of-char in
     let e = cursor-offset (a .text .now) (a .index) (cur .result) (cur .ensures) in
-    let tag = given .pre .1 .1 in
     rw (c .before .before .push-open .ensures, c .before .before .before .suffix-of .ensures)
-    (opened _ _ _ _ _ _ _ _ h (a .mapping) (a .index) (a .tag) (cur .result) (given .pre .0 .sound .utf8) (cur .ensures) e (suffix-placed (a .events .now) (a .tag) (tag .parts) (tag .short)) (sym (c .before .before .before .before .before .before .before .before .before .root-done .ensures) ∙ c .before .before .before .before .before .before .before .before .if1 .left) (c .before .before .before .before .before .before .before .if2 .left))
+    (opened _ _ _ _ _ _ _ _ h (a .mapping) (a .index) (a .tag) (cur .result) (given .pre .0 .sound .utf8) (cur .ensures) e (suffix-placed (a .tag) (given .pre .1 .1)) (sym (c .before .before .before .before .before .before .before .before .before .root-done .ensures) ∙ c .before .before .before .before .before .before .before .before .if1 .left) (c .before .before .before .before .before .before .before .if2 .left))
 
 pub on-start-spec : {M : Type 1} → statement M
 on-start-spec =
@@ -71,10 +66,10 @@ on-start-spec =
     returns
     returns-2
     byte-offset-of-char-requires
-    cast-t19
+    cast-t18
     suffix-of-requires
-    cast-t21
+    cast-t20
     push-open-requires
-    add-t15
+    add-t14
     same-length
     returns-3)

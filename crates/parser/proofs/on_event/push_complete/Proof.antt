@@ -1,6 +1,7 @@
 -- `push_complete` meets its contract: the record is the next one in the buffer, and the innermost frame has a child more. Assumes nothing.
 use borrow.Author.Needs.{needs}
 use Prim.Native.Nat.{_-_, _/_, _<_}
+use native.Mathlib.Omega.{arith}
 use Rattle.parser.proofs.Turns.{pushed}
 use Rattle.parser.proofs.on_event.push_complete.Statement.{statement}
 use Rattle.parser.proofs.on_event.push_complete.Tie as tie
@@ -9,7 +10,9 @@ put-record-requires : tie.Need-put-record-requires
 put-record-requires c κs = search needs
 
 add-child-requires : tie.Need-add-child-requires
-add-child-requires c κs = search needs
+add-child-requires c κs =
+    let given = c .before .before .before .before .before .before .before .before in
+    (let long = given .pre .stack-size in let deep = given .pre .deep in omega arith, record { nodes = given .args .c .nodes; below = given .pre .below; few = given .pre .few })
 
 add-t13 : tie.Need-add-t13
 add-t13 c = search needs

@@ -1,4 +1,4 @@
--- `suffix_of` meets its contract: a suffix lies within the event bytes, so its numbers fit. Assumes nothing.
+-- `suffix_of` meets its contract: its numbers fit a record. Assumes nothing.
 use borrow.Author.Needs.{needs}
 use mathlib.Core.Path.{refl}
 use native.Mathlib.Omega.{arith}
@@ -11,11 +11,11 @@ enum-told c = search needs
 enum-known-tag : tie.Need-enum-known-tag
 enum-known-tag c = search needs
 
-cast-t5 : tie.Need-cast-t5
-cast-t5 c = let t = c .before .before .tag .given in let p = rw (t .1) at (c .before .before .before .before .pre .0) in let i = p .1 .inside in omega (arith, c .before .before .before .before .pre .1)
+cast-t4 : tie.Need-cast-t4
+cast-t4 c = let t = c .before .before .tag .given in let p = rw (t .1) at (c .before .before .before .before .pre) in omega (arith, p .0)
 
-cast-t6 : tie.Need-cast-t6
-cast-t6 c = let t = c .before .before .before .tag .given in let p = rw (t .1) at (c .before .before .before .before .before .pre .0) in let i = p .1 .inside in omega (arith, c .before .before .before .before .before .pre .1)
+cast-t5 : tie.Need-cast-t5
+cast-t5 c = let t = c .before .before .before .tag .given in let p = rw (t .1) at (c .before .before .before .before .before .pre) in omega (arith, p .1)
 
 returns : tie.Need-returns
 returns c = rw (c .enum-told .given .1) refl
@@ -24,4 +24,4 @@ returns-2 : tie.Need-returns-2
 returns-2 c = rw (c .before .before .before .tag .given .1) refl
 
 pub suffix-of-spec : {M : Type 1} → statement M
-suffix-of-spec = tie.close (tie.spec enum-told enum-known-tag cast-t5 cast-t6 returns returns-2)
+suffix-of-spec = tie.close (tie.spec enum-told enum-known-tag cast-t4 cast-t5 returns returns-2)

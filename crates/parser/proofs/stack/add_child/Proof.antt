@@ -52,7 +52,7 @@ add-stack-2 : tie.Need-add-stack-2
 add-stack-2 c =
     let given = c .before .before .before .before .before in
     let l : 0 < given .args .depth = let z = c .before .before .before .if1 .left in omega arith in
-    omega (arith, children-below (given .args .depth) (given .args .stack .now) (given .args .nodes) l (given .pre .1 .0), given .pre .1 .1)
+    omega (arith, children-below (given .args .depth) (given .args .stack .now) (given .pre .1 .nodes) l (given .pre .1 .below), given .pre .1 .few)
 
 add-stack-3 : tie.Need-add-stack-3
 add-stack-3 c = search needs
