@@ -1,0 +1,28 @@
+-- `node::child::existing_place` meets its contract: the number itself, if `get_record` answers. Assumes nothing.
+use borrow.Author.Needs.{needs}
+use Rattle.node.specs.Child.{placeAt}
+use Rattle.node.proofs.child.existing_place.Statement.{statement}
+use Rattle.node.proofs.child.existing_place.Tie as tie
+
+get-record-requires : tie.Need-get-record-requires
+get-record-requires c κs = search needs
+
+enum-told : tie.Need-enum-told
+enum-told c = search needs
+
+enum-told-2 : tie.Need-enum-told-2
+enum-told-2 c = search needs
+
+returns : tie.Need-returns
+unfolding placeAt
+returns c =
+    let e = rw (c .enum-told2 .given .1) at (c .before .before .get-record .ensures) in rw (← e)
+
+returns-2 : tie.Need-returns-2
+unfolding placeAt
+returns-2 c =
+    let e = rw (c .enum-told .given .1) at (c .before .before .get-record .ensures) in rw (← e)
+
+pub existing-place-spec : {M : Type 1} → statement M
+existing-place-spec =
+    tie.close (tie.spec get-record-requires enum-told enum-told-2 returns returns-2)

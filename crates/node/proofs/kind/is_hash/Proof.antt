@@ -1,0 +1,27 @@
+-- `node::kind::is_hash` meets its contract: the record's kind, or none. Assumes nothing.
+use borrow.Author.Needs.{needs}
+use Rattle.node.specs.Kind.{isHashAt}
+use Rattle.node.proofs.kind.is_hash.Statement.{statement}
+use Rattle.node.proofs.kind.is_hash.Tie as tie
+
+get-record-requires : tie.Need-get-record-requires
+get-record-requires c κs = search needs
+
+enum-known-x : tie.Need-enum-known-x
+enum-known-x c = search needs
+
+enum-told : tie.Need-enum-told
+enum-told c = search needs
+
+returns : tie.Need-returns
+unfolding isHashAt
+returns c =
+    let e = rw (c .enum-told .given .1) at (c .before .before .get-record .ensures) in rw (← e)
+
+returns-2 : tie.Need-returns-2
+unfolding isHashAt
+returns-2 c =
+    let e = rw (c .before .before .x .given .1) at (c .before .before .before .before .get-record .ensures) in rw (← e)
+
+pub is-hash-spec : {M : Type 1} → statement M
+is-hash-spec = tie.close (tie.spec get-record-requires enum-known-x enum-told returns returns-2)

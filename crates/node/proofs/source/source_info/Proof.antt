@@ -1,0 +1,28 @@
+-- `node::source::source_info` meets its contract: the record's span, or none. Assumes nothing.
+use borrow.Author.Needs.{needs}
+use Rattle.node.specs.Source.{spanAt}
+use Rattle.node.proofs.source.source_info.Statement.{statement}
+use Rattle.node.proofs.source.source_info.Tie as tie
+
+get-record-requires : tie.Need-get-record-requires
+get-record-requires c κs = search needs
+
+enum-known-x : tie.Need-enum-known-x
+enum-known-x c = search needs
+
+enum-told : tie.Need-enum-told
+enum-told c = search needs
+
+returns : tie.Need-returns
+unfolding spanAt
+returns c =
+    let e = rw (c .enum-told .given .1) at (c .before .before .get-record .ensures) in rw (← e)
+
+returns-2 : tie.Need-returns-2
+unfolding spanAt
+returns-2 c =
+    let e = rw (c .before .before .x .given .1) at (c .before .before .before .before .get-record .ensures) in rw (← e)
+
+pub source-info-spec : {M : Type 1} → statement M
+source-info-spec =
+    tie.close (tie.spec get-record-requires enum-known-x enum-told returns returns-2)

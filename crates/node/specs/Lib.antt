@@ -1,0 +1,25 @@
+-- The definitions that the contracts of `node` cite, in reading order, and the laws that callers go by.
+-- what comes next where there is something
+pub mod Chain
+-- when a record exists, and where its numbers stand
+pub mod Record
+-- reading is the inverse of laying out
+pub mod RecordLaws
+-- kinds and counts
+pub mod Kind
+-- spans, tags, piece lists
+pub mod Source
+-- the last child, the child before, items by index, the root
+pub mod Child
+-- pairs by index
+pub mod Entry
+-- values by key
+pub mod Search
+-- scan_error
+pub mod Marker
+-- nodes as a forest
+pub mod Forest
+-- going back over a forest that is laid out
+pub mod ForestLaws
+-- worked cases
+pub mod Examples
