@@ -4,6 +4,7 @@
 //! spaced ones where an enumeration is too long; the sample has the special cases, fewer of the enumeration and the
 //! first of the random ones.
 
+mod events;
 mod measures;
 mod offsets;
 mod rng;
@@ -25,7 +26,7 @@ type Family = fn(&mut Run);
 
 const SEED: u64 = 20_261_008;
 
-const USAGE: &str = "usage: cases offsets|schema|measures|walks|tags|trees sample|full [SEED]";
+const USAGE: &str = "usage: cases offsets|schema|measures|walks|tags|events|trees sample|full [SEED]";
 
 fn main() -> ExitCode {
     answers::silence_listed_panic();
@@ -53,6 +54,7 @@ fn parse(arguments: &[&str]) -> Option<(Family, bool, u64)> {
         "measures" => measures::write,
         "walks" => walks::write,
         "tags" => tags::write,
+        "events" => events::write,
         "trees" => trees::write,
         _ => return None,
     };
