@@ -1,0 +1,3 @@
+-- Lemmas of the proofs of `replay_linked`.
+-- the three numbers of an answer
+mod Told
