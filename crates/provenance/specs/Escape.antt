@@ -66,9 +66,6 @@ codeContent (some c) = pick (inside 0xd800 0xdfff c) 1 (length (encode c))
 
 -- ---- the tables
 
-abbrev pub noEscapes : EscapeTable
-noEscapes src = NoEscape
-
 -- two quotes
 unfoldable pub singleQuoteEscapes : EscapeTable
 singleQuoteEscapes src = pick (eqb (getD src 0 0) quote && eqb (getD src 1 0) quote) (Takes 2 1) NoEscape

@@ -37,13 +37,6 @@ unfolding sameBytes
 same-refl [] = refl
 same-refl (x ∷ xs) = rw (eq-eqb x x refl) (same-refl xs)
 
--- as `check::same` says it
-pub same-yes : (a b : List ℕ) (r : Bool) → (r ≡ true → a ≡ b) → r ≡ true → sameBytes a b ≡ true
-same-yes a b r f e = subst (λ (z : List ℕ). sameBytes a z ≡ true) (f e) (same-refl a)
-
-pub same-no : (a b : List ℕ) (r : Bool) → (a ≡ b → r ≡ true) → r ≡ false → sameBytes a b ≡ false
-same-no a b r f e = by-answer (sameBytes a b) (λ q. absurd (clash (sym (f (same-true a b q)) ∙ e))) (λ q. q)
-
 -- ---- steps of different kinds
 
 pub none-verbatim : (k : ℕ) → NoStep ≡ Verbatim k → ⊥
