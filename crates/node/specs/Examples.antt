@@ -1,18 +1,19 @@
 -- Worked cases of the definitions, by computation, over records that are written out.
 use mathlib.Core.Path.{_≡_, refl}
-use mathlib.Core.Bool.{true, false}
 use mathlib.Core.List.{List, [], _∷_, _++_}
-use mathlib.Core.Option.{Option, none, some}
+use mathlib.Core.Option.{none, some}
 use Prim.Native.Nat.{ℕ}
 use lib.ListN.{take}
 use Rattle.schema.specs.Tag.{sameBytes}
 use Rattle.parser.specs.Record.{absent, extent}
+use Rattle.parser.specs.declared.record.Node.{Node}
 use Rattle.node.specs.Record.{nodeOf, existing, recordAt}
-use Rattle.node.specs.Kind.{lenAt, isHashAt, isEmptyAt}
-use Rattle.node.specs.Source.{isAbsent, tagAt, pieceListAt}
+use Rattle.node.specs.Kind.{lenAt}
 use Rattle.node.specs.Child.{placeAt, recordBefore, lastChild, childBefore, stepsBack, childFromLast, arrayItem}
 use Rattle.node.specs.Entry.{pairEnding, hashEntry}
 use Rattle.node.specs.Search.{stringIs, keyIs, searchBack, hashValue}
+use Rattle.node.specs.Forest.{nil, snoc}
+use Rattle.node.specs.Growth.{opening, closing, leaf, growing, grown, growth}
 
 -- a record of this kind, span, subtree count and payload, with no tag and no list
 abbrev row : ℕ → ℕ → ℕ → ℕ → ℕ → ℕ → List ℕ
@@ -56,3 +57,8 @@ pub damaged :
     × (childBefore (row 1 0 0 1 0 0 ++ row 1 0 0 2 0 0) 1 ≡ none)
 unfolding childBefore placeAt recordAt existing nodeOf
 damaged = (refl, refl, refl, refl, refl)
+
+-- `[a, [b]]`: four nodes, in the order of their completion; the root is the last
+pub small-tree : (a b c d : Node) → growth (opening ∷ leaf ∷ opening ∷ leaf ∷ closing ∷ closing ∷ []) (a ∷ b ∷ c ∷ d ∷ []) (growing []) ≡ grown d (snoc (snoc nil a nil) c (snoc nil b nil))
+unfolding growth
+small-tree a b c d = refl

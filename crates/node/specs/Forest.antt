@@ -1,12 +1,16 @@
--- Nodes as a forest, written from its last tree back, as records are (N3). A forest's post-order is the order in which its nodes are
--- completed. It is counted where every subtree count is the number of nodes of its tree.
+-- Nodes as a forest, written from its last tree back, as records are (N2, N3). A forest's post-order is the order in which its nodes are
+-- completed, so a node's number is how many come before it. In a sound forest each node's record says how many nodes its tree has and how
+-- many children, or pairs.
 use mathlib.Core.Path.{_≡_}
 use mathlib.Core.Bool.{true}
+use mathlib.Core.Logic.{_⊎_}
 use mathlib.Core.List.{List, [], _∷_, _++_}
-use Prim.Native.Nat.{ℕ, zero, suc, _+_}
+use Prim.Native.Nat.{ℕ, suc, _+_, _*_, _<_}
 use lib.ListN.{length}
 use Rattle.parser.specs.declared.record.Node.{Node}
 use Rattle.node.specs.Record.{isKind}
+use Rattle.node.specs.Entry.{entry}
+use Rattle.node.specs.declared.entry.YamlHashEntry.{YamlHashEntry}
 
 -- `snoc f x kids` is f and then the tree of x, whose children are the trees of kids
 pub data Forest : Type 0 where
@@ -17,26 +21,46 @@ unfoldable pub postOrder : Forest → List Node
 postOrder nil = []
 postOrder (snoc f x kids) = postOrder f ++ (postOrder kids ++ (x ∷ []))
 
+abbrev pub nodesIn : Forest → ℕ
+nodesIn f = length (postOrder f)
+
 abbrev pub trees : Forest → ℕ
 trees nil = 0
 trees (snoc f x kids) = suc (trees f)
 
--- the node's own facts, and those of the nodes before it
-pub record Tree (x : Node) (size : ℕ) : Type 0 where
+-- ---- sound records
+
+pub record Tree (x : Node) (kids : Forest) : Type 0 where
   pub kind : isKind (x .kind) ≡ true
-  pub count : x .subtree ≡ size
+  pub count : x .subtree ≡ nodesIn kids + 1
+  pub scalar : x .kind < 7 → trees kids ≡ 0
+  pub array : x .kind ≡ 7 → x .payload .first ≡ trees kids
+  pub hash : x .kind ≡ 8 → 2 * x .payload .first ≡ trees kids
 
-unfoldable pub Counted : Forest → Type 0
-Counted nil = Unit {0}
-Counted (snoc f x kids) = Counted f × Counted kids × Tree x (length (postOrder kids) + 1)
+unfoldable pub Sound : Forest → Type 0
+Sound nil = Unit {0}
+Sound (snoc f x kids) = Sound f × Sound kids × Tree x kids
 
--- all but the last k trees
-abbrev pub allBut : ℕ → Forest → Forest
-allBut zero f = f
-allBut (suc k) nil = nil
-allBut (suc k) (snoc f x kids) = allBut k f
+-- ---- numbers, where p nodes come before the forest
 
--- the number of the last tree's root, where p nodes come before the forest
+-- of the last tree's root
 abbrev pub lastRoot : ℕ → Forest → ℕ
 lastRoot p nil = p
-lastRoot p (snoc f x kids) = p + (length (postOrder f) + length (postOrder kids))
+lastRoot p (snoc f x kids) = p + (nodesIn f + nodesIn kids)
+
+-- of all roots, in order
+abbrev pub roots : ℕ → Forest → List ℕ
+roots p nil = []
+roots p (snoc f x kids) = roots p f ++ (lastRoot p (snoc f x kids) ∷ [])
+
+-- the roots two by two, as the pairs of a hash
+abbrev pub pairsOf : ℕ → Forest → List YamlHashEntry
+pairsOf p nil = []
+pairsOf p (snoc nil x kids) = []
+pairsOf p (snoc (snoc f y others) x kids) = pairsOf p f ++ (entry (lastRoot p (snoc f y others)) y (lastRoot p (snoc (snoc f y others) x kids)) x ∷ [])
+
+-- the forest has the tree of x, s nodes come before it, and its children are the trees of kids; x is number s + nodesIn kids
+unfoldable pub Has : Forest → ℕ → ℕ → Node → Forest → Type 0
+Has nil p s x kids = ⊥
+Has (snoc f y others) p s x kids =
+    Has f p s x kids ⊎ Has others (p + nodesIn f) s x kids ⊎ ((s ≡ p + nodesIn f) × (x ≡ y) × (kids ≡ others))

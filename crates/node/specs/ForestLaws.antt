@@ -1,31 +1,39 @@
--- Where a counted forest is laid out, going back from its last tree meets its trees one by one (N3). Assumes nothing.
+-- Where a sound forest is laid out, going back from its last tree meets its trees one by one (N3). Assumes nothing.
 use mathlib.Core.Path.{_≡_, refl, sym, ap, _∙_}
 use mathlib.Core.Bool.{true, _&&_}
 use mathlib.Core.List.{List, [], _∷_, _++_, append-assoc}
 use mathlib.Core.Option.{Option, none, some}
 use Prim.Native.Nat.{ℕ, zero, suc, _+_, _-_, _*_, _<_, _≤_}
+use native.Mathlib.Decide.{decLt}
 use native.Mathlib.Omega.{arith}
-use borrow.Author.Tests.{lt-ltb, le-leb, eq-eqb}
+use borrow.Author.Tests.{lt-ltb, le-leb, le-ltb, eq-eqb}
 use lib.Dec.{ltb, eqb}
 use lib.ListN.{length, length-append}
 use Rattle.parser.specs.Layout.{laidNodes}
 use Rattle.parser.specs.declared.record.Node.{Node}
 use Rattle.node.specs.Chain.{andThen, when}
 use Rattle.node.specs.Record.{isKind, existing, recordAt}
-use Rattle.node.specs.RecordLaws.{nth, record-laid}
+use Rattle.node.specs.Nth.{nth, nth-left, nth-right, nth-past}
+use Rattle.node.specs.RecordLaws.{record-laid}
 use Rattle.node.specs.Child.{placeAt, recordBefore, childBefore, stepsBack, childFromLast, arrayItem}
 use Rattle.node.specs.Kind.{isArray, isHash}
 use Rattle.node.specs.Entry.{entry, pairEnding, hashEntry}
 use Rattle.node.specs.declared.entry.YamlHashEntry.{YamlHashEntry}
-use Rattle.node.specs.Forest.{Forest, nil, snoc, postOrder, trees, Tree, Counted, allBut, lastRoot}
+use Rattle.node.specs.Forest.{Forest, nil, snoc, postOrder, nodesIn, trees, Tree, Sound, lastRoot, roots, pairsOf}
 
 nth-at : (front : List Node) (x : Node) (rest : List Node) → nth (front ++ (x ∷ rest)) (length front) ≡ some x
 nth-at [] x rest = refl
 nth-at (a ∷ front) x rest = nth-at front x rest
 
-order-length : (f : Forest) (x : Node) (kids : Forest) → length (postOrder (snoc f x kids)) ≡ length (postOrder f) + length (postOrder kids) + 1
+pub order-length : (f : Forest) (x : Node) (kids : Forest) → length (postOrder (snoc f x kids)) ≡ nodesIn f + nodesIn kids + 1
 unfolding postOrder
 order-length f x kids = simp length-append (omega arith)
+
+-- all but the last k trees
+abbrev pub allBut : ℕ → Forest → Forest
+allBut zero f = f
+allBut (suc k) nil = nil
+allBut (suc k) (snoc f x kids) = allBut k f
 
 -- a member within the count is let in
 let-in :
@@ -33,31 +41,86 @@ let-in :
     when (eqb k kind && ltb i m) (g (j m)) ≡ g (j count)
 let-in g k kind m count i e q h j = rw (eq-eqb k kind e, q, lt-ltb i count h)
 
+-- and one past it is not
+left-out :
+    {A : Type 0} (g : ℕ → Option A) (k kind m count i : ℕ) → k ≡ kind → m ≡ count → count ≤ i → (j : ℕ → ℕ) →
+    when (eqb k kind && ltb i m) (g (j m)) ≡ none
+left-out g k kind m count i e q h j = rw (eq-eqb k kind e, q, le-ltb i count h)
+
+-- ---- roots and pairs by number
+
+pub roots-length : (p : ℕ) (f : Forest) → length (roots p f) ≡ trees f
+roots-length p nil = refl
+roots-length p (snoc f x kids) = let r = roots-length p f in rw length-append (omega arith)
+
+pub root-nth : (p i : ℕ) (f : Forest) → i < trees f → nth (roots p f) i ≡ some (lastRoot p (allBut (trees f - 1 - i) f))
+root-nth p i nil h = absurd (omega arith)
+root-nth p i (snoc f x kids) h = by (decLt i (trees f)) (roots-length p f) (root-nth p i f)
+  where
+    by :
+        Dec (i < trees f) → length (roots p f) ≡ trees f → (i < trees f → nth (roots p f) i ≡ some (lastRoot p (allBut (trees f - 1 - i) f))) →
+        nth (roots p (snoc f x kids)) i ≡ some (lastRoot p (allBut (trees (snoc f x kids) - 1 - i) (snoc f x kids)))
+    by (yes l) r before =
+        let e : suc (trees f - 1 - i) ≡ trees (snoc f x kids) - 1 - i = omega arith in
+        nth-left (roots p f) _ i (omega arith) ∙ before l ∙ ap (λ (k : ℕ). some (lastRoot p (allBut k (snoc f x kids)))) e
+    by (no l) r before =
+        let here : i ≡ length (roots p f) + 0 = omega arith in
+        let e : 0 ≡ trees (snoc f x kids) - 1 - i = omega arith in
+        ap (nth (roots p (snoc f x kids))) here ∙ nth-right (roots p f) _ 0 ∙ ap (λ (k : ℕ). some (lastRoot p (allBut k (snoc f x kids)))) e
+
+pub pairs-length : (p m : ℕ) (f : Forest) → trees f ≡ 2 * m → length (pairsOf p f) ≡ m
+pairs-length p m nil e = omega arith
+pairs-length p m (snoc nil x kids) e = absurd (omega arith)
+pairs-length p m (snoc (snoc f y others) x kids) e = let r = pairs-length p (m - 1) f (omega arith) in rw length-append (omega arith)
+
+-- the pair of the last two trees
+abbrev pub lastEntry : ℕ → Forest → Node → Forest → Node → Forest → YamlHashEntry
+lastEntry p f y others x kids = entry (lastRoot p (snoc f y others)) y (lastRoot p (snoc (snoc f y others) x kids)) x
+
 -- the last two trees of a forest as a pair, where p nodes come before the forest
 abbrev pub lastPair : ℕ → Forest → Option YamlHashEntry
 lastPair p nil = none
 lastPair p (snoc nil x kids) = none
 lastPair p (snoc (snoc g y others) x kids) = some (entry (lastRoot p (snoc g y others)) y (lastRoot p (snoc (snoc g y others) x kids)) x)
 
+pub pair-nth : (p m i : ℕ) (f : Forest) → trees f ≡ 2 * m → i < m → nth (pairsOf p f) i ≡ lastPair p (allBut (2 * (m - 1 - i)) f)
+pair-nth p m i nil e h = absurd (omega arith)
+pair-nth p m i (snoc nil x kids) e h = absurd (omega arith)
+pair-nth p m i (snoc (snoc f y others) x kids) e h = by (decLt i (m - 1)) (pairs-length p (m - 1) f (omega arith)) (pair-nth p (m - 1) i f (omega arith))
+  where
+    whole : Forest
+    whole = snoc (snoc f y others) x kids
+
+    by :
+        Dec (i < m - 1) → length (pairsOf p f) ≡ m - 1 → (i < m - 1 → nth (pairsOf p f) i ≡ lastPair p (allBut (2 * (m - 1 - 1 - i)) f)) →
+        nth (pairsOf p whole) i ≡ lastPair p (allBut (2 * (m - 1 - i)) whole)
+    by (yes l) r before =
+        let k : suc (suc (2 * (m - 1 - 1 - i))) ≡ 2 * (m - 1 - i) = omega arith in
+        nth-left (pairsOf p f) _ i (omega arith) ∙ before l ∙ ap (λ (k : ℕ). lastPair p (allBut k whole)) k
+    by (no l) r before =
+        let here : i ≡ length (pairsOf p f) + 0 = omega arith in
+        let k : 0 ≡ 2 * (m - 1 - i) = omega arith in
+        ap (nth (pairsOf p whole)) here ∙ nth-right (pairsOf p f) _ 0 ∙ ap (λ (k : ℕ). lastPair p (allBut k whole)) k
+
 module _ (size : ℕ) (pre : List Node) where
   -- the root of the last tree is its record
-  pub root-record : (suf : List Node) (f : Forest) (x : Node) (kids : Forest) → Tree x (length (postOrder kids) + 1) → recordAt (laidNodes size (pre ++ (postOrder (snoc f x kids) ++ suf))) (lastRoot (length pre) (snoc f x kids)) ≡ some x
+  pub root-record : (suf : List Node) (f : Forest) (x : Node) (kids : Forest) → Tree x kids → recordAt (laidNodes size (pre ++ (postOrder (snoc f x kids) ++ suf))) (lastRoot (length pre) (snoc f x kids)) ≡ some x
   unfolding postOrder existing
   root-record suf f x kids t =
       let front = pre ++ (postOrder f ++ postOrder kids) in
       let e : pre ++ (postOrder (snoc f x kids) ++ suf) ≡ front ++ (x ∷ suf) = simp append-assoc in
-      let l : length pre + (length (postOrder f) + length (postOrder kids)) ≡ length front = simp length-append in
-      rw (record-laid size (pre ++ (postOrder (snoc f x kids) ++ suf)) (length pre + (length (postOrder f) + length (postOrder kids))), e, l, nth-at front x suf, t .kind)
+      let l : length pre + (nodesIn f + nodesIn kids) ≡ length front = simp length-append in
+      rw (record-laid size (pre ++ (postOrder (snoc f x kids) ++ suf)) (length pre + (nodesIn f + nodesIn kids)), e, l, nth-at front x suf, t .kind)
 
   -- the child before it is the root of the tree before
   pub root-before :
       (suf : List Node) (g : Forest) (y : Node) (others : Forest) (x : Node) (kids : Forest) →
-      Counted (snoc (snoc g y others) x kids) →
+      Sound (snoc (snoc g y others) x kids) →
       childBefore (laidNodes size (pre ++ (postOrder (snoc (snoc g y others) x kids) ++ suf))) (lastRoot (length pre) (snoc (snoc g y others) x kids)) ≡ some (lastRoot (length pre) (snoc g y others))
-  unfolding childBefore placeAt Counted postOrder
+  unfolding childBefore placeAt Sound postOrder
   root-before suf g y others x kids c =
       let f = snoc g y others in
-      let s : x .subtree ≡ length (postOrder kids) + 1 = c .2 .count in
+      let s : x .subtree ≡ nodesIn kids + 1 = c .2 .count in
       let n = order-length g y others in
       let more : 0 < x .subtree = omega arith in
       let fits : x .subtree ≤ lastRoot (length pre) (snoc f x kids) = omega arith in
@@ -68,9 +131,9 @@ module _ (size : ℕ) (pre : List Node) where
 
   -- k steps back from the last tree stands the last of all trees but k
   pub steps-roots :
-      (k : ℕ) (suf : List Node) (f : Forest) → k < trees f → Counted f →
+      (k : ℕ) (suf : List Node) (f : Forest) → k < trees f → Sound f →
       stepsBack (laidNodes size (pre ++ (postOrder f ++ suf))) k (lastRoot (length pre) f) ≡ some (lastRoot (length pre) (allBut k f))
-  unfolding stepsBack Counted postOrder
+  unfolding stepsBack Sound postOrder
   steps-roots zero suf f h c = refl
   steps-roots (suc k) suf nil h c = absurd (omega arith)
   steps-roots (suc k) suf (snoc nil x kids) h c = absurd (omega arith)
@@ -84,10 +147,10 @@ module _ (size : ℕ) (pre : List Node) where
   -- of two trees, the roots as a pair
   pub root-pair :
       (suf : List Node) (g : Forest) (y : Node) (others : Forest) (x : Node) (kids : Forest) →
-      Counted (snoc (snoc g y others) x kids) →
+      Sound (snoc (snoc g y others) x kids) →
       pairEnding (laidNodes size (pre ++ (postOrder (snoc (snoc g y others) x kids) ++ suf))) (lastRoot (length pre) (snoc (snoc g y others) x kids))
       ≡ some (entry (lastRoot (length pre) (snoc g y others)) y (lastRoot (length pre) (snoc (snoc g y others) x kids)) x)
-  unfolding pairEnding Counted postOrder
+  unfolding pairEnding Sound postOrder
   root-pair suf g y others x kids c =
       let f = snoc g y others in
       let e : pre ++ (postOrder (snoc f x kids) ++ suf) ≡ pre ++ (postOrder f ++ ((postOrder kids ++ (x ∷ [])) ++ suf)) = simp append-assoc in
@@ -96,9 +159,9 @@ module _ (size : ℕ) (pre : List Node) where
 
   -- the last child of a collection, whose record follows its children
   pub last-root :
-      (suf : List Node) (f : Forest) → 0 < trees f → Counted f →
-      recordBefore (laidNodes size (pre ++ (postOrder f ++ suf))) (length pre + length (postOrder f)) ≡ some (lastRoot (length pre) f)
-  unfolding recordBefore placeAt Counted postOrder
+      (suf : List Node) (f : Forest) → 0 < trees f → Sound f →
+      recordBefore (laidNodes size (pre ++ (postOrder f ++ suf))) (length pre + nodesIn f) ≡ some (lastRoot (length pre) f)
+  unfolding recordBefore placeAt Sound postOrder
   last-root suf nil h c = absurd (omega arith)
   last-root suf (snoc f x kids) h c =
       let n = order-length f x kids in
@@ -107,8 +170,8 @@ module _ (size : ℕ) (pre : List Node) where
       rw (lt-ltb 0 (length pre + length (postOrder (snoc f x kids))) more, d, root-record suf f x kids (c .2))
 
   pub child-roots :
-      (k : ℕ) (suf : List Node) (f : Forest) → k < trees f → Counted f →
-      childFromLast (laidNodes size (pre ++ (postOrder f ++ suf))) (length pre + length (postOrder f)) k ≡ some (lastRoot (length pre) (allBut k f))
+      (k : ℕ) (suf : List Node) (f : Forest) → k < trees f → Sound f →
+      childFromLast (laidNodes size (pre ++ (postOrder f ++ suf))) (length pre + nodesIn f) k ≡ some (lastRoot (length pre) (allBut k f))
   unfolding childFromLast
   child-roots k suf f h c =
       ap (λ (o : Option ℕ). andThen o (stepsBack (laidNodes size (pre ++ (postOrder f ++ suf))) k)) (last-root suf f (omega arith) c)
@@ -117,31 +180,47 @@ module _ (size : ℕ) (pre : List Node) where
   -- a collection's record follows its children
   pub collection-record :
       (suf : List Node) (f : Forest) (x : Node) → isKind (x .kind) ≡ true →
-      recordAt (laidNodes size (pre ++ (postOrder f ++ (x ∷ suf)))) (length pre + length (postOrder f)) ≡ some x
+      recordAt (laidNodes size (pre ++ (postOrder f ++ (x ∷ suf)))) (length pre + nodesIn f) ≡ some x
   unfolding existing
   collection-record suf f x k =
       let front = pre ++ postOrder f in
       let e : pre ++ (postOrder f ++ (x ∷ suf)) ≡ front ++ (x ∷ suf) = simp append-assoc in
-      let l : length pre + length (postOrder f) ≡ length front = simp length-append in
-      let n : nth (pre ++ (postOrder f ++ (x ∷ suf))) (length pre + length (postOrder f)) ≡ some x = rw (e, l) (nth-at front x suf) in
-      record-laid size (pre ++ (postOrder f ++ (x ∷ suf))) (length pre + length (postOrder f)) ∙ rw (n, k)
+      let l : length pre + nodesIn f ≡ length front = simp length-append in
+      let n : nth (pre ++ (postOrder f ++ (x ∷ suf))) (length pre + nodesIn f) ≡ some x = rw (e, l) (nth-at front x suf) in
+      record-laid size (pre ++ (postOrder f ++ (x ∷ suf))) (length pre + nodesIn f) ∙ rw (n, k)
 
-  -- item i of an array is the root of tree i: the last of all but those after it
+  -- item i of an array is root i of its children
   pub items :
-      (suf : List Node) (f : Forest) (x : Node) (i : ℕ) → Counted f → x .kind ≡ 7 → x .payload .first ≡ trees f → i < trees f →
-      arrayItem (laidNodes size (pre ++ (postOrder f ++ (x ∷ suf)))) (length pre + length (postOrder f)) i ≡ some (lastRoot (length pre) (allBut (trees f - 1 - i) f))
+      (suf : List Node) (f : Forest) (x : Node) → Sound f → Tree x f → x .kind ≡ 7 → (i : ℕ) →
+      arrayItem (laidNodes size (pre ++ (postOrder f ++ (x ∷ suf)))) (length pre + nodesIn f) i ≡ nth (roots (length pre) f) i
   unfolding arrayItem
-  items suf f x i c seven m h =
-      let b = laidNodes size (pre ++ (postOrder f ++ (x ∷ suf))) in
-      let n = length pre + length (postOrder f) in
-      ap (λ (o : Option Node). andThen o (λ (y : Node). when (isArray y && ltb i (y .payload .first)) (childFromLast b n (y .payload .first - 1 - i)))) (collection-record suf f x (ap isKind seven))
-      ∙ let-in (childFromLast b n) (x .kind) 7 (x .payload .first) (trees f) i seven m h (λ (j : ℕ). j - 1 - i)
-      ∙ child-roots (trees f - 1 - i) (x ∷ suf) f (omega arith) c
+  items suf f x c t seven i = by (decLt i (trees f))
+    where
+      b : List ℕ
+      b = laidNodes size (pre ++ (postOrder f ++ (x ∷ suf)))
+
+      n : ℕ
+      n = length pre + nodesIn f
+
+      found : arrayItem b n i ≡ when (isArray x && ltb i (x .payload .first)) (childFromLast b n (x .payload .first - 1 - i))
+      found = ap (λ (o : Option Node). andThen o (λ (y : Node). when (isArray y && ltb i (y .payload .first)) (childFromLast b n (y .payload .first - 1 - i)))) (collection-record suf f x (t .kind))
+
+      by : Dec (i < trees f) → arrayItem b n i ≡ nth (roots (length pre) f) i
+      by (yes h) =
+          found
+          ∙ let-in (childFromLast b n) (x .kind) 7 (x .payload .first) (trees f) i seven (t .array seven) h (λ (j : ℕ). j - 1 - i)
+          ∙ child-roots (trees f - 1 - i) (x ∷ suf) f (omega arith) c
+          ∙ sym (root-nth (length pre) i f h)
+      by (no h) =
+          let l = roots-length (length pre) f in
+          found
+          ∙ left-out (childFromLast b n) (x .kind) 7 (x .payload .first) (trees f) i seven (t .array seven) (omega arith) (λ (j : ℕ). j - 1 - i)
+          ∙ sym (nth-past (roots (length pre) f) i (omega arith))
 
   pair-back :
-      (k : ℕ) (suf : List Node) (f : Forest) → suc k < trees f → Counted f →
+      (k : ℕ) (suf : List Node) (f : Forest) → suc k < trees f → Sound f →
       pairEnding (laidNodes size (pre ++ (postOrder f ++ suf))) (lastRoot (length pre) (allBut k f)) ≡ lastPair (length pre) (allBut k f)
-  unfolding Counted postOrder
+  unfolding Sound postOrder
   pair-back zero suf nil h c = absurd (omega arith)
   pair-back zero suf (snoc nil x kids) h c = absurd (omega arith)
   pair-back zero suf (snoc (snoc g y others) x kids) h c = root-pair suf g y others x kids c
@@ -150,16 +229,38 @@ module _ (size : ℕ) (pre : List Node) where
       let e : pre ++ (postOrder (snoc f x kids) ++ suf) ≡ pre ++ (postOrder f ++ ((postOrder kids ++ (x ∷ [])) ++ suf)) = simp append-assoc in
       rw e (pair-back k ((postOrder kids ++ (x ∷ [])) ++ suf) f (omega arith) (c .0))
 
-  -- pair i of a hash is that of trees 2 · i and 2 · i + 1, whatever their keys (N2)
+  -- pair i of a hash is pair i of its children, whatever their keys (N2)
   pub pairs :
-      (suf : List Node) (f : Forest) (x : Node) (m i : ℕ) → Counted f → x .kind ≡ 8 → x .payload .first ≡ m → trees f ≡ 2 * m → i < m →
-      hashEntry (laidNodes size (pre ++ (postOrder f ++ (x ∷ suf)))) (length pre + length (postOrder f)) i ≡ lastPair (length pre) (allBut (2 * (m - 1 - i)) f)
+      (suf : List Node) (f : Forest) (x : Node) → Sound f → Tree x f → x .kind ≡ 8 → (i : ℕ) →
+      hashEntry (laidNodes size (pre ++ (postOrder f ++ (x ∷ suf)))) (length pre + nodesIn f) i ≡ nth (pairsOf (length pre) f) i
   unfolding hashEntry
-  pairs suf f x m i c eight e t h =
-      let b = laidNodes size (pre ++ (postOrder f ++ (x ∷ suf))) in
-      let n = length pre + length (postOrder f) in
-      let k = 2 * (m - 1 - i) in
-      ap (λ (o : Option Node). andThen o (λ (y : Node). when (isHash y && ltb i (y .payload .first)) (andThen (childFromLast b n (2 * (y .payload .first - 1 - i))) (pairEnding b)))) (collection-record suf f x (ap isKind eight))
-      ∙ let-in (λ (j : ℕ). andThen (childFromLast b n j) (pairEnding b)) (x .kind) 8 (x .payload .first) m i eight e h (λ (j : ℕ). 2 * (j - 1 - i))
-      ∙ ap (λ (o : Option ℕ). andThen o (pairEnding b)) (child-roots (2 * (m - 1 - i)) (x ∷ suf) f (omega arith) c)
-      ∙ pair-back (2 * (m - 1 - i)) (x ∷ suf) f (omega arith) c
+  pairs suf f x c t eight i = by (decLt i m)
+    where
+      b : List ℕ
+      b = laidNodes size (pre ++ (postOrder f ++ (x ∷ suf)))
+
+      n : ℕ
+      n = length pre + nodesIn f
+
+      m : ℕ
+      m = x .payload .first
+
+      ending : ℕ → Option YamlHashEntry
+      ending j = andThen (childFromLast b n j) (pairEnding b)
+
+      found : hashEntry b n i ≡ when (isHash x && ltb i m) (ending (2 * (m - 1 - i)))
+      found = ap (λ (o : Option Node). andThen o (λ (y : Node). when (isHash y && ltb i (y .payload .first)) (ending (2 * (y .payload .first - 1 - i))))) (collection-record suf f x (t .kind))
+
+      by : Dec (i < m) → hashEntry b n i ≡ nth (pairsOf (length pre) f) i
+      by (yes h) =
+          let e = t .hash eight in
+          found
+          ∙ let-in ending (x .kind) 8 m m i eight refl h (λ (j : ℕ). 2 * (j - 1 - i))
+          ∙ ap (λ (o : Option ℕ). andThen o (pairEnding b)) (child-roots (2 * (m - 1 - i)) (x ∷ suf) f (omega arith) c)
+          ∙ pair-back (2 * (m - 1 - i)) (x ∷ suf) f (omega arith) c
+          ∙ sym (pair-nth (length pre) m i f (sym e) h)
+      by (no h) =
+          let l = pairs-length (length pre) m f (sym (t .hash eight)) in
+          found
+          ∙ left-out ending (x .kind) 8 m m i eight refl (omega arith) (λ (j : ℕ). 2 * (j - 1 - i))
+          ∙ sym (nth-past (pairsOf (length pre) f) i (omega arith))

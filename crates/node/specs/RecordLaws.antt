@@ -1,31 +1,25 @@
 -- Reading a record is the inverse of laying it out (E2, N3). Assumes nothing.
-use mathlib.Core.Path.{_≡_, refl, sym, ap, _∙_}
+use mathlib.Core.Path.{_≡_, refl, ap, _∙_}
 use mathlib.Core.Bool.{Bool, true, false}
 use mathlib.Core.List.{List, [], _∷_, _++_, append-assoc}
-use mathlib.Core.Option.{Option, none, some}
-use Prim.Native.Nat.{ℕ, zero, suc, _+_, _-_, _*_, _/_, _<_, _≤_}
+use mathlib.Core.Option.{none}
+use Prim.Native.Nat.{ℕ, zero, suc, _+_, _-_, _*_, _/_}
 use native.Mathlib.Omega.{arith}
-use native.Mathlib.Nat.{mul-suc, mul-zero}
 use borrow.Author.Tests.{lt-ltb}
-use lib.ListN.{length, drop, getD, replicate, length-append, length-replicate}
+use lib.ListN.{length, drop, getD, replicate, length-append}
 use lib.Dec.{ltb, leb·suc-suc}
 use lib.Seq.{drop-append-add, getD-drop}
 use Rattle.parser.specs.Record.{nodeNumbers}
-use Rattle.parser.specs.Layout.{flat, laidBy, laidNodes, recordRoom}
+use Rattle.parser.specs.Layout.{flat, laidBy, laidNodes}
 use Rattle.parser.specs.declared.record.Node.{Node}
 use Rattle.node.specs.Chain.{andThen, when}
-use Rattle.node.specs.Record.{nodeOf, isKind, existing, recordAt}
+use Rattle.node.specs.Nth.{nth}
+use Rattle.node.specs.Record.{nodeOf, existing, recordAt}
 
 -- the numbers of a node, whatever follows, are read as that node
 pub read-laid : (x : Node) (rest : List ℕ) → nodeOf (nodeNumbers x ++ rest) ≡ x
 unfolding nodeOf nodeNumbers
 read-laid x rest = refl
-
--- node number n of a list
-abbrev pub nth : List Node → ℕ → Option Node
-nth [] n = none
-nth (x ∷ xs) zero = some x
-nth (x ∷ xs) (suc n) = nth xs n
 
 -- ---- one record on
 

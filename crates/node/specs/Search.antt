@@ -1,11 +1,11 @@
 -- Values by key (N2, N3): of the pairs of a hash, the first whose key is a string with those bytes. All pairs are gone through, from the last
--- to the first; the one met last is the first.
+-- to the first; the one met last is the first. That this is `firstWith` of the pairs is shown in `SearchLaws`.
 --
 -- What document 01 leaves open: a key whose payload points outside the event bytes has no bytes, so it matches none. Where a pair of the hash is
 -- missing there is no answer, whichever other pairs match.
 use Prim.Native.Nat.{ℕ, zero, suc, _+_, _-_}
-use mathlib.Core.Bool.{Bool, true, false, _&&_}
-use mathlib.Core.List.{List}
+use mathlib.Core.Bool.{Bool, false, _&&_}
+use mathlib.Core.List.{List, [], _∷_}
 use mathlib.Core.Option.{Option, none, some}
 use lib.Dec.{ltb, leb, eqb}
 use lib.ListN.{length, take, drop}
@@ -43,6 +43,11 @@ searchBack b events key zero v later = andThen (pairEnding b v) (λ (e : YamlHas
 searchBack b events key (suc p) v later =
     andThen (pairEnding b v) (λ (e : YamlHashEntry).
     andThen (childBefore b (e .key)) (λ (u : ℕ). searchBack b events key p u (earlier b events key (e .key) v later)))
+
+-- the value of the first of some pairs whose key is so, else `later`
+abbrev pub firstWith : (ℕ → Bool) → List YamlHashEntry → Option ℕ → Option ℕ
+firstWith is [] later = later
+firstWith is (e ∷ es) later = pick (is (e .key)) (some (e .value)) (firstWith is es later)
 
 unfoldable pub hashValue : List ℕ → List ℕ → ℕ → List ℕ → Option ℕ
 hashValue b events n key =

@@ -1,0 +1,389 @@
+-- The nodes that a call builds are the tree of its events, written in post-order, and their records are sound (N2, N3): kept by every step of the
+-- machine. Assumes nothing.
+use mathlib.Core.Path.{_≡_, refl, sym, ap, subst, _∙_}
+use mathlib.Core.Bool.{Bool, true, false, _&&_, not}
+use mathlib.Core.List.{List, [], _∷_, _++_, append-assoc, append-nil}
+use mathlib.Core.Option.{Option, none, some}
+use Prim.Native.Nat.{ℕ, zero, suc, _+_, _-_, _%_, _<_, _≤_}
+use native.Mathlib.Decide.{decLt}
+use native.Mathlib.Omega.{arith}
+use borrow.Author.Tests.{lt-ltb, le-ltb, le-leb, eq-eqb, ltb-true, eqb-true}
+use lib.Dec.{eqb, ltb, leb}
+use lib.ListN.{length, length-append}
+use Rattle.schema.specs.Record.{kindNumber}
+use Rattle.schema.specs.declared.plain.Resolved.{Resolved}
+use Rattle.schema.specs.declared.plain.Resolved.the-variants.{Null, Boolean, Integer, Real, Str, BadValue}
+use Rattle.text.specs.Offset.{byteOffset}
+use Rattle.text.specs.Admission.{admission, admissionNumber}
+use Rattle.text.specs.declared.admission.Admission.{Admission}
+use Rattle.text.specs.declared.admission.Admission.the-variants.{Admitted, TooLong, NotUtf8}
+use Rattle.provenance.specs.Reading.{Piece}
+use Rattle.event.specs.Read.{eventsLimit, partOf, readEvent}
+use Rattle.event.specs.declared.read.Event.{Event}
+use Rattle.event.specs.declared.read.Event.the-variants.{SequenceStart, SequenceEnd, MappingStart, MappingEnd, Scalar, Alias, Malformed}
+use Rattle.event.specs.declared.tag.YamlTag.{YamlTag}
+use Rattle.parser.specs.Pick.{pick}
+use Rattle.parser.specs.Record.{withList, aliasNode}
+use Rattle.parser.specs.Scalar.{ScalarAt, scalarPieces, suffixOf, tagInfo, resolvedBy, scalarNode}
+use Rattle.parser.specs.Collection.{withChild, awaitsValue, closes, members, collectionOver, collectionNode}
+use Rattle.parser.specs.Machine.{State, empty, Next, go, stop, Outcome, built, refused, rootDone, beforeRoot, withinDepth, withinRoom, completed, started, ended, closed, aliased, keeping, scalarAt, scalarKept, scalared, step, nextPlace, ending, run, runAll}
+use Rattle.parser.specs.Layout.{recordRoom, pieceRoom}
+use Rattle.parser.specs.Call.{admitted, building}
+use Rattle.parser.specs.RunLaws.{run-ended, run-on, run-stopped, stop-not-go}
+use Rattle.parser.specs.declared.record.Node.{Node}
+use Rattle.parser.specs.declared.stack.Open.{Open}
+use Rattle.node.specs.Forest.{Forest, nil, postOrder, nodesIn, trees, Tree, Sound}
+use Rattle.node.specs.Growth.{Move, opening, closing, leaf, moveOf, movesFrom, Growth, growing, grown, complete, growth, treeOf}
+
+-- ---- what holds between the growth and the machine's state
+
+-- the innermost collection is o, its children so far are f, `outer` the nodes before its first
+record Level (f : Forest) (o : Open) (outer xs : List Node) : Type 0 where
+  sound : Sound f
+  order : xs ≡ outer ++ postOrder f
+  before : o .before ≡ length outer
+  children : o .children ≡ trees f
+
+-- forests and collections, innermost first
+abbrev Nested : List Forest → List Open → List Node → Type 0
+Nested [] [] xs = xs ≡ []
+Nested [] (o ∷ os) xs = ⊥
+Nested (f ∷ fs) [] xs = ⊥
+Nested (f ∷ fs) (o ∷ os) xs = (outer : List Node) × Nested fs os outer × Level f o outer xs
+
+-- a complete tree and its nodes
+pub record Whole (x : Node) (kids : Forest) (xs : List Node) : Type 0 where
+  pub sound : Sound kids
+  pub root : Tree x kids
+  pub order : xs ≡ postOrder kids ++ (x ∷ [])
+
+abbrev Kept : Growth → List Open → List Node → Type 0
+Kept (growing fs) os xs = Nested fs os xs
+Kept (grown x kids) os xs = (os ≡ []) × Whole x kids xs
+
+-- ---- a node is complete
+
+completes :
+    (fs : List Forest) (os : List Open) (outer xs : List Node) (x : Node) (kids : Forest) (i : ℕ) →
+    Nested fs os outer → Sound kids → Tree x kids → xs ≡ outer ++ (postOrder kids ++ (x ∷ [])) →
+    Kept (complete x kids (growing fs)) (withChild i os) xs
+unfolding postOrder Sound
+completes [] [] outer xs x kids i n c t e = (refl, record { sound = c; root = t; order = e ∙ ap (λ (l : List Node). l ++ (postOrder kids ++ (x ∷ []))) n })
+completes [] (o ∷ os) outer xs x kids i n c t e = absurd n
+completes (f ∷ fs) [] outer xs x kids i n c t e = absurd n
+completes (f ∷ fs) (o ∷ os) outer xs x kids i (more, n, l) c t e =
+    let k = l .children in (
+      more,
+      n,
+      record {
+        sound = (l .sound, c, t);
+        order = e ∙ ap (λ (z : List Node). z ++ (postOrder kids ++ (x ∷ []))) (l .order) ∙ append-assoc more (postOrder f) (postOrder kids ++ (x ∷ []));
+        before = l .before;
+        children = omega arith;
+      },
+    )
+
+-- ---- a step that leads on
+
+-- what it adds to the nodes, and to the growth
+record Advance (m : Move) (g : Growth) (st n : State) : Type 0 where
+  new : List Node
+  next : Growth
+  nodes : n .nodes ≡ st .nodes ++ new
+  kept : Kept next (n .opens) (n .nodes)
+  onward : (ms : List Move) (ys : List Node) → growth (m ∷ ms) (new ++ ys) g ≡ growth ms ys next
+
+true-not-false : true ≡ false → ⊥
+true-not-false e = let z : _≡_ {A = ℕ} 0 1 = cc in omega arith
+
+-- a row that does not refuse
+passes : (t : Bool) (m : ℕ) (x : Next) (n : State) → pick t (stop m) x ≡ go n → (t ≡ false) × (x ≡ go n)
+passes true m x n e = absurd (stop-not-go m n e)
+passes false m x n e = (refl, e)
+
+same-state : (a n : State) → go a ≡ go n → a ≡ n
+same-state a n e = cc
+
+reached : (m : Move) (g : Growth) (st a n : State) → Advance m g st a → go a ≡ go n → Advance m g st n
+reached m g st a n v e = subst (Advance m g st) (same-state a n e) v
+
+-- a complete tree has a root that is done
+root-is-done : (st : State) (x : Node) (kids : Forest) → Kept (grown x kids) (st .opens) (st .nodes) → rootDone st ≡ true
+unfolding rootDone
+root-is-done st x kids k =
+    let o : length (st .opens) ≡ 0 = ap length (k .0) in
+    let n : length (st .nodes) ≡ nodesIn kids + 1 = ap length (k .1 .order) ∙ length-append (postOrder kids) (x ∷ []) in
+    rw (eq-eqb (length (st .opens)) 0 o, lt-ltb 0 (length (st .nodes)) (omega arith))
+
+-- ---- leaves
+
+leaf-tree : (x : Node) → 1 ≤ x .kind → x .kind < 7 → x .subtree ≡ 1 → Tree x nil
+unfolding postOrder
+leaf-tree x a b c =
+    record {
+      kind = rw (le-leb 1 (x .kind) a, le-leb (x .kind) 8 (omega arith));
+      count = c;
+      scalar = λ h. refl;
+      array = λ e. absurd (omega arith);
+      hash = λ e. absurd (omega arith);
+    }
+
+leaf-added :
+    (g : Growth) (st : State) (x : Node) (ps : List Piece) → Kept g (st .opens) (st .nodes) → rootDone st ≡ false → Tree x nil →
+    Advance leaf g st (completed x (record { nodes = st .nodes; opens = st .opens; pieces = ps }))
+unfolding completed growth Sound postOrder
+leaf-added (growing fs) st x ps k d t =
+    record {
+      new = x ∷ [];
+      next = complete x nil (growing fs);
+      nodes = refl;
+      kept = completes fs (st .opens) (st .nodes) (st .nodes ++ (x ∷ [])) x nil (x .extent .start) k tt t refl;
+      onward = λ ms ys. refl;
+    }
+leaf-added (grown y others) st x ps k d t = absurd (true-not-false (sym (root-is-done st y others k) ∙ d))
+
+leaf-kept :
+    (g : Growth) (st n : State) (room : ℕ) (x : Node) (l : Option (List Piece)) → Kept g (st .opens) (st .nodes) → rootDone st ≡ false → Tree x nil →
+    keeping room x l st ≡ go n → Advance leaf g st n
+unfolding keeping
+leaf-kept g st n room x none k d t e = reached leaf g st (completed x st) n (leaf-added g st x (st .pieces) k d t) e
+leaf-kept g st n room x (some ps) k d t e =
+    let y = withList x (length (st .pieces)) (length ps) in
+    let u : Tree y nil = record { kind = t .kind; count = t .count; scalar = t .scalar; array = t .array; hash = t .hash } in
+    let a = completed y (record { nodes = st .nodes; opens = st .opens; pieces = st .pieces ++ ps }) in
+    reached leaf g st a n (leaf-added g st y (st .pieces ++ ps) k d u) (passes (ltb room (length (st .pieces) + length ps)) 8 (go a) n e .1)
+
+kind-bounds : (r : Resolved) → (1 ≤ kindNumber r) × (kindNumber r < 7)
+kind-bounds Null = (omega arith, omega arith)
+kind-bounds (Boolean b) = (omega arith, omega arith)
+kind-bounds (Integer z) = (omega arith, omega arith)
+kind-bounds Real = (omega arith, omega arith)
+kind-bounds Str = (omega arith, omega arith)
+kind-bounds BadValue = (omega arith, omega arith)
+
+scalar-kept :
+    (text events : List ℕ) (room : ℕ) (x : ScalarAt) (tag : YamlTag) (g : Growth) (st n : State) →
+    Kept g (st .opens) (st .nodes) → rootDone st ≡ false → scalarKept text events room x tag st ≡ go n → Advance leaf g st n
+unfolding scalarKept scalarNode
+scalar-kept text events room x tag g st n k d e =
+    let r = resolvedBy events (x .value) (x .style) tag in
+    let y = scalarNode text x (tagInfo text (x .start) (suffixOf tag)) r in
+    leaf-kept g st n room y (scalarPieces text x) k d (leaf-tree y (kind-bounds r .0) (kind-bounds r .1) refl) e
+
+-- ---- ends
+
+-- a mapping that ends has as many values as keys
+even : (mapping is : Bool) (c : ℕ) → pick mapping (is && eqb (c % 2) 0) (not is) ≡ true → is ≡ true → c % 2 ≡ 0
+even true true c e q = eqb-true (c % 2) 0 e
+even true false c e q = absurd (true-not-false (sym q))
+even false true c e q = absurd (true-not-false (sym e))
+even false false c e q = absurd (true-not-false (sym q))
+
+collection-tree :
+    (text : List ℕ) (mapping : Bool) (o : Open) (kids : Forest) (s e n : ℕ) →
+    closes mapping o ≡ true → o .children ≡ trees kids → n ≡ o .before + nodesIn kids → Tree (collectionOver text o s e n) kids
+unfolding collectionOver closes members
+collection-tree text mapping o kids s e n ends c m = by (o .mapping) refl
+  where
+    by : (is : Bool) → o .mapping ≡ is → Tree (collectionOver text o s e n) kids
+    by true q =
+        let p = even mapping (o .mapping) (o .children) ends q in
+        let k : _≡_ {A = ℕ} (pick (o .mapping) 8 7) 8 = rw q refl in
+        record {
+          kind = rw q refl;
+          count = omega arith;
+          scalar = λ h. absurd (omega arith);
+          array = λ h. absurd (omega arith);
+          hash = λ h. rw q (omega arith);
+        }
+    by false q =
+        let k : _≡_ {A = ℕ} (pick (o .mapping) 8 7) 7 = rw q refl in
+        record {
+          kind = rw q refl;
+          count = omega arith;
+          scalar = λ h. absurd (omega arith);
+          array = λ h. rw q c;
+          hash = λ h. absurd (omega arith);
+        }
+
+end-added :
+    (text : List ℕ) (mapping : Bool) (o : Open) (os : List Open) (g : Growth) (st : State) (i : ℕ) → Kept g (o ∷ os) (st .nodes) → closes mapping o ≡ true →
+    Advance closing g st (completed (collectionNode text o i (length (st .nodes))) (record { nodes = st .nodes; opens = os; pieces = st .pieces }))
+unfolding completed collectionNode growth
+end-added text mapping o os (growing []) st i k c = absurd k
+end-added text mapping o os (growing (kids ∷ fs)) st i (outer, nest, l) c =
+    let x = collectionNode text o i (length (st .nodes)) in
+    let n : length (st .nodes) ≡ length outer + nodesIn kids = ap length (l .order) ∙ length-append outer (postOrder kids) in
+    let b = l .before in
+    let t = collection-tree text mapping o kids _ _ (length (st .nodes)) c (l .children) (omega arith) in
+    let e : st .nodes ++ (x ∷ []) ≡ outer ++ (postOrder kids ++ (x ∷ [])) = ap (λ (z : List Node). z ++ (x ∷ [])) (l .order) ∙ append-assoc outer (postOrder kids) (x ∷ []) in
+    record {
+      new = x ∷ [];
+      next = complete x kids (growing fs);
+      nodes = refl;
+      kept = completes fs os outer (st .nodes ++ (x ∷ [])) x kids (x .extent .start) nest (l .sound) t e;
+      onward = λ ms ys. refl;
+    }
+end-added text mapping o os (grown y others) st i k c = absurd (let z : _≡_ {A = ℕ} (suc (length os)) 0 = ap length (k .0) in omega arith)
+
+closes-on : (t : Bool) (m : ℕ) (x : Next) (n : State) → pick t x (stop m) ≡ go n → (t ≡ true) × (x ≡ go n)
+closes-on true m x n e = (refl, e)
+closes-on false m x n e = absurd (stop-not-go m n e)
+
+end-kept :
+    (text : List ℕ) (room : ℕ) (mapping : Bool) (index : ℕ) (os : List Open) (g : Growth) (st n : State) →
+    Kept g os (st .nodes) → closed text room mapping index os st ≡ go n → Advance closing g st n
+unfolding ended withinRoom
+end-kept text room mapping index [] g st n k e = absurd (stop-not-go 4 n e)
+end-kept text room mapping index (o ∷ os) g st n k e =
+    let c = closes-on (closes mapping o) 4 (ended text room index o os st) n e in
+    let a = completed (collectionNode text o (byteOffset text index) (length (st .nodes))) (record { nodes = st .nodes; opens = os; pieces = st .pieces }) in
+    reached closing g st a n (end-added text mapping o os g st (byteOffset text index) k (c .0)) (passes (leb room (length (st .nodes))) 7 (go a) n (c .1) .1)
+
+-- ---- starts
+
+start-kept :
+    (text : List ℕ) (mapping : Bool) (index : ℕ) (tag : YamlTag) (g : Growth) (st n : State) →
+    Kept g (st .opens) (st .nodes) → started text mapping index tag st ≡ go n → Advance opening g st n
+unfolding started beforeRoot withinDepth growth Sound postOrder
+start-kept text mapping index tag (grown y others) st n k e = absurd (true-not-false (sym (root-is-done st y others k) ∙ passes (rootDone st) 5 _ n e .0))
+start-kept text mapping index tag (growing fs) st n k e =
+    let a : State = record {
+      nodes = st .nodes;
+      opens = record { mapping = mapping; start = byteOffset text index; suffix = suffixOf tag; children = 0; first = 0; before = length (st .nodes) } ∷ st .opens;
+      pieces = st .pieces;
+    } in
+    let z : st .nodes ≡ st .nodes ++ [] = sym (append-nil (st .nodes)) in
+    reached opening (growing fs) st a n
+    (record {
+      new = [];
+      next = growing (nil ∷ fs);
+      nodes = z;
+      kept = (st .nodes, k, record { sound = tt; order = z; before = refl; children = refl });
+      onward = λ ms ys. refl;
+    })
+    (passes (leb 64 (length (st .opens))) 6 (go a) n (passes (rootDone st) 5 _ n e .1) .1)
+
+-- ---- every step
+
+module _ (text events : List ℕ) (room pieceRoom : ℕ) where
+  step-kept : (e : Event) (g : Growth) (st n : State) → Kept g (st .opens) (st .nodes) → step text events room pieceRoom e st ≡ go n → Advance (moveOf e) g st n
+  unfolding aliased scalared beforeRoot withinRoom
+  step-kept (SequenceStart index tag m) g st n k e = start-kept text false index tag g st n k e
+  step-kept (SequenceEnd index m) g st n k e = end-kept text room false index (st .opens) g st n k e
+  step-kept (MappingStart index tag m) g st n k e = start-kept text true index tag g st n k e
+  step-kept (MappingEnd index m) g st n k e = end-kept text room true index (st .opens) g st n k e
+  step-kept (Scalar index column style emptySpan tag value m) g st n k e =
+      let a = passes (rootDone st) 5 _ n e in
+      let b = passes (leb room (length (st .nodes))) 7 _ n (a .1) in
+      scalar-kept text events pieceRoom (scalarAt text (awaitsValue (st .opens)) index column style emptySpan (partOf events value) (value .at)) tag g st n k (a .0) (b .1)
+  step-kept (Alias index m) g st n k e =
+      let a = passes (rootDone st) 5 _ n e in
+      let b = passes (leb room (length (st .nodes))) 7 _ n (a .1) in
+      let x = aliasNode (byteOffset text index) in
+      reached leaf g st (completed x st) n (leaf-added g st x (st .pieces) k (a .0) (leaf-tree x (omega arith) (omega arith) refl)) (b .1)
+  step-kept Malformed g st n k e = absurd (stop-not-go 3 n e)
+
+  -- ---- the ending
+
+  nested-root : (fs : List Forest) (os : List Open) (xs : List Node) → Nested fs os xs → length os ≡ 0 → length xs ≡ 0
+  nested-root [] [] xs n e = ap length n
+  nested-root [] (o ∷ os) xs n e = absurd n
+  nested-root (f ∷ fs) [] xs n e = absurd n
+  nested-root (f ∷ fs) (o ∷ os) xs n e = absurd (omega arith)
+
+  both-true : (a b : Bool) → (a && b) ≡ true → (a ≡ true) × (b ≡ true)
+  both-true true b e = (refl, e)
+  both-true false b e = absurd (true-not-false (sym e))
+
+  built-at : (t : Bool) (xs ys : List Node) (ps qs : List Piece) (k : ℕ) → pick t (built xs ps) (refused 9 k) ≡ built ys qs → (t ≡ true) × (xs ≡ ys)
+  built-at true xs ys ps qs k e = (refl, cc)
+  built-at false xs ys ps qs k e = absurd (let z : _≡_ {A = ℕ} 0 1 = cc in omega arith)
+
+  -- what the rest of the events make of a growth
+  record Made (ms : List Move) (g : Growth) (before xs : List Node) : Type 0 where
+    new : List Node
+    nodes : xs ≡ before ++ new
+    root : Node
+    kids : Forest
+    tree : growth ms new g ≡ grown root kids
+    whole : Whole root kids xs
+
+  ending-made : (k : ℕ) (g : Growth) (st : State) (xs : List Node) (ps : List Piece) → Kept g (st .opens) (st .nodes) → ending k st ≡ built xs ps → Made [] g (st .nodes) xs
+  unfolding ending rootDone growth
+  ending-made k (growing fs) st xs ps h e =
+      let d = both-true (eqb (length (st .opens)) 0) (ltb 0 (length (st .nodes))) (built-at (rootDone st) (st .nodes) xs (st .pieces) ps k e .0) in
+      let l = nested-root fs (st .opens) (st .nodes) h (eqb-true (length (st .opens)) 0 (d .0)) in
+      let m = ltb-true 0 (length (st .nodes)) (d .1) in
+      absurd (omega arith)
+  ending-made k (grown x kids) st xs ps h e =
+      let q = sym (built-at (rootDone st) (st .nodes) xs (st .pieces) ps k e .1) in
+      record {
+        new = [];
+        nodes = q ∙ sym (append-nil (st .nodes));
+        root = x;
+        kids = kids;
+        tree = refl;
+        whole = record { sound = h .1 .sound; root = h .1 .root; order = q ∙ h .1 .order };
+      }
+
+  -- ---- the run
+
+  after-step : (m : Move) (ms : List Move) (g : Growth) (st n : State) (xs : List Node) → (v : Advance m g st n) → Made ms (v .next) (n .nodes) xs → Made (m ∷ ms) g (st .nodes) xs
+  after-step m ms g st n xs v r =
+      record {
+        new = v .new ++ r .new;
+        nodes = r .nodes ∙ ap (λ (z : List Node). z ++ r .new) (v .nodes) ∙ append-assoc (st .nodes) (v .new) (r .new);
+        root = r .root;
+        kids = r .kids;
+        tree = v .onward ms (r .new) ∙ r .tree;
+        whole = r .whole;
+      }
+
+  run-made :
+      (f i k : ℕ) (g : Growth) (st : State) (xs : List Node) (ps : List Piece) → Kept g (st .opens) (st .nodes) →
+      run text events room pieceRoom f i k st ≡ built xs ps → Made (movesFrom events f i) g (st .nodes) xs
+  unfolding run movesFrom
+  run-made zero i k g st xs ps h e = ending-made k g st xs ps h e
+  run-made (suc f) i k g st xs ps h e = by (decLt i (length events)) (λ n. run-made f (nextPlace (readEvent events i)) (k + 1) (n .0) (n .1) xs ps)
+    where
+      Rest : Type 0
+      Rest =
+          (n : Growth × State) → Kept (n .0) (n .1 .opens) (n .1 .nodes) → run text events room pieceRoom f (nextPlace (readEvent events i)) (k + 1) (n .1) ≡ built xs ps →
+          Made (movesFrom events f (nextPlace (readEvent events i))) (n .0) (n .1 .nodes) xs
+
+      onward : i < length events → Rest → (n : Next) → step text events room pieceRoom (readEvent events i) st ≡ n → Made (movesFrom events (suc f) i) g (st .nodes) xs
+      onward l rest (stop m) q = absurd (let z : refused m k ≡ built xs ps = sym (run-stopped text events room pieceRoom (suc f) i k m st (omega arith) l q) ∙ e in let y : _≡_ {A = ℕ} 0 1 = cc in omega arith)
+      onward l rest (go n) q =
+          let v = step-kept (readEvent events i) g st n h q in
+          let p : suc f - 1 ≡ f = omega arith in
+          let r = run-on text events room pieceRoom (suc f) i k st n (omega arith) l q in
+          rw (lt-ltb i (length events) l) (after-step (moveOf (readEvent events i)) _ g st n xs v (rest (v .next, n) (v .kept) (rw p at (sym r ∙ e))))
+
+      by : Dec (i < length events) → Rest → Made (movesFrom events (suc f) i) g (st .nodes) xs
+      by (yes l) rest = onward l rest (step text events room pieceRoom (readEvent events i) st) refl
+      by (no l) rest = rw (le-ltb i (length events) (omega arith)) (ending-made k g st xs ps h (sym (run-ended text events room pieceRoom (suc f) i k st (omega arith)) ∙ e))
+
+-- ---- the call
+
+refused-not-built : (m k : ℕ) (xs : List Node) (ps : List Piece) → refused m k ≡ built xs ps → ⊥
+refused-not-built m k xs ps e = let z : _≡_ {A = ℕ} 0 1 = cc in omega arith
+
+admitted-built : (a : Admission) (o : Outcome) (xs : List Node) (ps : List Piece) → admitted a o ≡ built xs ps → o ≡ built xs ps
+admitted-built (Admitted ascii) o xs ps e = e
+admitted-built TooLong o xs ps e = absurd (refused-not-built (admissionNumber TooLong) 0 xs ps e)
+admitted-built NotUtf8 o xs ps e = absurd (refused-not-built (admissionNumber NotUtf8) 0 xs ps e)
+
+limited-built : (t : Bool) (o : Outcome) (xs : List Node) (ps : List Piece) → pick t (refused 1 0) o ≡ built xs ps → o ≡ built xs ps
+limited-built true o xs ps e = absurd (refused-not-built 1 0 xs ps e)
+limited-built false o xs ps e = e
+
+-- the nodes that a call builds are those of the tree of its events, in post-order
+pub built-tree :
+    (text events : List ℕ) (size pieceSize : ℕ) (xs : List Node) (ps : List Piece) → building text events size pieceSize ≡ built xs ps →
+    (x : Node) × (kids : Forest) × (treeOf events xs ≡ grown x kids) × Whole x kids xs
+unfolding building runAll
+built-tree text events size pieceSize xs ps e =
+    let r = admitted-built (admission text) _ xs ps (limited-built (ltb eventsLimit (length events)) _ xs ps e) in
+    let m = run-made text events (recordRoom size) (pieceRoom pieceSize) (length events) 0 0 (growing []) empty xs ps refl r in
+    (m .root, m .kids, ap (λ (ys : List Node). treeOf events ys) (m .nodes) ∙ m .tree, m .whole)

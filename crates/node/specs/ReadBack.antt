@@ -1,0 +1,33 @@
+-- What the accessors give back of a tree (N2, N3): its items, its pairs, equal keys included, the value of a key, and of each record but the root
+-- exactly one collection whose child it is. Told by the accessors' own answers.
+use mathlib.Core.Path.{_≡_}
+use mathlib.Core.Logic.{_⊎_}
+use mathlib.Core.List.{List}
+use mathlib.Core.Option.{none, some}
+use Prim.Native.Nat.{ℕ, _+_, _<_}
+use Rattle.parser.specs.declared.record.Node.{Node}
+use Rattle.node.specs.Nth.{nth}
+use Rattle.node.specs.Record.{recordAt}
+use Rattle.node.specs.Child.{recordBefore, arrayItem}
+use Rattle.node.specs.Entry.{hashEntry}
+use Rattle.node.specs.Search.{keyIs, firstWith, hashValue}
+use Rattle.node.specs.declared.entry.YamlHashEntry.{YamlHashEntry}
+use Rattle.node.specs.Forest.{Forest, nil, snoc, nodesIn, roots, pairsOf, Has}
+
+-- record c is an item of n, or a key or a value of one of its pairs
+abbrev pub IsChild : List ℕ → ℕ → ℕ → Type 0
+IsChild b n c =
+    ((i : ℕ) × (arrayItem b n i ≡ some c))
+    ⊎ ((i : ℕ) × (e : YamlHashEntry) × (hashEntry b n i ≡ some e) × ((e .key ≡ c) ⊎ (e .value ≡ c)))
+
+-- of the buffer b, in which n nodes were built from these event bytes, the tree of x with its children
+pub record ReadBack (b events : List ℕ) (n : ℕ) (x : Node) (kids : Forest) : Type 0 where
+  pub root : (recordBefore b n ≡ some (nodesIn kids)) × (n ≡ nodesIn kids + 1)
+  pub records : (s : ℕ) (y : Node) (others : Forest) → Has (snoc nil x kids) 0 s y others → recordAt b (s + nodesIn others) ≡ some y
+  pub items : (s : ℕ) (y : Node) (others : Forest) → Has (snoc nil x kids) 0 s y others → y .kind ≡ 7 → (i : ℕ) → arrayItem b (s + nodesIn others) i ≡ nth (roots s others) i
+  pub pairs : (s : ℕ) (y : Node) (others : Forest) → Has (snoc nil x kids) 0 s y others → y .kind ≡ 8 → (i : ℕ) → hashEntry b (s + nodesIn others) i ≡ nth (pairsOf s others) i
+  pub values :
+      (s : ℕ) (y : Node) (others : Forest) → Has (snoc nil x kids) 0 s y others → y .kind ≡ 8 → (key : List ℕ) →
+      hashValue b events (s + nodesIn others) key ≡ firstWith (keyIs b events key) (pairsOf s others) none
+  pub one-parent : (c : ℕ) → c < nodesIn kids → (p : ℕ) × IsChild b p c × ((m : ℕ) → IsChild b m c → m ≡ p)
+  pub root-no-child : (m : ℕ) → IsChild b m (nodesIn kids) → ⊥
