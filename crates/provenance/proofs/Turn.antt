@@ -3,7 +3,7 @@ use mathlib.Core.Path.{_≡_, refl, sym, ap, _∙_, subst}
 use mathlib.Core.Logic.{⊎-elim}
 use mathlib.Core.List.{List, [], _∷_, _++_, append-nil, append-assoc}
 use Prim.{tt}
-use Prim.Native.Nat.{ℕ, suc, _+_, _-_, _*_, _≤_, _<_}
+use Prim.Native.Nat.{ℕ, zero, suc, _+_, _-_, _*_, _≤_, _<_}
 use native.Mathlib.Omega.{arith}
 use lib.Dec.{ltb}
 use lib.ListN.{length, drop, set, length-append, length-set}
@@ -293,3 +293,23 @@ module _ (at : ℕ → ℕ → Step) (L len base m : ℕ) where
 
       pub end-kept : Kept m (laid base base (at-end .0)) (putOpen buf n base from s)
       end-kept = subst (λ (l : List Piece). Kept m l (putOpen buf n base from s)) (sym (at-end .2)) kept-W
+
+  -- equal bytes, one step each
+  no-letter : (buf : List ℕ) (s v from n : ℕ) → Going buf s v from n → Going buf (s + 0) (v + 0) from n
+  no-letter buf s v from n h =
+      let es : s ≡ s + 0 = omega arith in
+      let ev : v ≡ v + 0 = omega arith in
+      subst (λ (x : ℕ). Going buf x (v + 0) from n) es (subst (λ (x : ℕ). Going buf s x from n) ev h)
+
+  one-letter : (fair : Fair at L len) (buf : List ℕ) (s v from n k : ℕ) → Going buf (s + k) (v + k) from n → v + k < len
+      → at (s + k) (v + k) ≡ Verbatim 1 → Going buf (s + suc k) (v + suc k) from n
+  one-letter fair buf s v from n k h more e =
+      let es : s + k + 1 ≡ s + suc k = omega arith in
+      let ev : v + k + 1 ≡ v + suc k = omega arith in
+      subst (λ (x : ℕ). Going buf x (v + suc k) from n) es (subst (λ (x : ℕ). Going buf (s + k + 1) x from n) ev (on-verbatim fair buf (s + k) (v + k) from n h more 1 e))
+
+  pub on-letters : (fair : Fair at L len) (buf : List ℕ) (s v from n k : ℕ) → Going buf s v from n → v + k ≤ len
+      → ((j : ℕ) → j < k → at (s + j) (v + j) ≡ Verbatim 1) → Going buf (s + k) (v + k) from n
+  on-letters fair buf s v from n zero h b all = no-letter buf s v from n h
+  on-letters fair buf s v from n (suc k) h b all =
+      one-letter fair buf s v from n k (on-letters fair buf s v from n k h (omega arith) (λ j l. all j (omega arith))) (omega arith) (all k (omega arith))

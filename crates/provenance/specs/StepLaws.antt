@@ -1,7 +1,7 @@
 -- What a step takes: at least a byte of the source or the rest of the value, and no more than there is, but for escapes. Over any table
 -- of escapes that is fair. Assumes nothing.
 use mathlib.Core.Path.{_≡_, refl, sym, ap, _∙_, subst}
-use mathlib.Core.Bool.{Bool, true, false}
+use mathlib.Core.Bool.{true}
 use mathlib.Core.Logic.{_⊎_, inl, inr, ⊎-elim}
 use mathlib.Core.List.{List, [], _∷_}
 use Prim.Native.Nat.{ℕ, _+_, _≤_, _<_}
@@ -16,7 +16,7 @@ use Rattle.provenance.specs.declared.step.Step.the-variants.{Verbatim, R
 use Rattle.provenance.specs.Run.{whiteRun, newlinesIn, cut, blankRun, onlyNewlines}
 use Rattle.provenance.specs.Escape.{FairTable}
 use Rattle.provenance.specs.Grammar.{Rules, orElse, sameBytes, paired, breakPair, opensBreak, breakStep, asStep, escapeStep, equalStep, endStep, step, stepAt}
-use Rattle.provenance.specs.Tests.{clash, by-answer, and-both, picked, passed}
+use Rattle.provenance.specs.Tests.{clash, and-both, picked, passed}
 use Rattle.provenance.specs.RunLaws.{run-within, blanks-within, cut-within, cut-some, cut-is, blanks-are, front-of}
 
 -- ---- equal bytes

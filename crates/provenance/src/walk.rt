@@ -5,6 +5,7 @@ ghost use lib.ListN.{length};
 ghost use Rattle.provenance.specs.Grammar.{rulesOf};
 ghost use Rattle.provenance.specs.Reading.{readingOf};
 ghost use Rattle.provenance.specs.Layout.{zeros, piecesIf, answerOf, bufferOf};
+use crate::letter::letters;
 use crate::step::Step;
 use crate::step::break_run;
 use crate::step::known_after;
@@ -25,7 +26,8 @@ pub enum Walked {
 // Walks `value` along `src`, which stands at `base` of its text, and leaves the pieces in a buffer that is lent zero.
 //
 // `from..s` are the verbatim bytes not yet written. Past the room the walk goes on and only counts: whether there is a reading is not
-// known before its end. No run of white space that starts before `known` holds a newline, so none is looked at twice.
+// known before its end. No run of white space that starts before `known` holds a newline, so none is looked at twice. After an equal byte
+// come mostly letters, which are passed over at once.
 pub fn walk_scalar_provenance(
     src: &[u8],
     value: &[u8],
@@ -52,6 +54,9 @@ pub fn walk_scalar_provenance(
             Step::Verbatim(k) => {
                 s += k;
                 v += k;
+                let more = letters(&src[s..], &value[v..]);
+                s += more;
+                v += more;
             }
             Step::Replacement(a, b) => {
                 n = put_replacement(pieces, n, base, from, s, a, b);

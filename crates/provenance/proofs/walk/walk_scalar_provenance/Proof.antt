@@ -5,16 +5,19 @@ use mathlib.Core.Path.{_≡_, refl, sym, ap, _∙_}
 use mathlib.Core.Logic.{⊎-elim, _⊎_}
 use Prim.Native.Nat.{ℕ, _+_, _-_, _≤_, _<_}
 use native.Mathlib.Omega.{arith}
-use lib.ListN.{length}
+use lib.ListN.{length, drop, length-drop}
 use borrow.Author.Needs.{needs}
 use Rattle.provenance.specs.declared.step.Step.{Step}
 use Rattle.provenance.specs.declared.step.Step.the-variants.{Verbatim, Replacement}
 use Rattle.provenance.specs.Grammar.{isBlock, rulesOf, stepAt}
 use Rattle.provenance.specs.Writing.{writtenLen}
+use Rattle.provenance.specs.Letters.{Letters}
+use Rattle.provenance.specs.LetterLaws.{letters-steps}
 use Rattle.provenance.specs.EscapeLaws.{style-fair}
 use Rattle.provenance.specs.StepLaws.{Fair, grammar-fair}
 use Rattle.provenance.proofs.Steps.{Clear, tells, run-small, clear-after, clear-on}
-use Rattle.provenance.proofs.Turn.{Going, begins, on-verbatim, on-replacement, within-of}
+use Rattle.provenance.proofs.Parts.{part-is}
+use Rattle.provenance.proofs.Turn.{Going, begins, on-verbatim, on-letters, on-replacement, within-of}
 use Rattle.provenance.proofs.Walks.{ends-stuck, ends-listed, ends-full}
 use Rattle.provenance.proofs.walk.walk_scalar_provenance.Statement.{statement}
 use Rattle.provenance.proofs.walk.walk_scalar_provenance.Tie as tie
@@ -50,6 +53,30 @@ is-verbatim c = sym (c .before .before .before .step-at .ensures) ∙ c .before 
 verbatim-bounds : (c : tie.After-known-told Inv-loop μ-loop)
     → (0 < c .before .t .given .0 .0) × (c .before .before .before .before .before .before .before .loop .s + c .before .t .given .0 .0 ≤ length (c .before .before .before .before .before .before .before .before .before .before .before .args .src .now)) × (c .before .before .before .before .before .before .before .loop .v + c .before .t .given .0 .0 ≤ length (c .before .before .before .before .before .before .before .before .before .before .before .args .value .now))
 verbatim-bounds c = fair-here (c .before .before .before .before .before .before) .same (c .before .before .before .before .before .before .before .loop .s) (c .before .before .before .before .before .before .before .loop .v) (c .before .t .given .0 .0) (c .before .before .before .before .before .before .loop-test .taken) (is-verbatim c)
+
+-- and the letters after it
+abbrev reached-s : (c : tie.After-known-told Inv-loop μ-loop) → ℕ
+reached-s c = c .before .before .before .before .before .before .before .loop .s + c .before .t .given .0 .0
+
+abbrev reached-v : (c : tie.After-known-told Inv-loop μ-loop) → ℕ
+reached-v c = c .before .before .before .before .before .before .before .loop .v + c .before .t .given .0 .0
+
+letters-here : (c : tie.After-letters Inv-loop μ-loop) → Letters (drop (reached-s (c .before .before .before)) (c .before .before .before .before .before .before .before .before .before .before .before .before .before .before .args .src .now)) (drop (reached-v (c .before .before .before)) (c .before .before .before .before .before .before .before .before .before .before .before .before .before .before .args .value .now)) (c .letters .result)
+letters-here c =
+    let a = c .before .before .before .before .before .before .before .before .before .before .before .before .before .before .args in
+    rw (part-is (a .src .now) (reached-s (c .before .before .before)), part-is (a .value .now) (reached-v (c .before .before .before))) at (c .letters .ensures)
+
+letters-bounds : (c : tie.After-letters Inv-loop μ-loop)
+    → (reached-s (c .before .before .before) + c .letters .result ≤ length (c .before .before .before .before .before .before .before .before .before .before .before .before .before .before .args .src .now)) × (reached-v (c .before .before .before) + c .letters .result ≤ length (c .before .before .before .before .before .before .before .before .before .before .before .before .before .before .args .value .now))
+letters-bounds c =
+    let a = c .before .before .before .before .before .before .before .before .before .before .before .before .before .before .args in
+    let b = verbatim-bounds (c .before .before .before) in
+    let l = letters-here c in
+    let s = l .in-source in
+    let v = l .in-value in
+    let ds = length-drop (reached-s (c .before .before .before)) (a .src .now) in
+    let dv = length-drop (reached-v (c .before .before .before)) (a .value .now) in
+    (omega arith, omega arith)
 
 -- the step is a replacement
 is-replacement : (c : tie.After-known-told2 Inv-loop μ-loop) → steps (c .before .before .before .before .before .before) (c .before .before .before .before .before .before .before .loop .s) (c .before .before .before .before .before .before .before .loop .v) ≡ Replacement (c .before .t2 .given .0 .0) (c .before .t2 .given .0 .1 .0)
@@ -101,14 +128,47 @@ add-s c = let b = verbatim-bounds c in omega arith
 add-v : tie.Need-add-v Inv-loop μ-loop
 add-v c = let b = verbatim-bounds c in omega arith
 
+sub-letters : tie.Need-sub-letters Inv-loop μ-loop
+sub-letters c = let b = verbatim-bounds c in omega arith
+
+part-letters-start : tie.Need-part-letters-start Inv-loop μ-loop
+part-letters-start c = let b = verbatim-bounds c in omega arith
+
+part-letters-end : tie.Need-part-letters-end Inv-loop μ-loop
+part-letters-end c = let b = verbatim-bounds c in omega arith
+
+sub-letters-2 : tie.Need-sub-letters-2 Inv-loop μ-loop
+sub-letters-2 c = let b = verbatim-bounds (c .before) in omega arith
+
+part-letters-start-2 : tie.Need-part-letters-start-2 Inv-loop μ-loop
+part-letters-start-2 c = let b = verbatim-bounds (c .before) in omega arith
+
+part-letters-end-2 : tie.Need-part-letters-end-2 Inv-loop μ-loop
+part-letters-end-2 c = let b = verbatim-bounds (c .before) in omega arith
+
+letters-requires : tie.Need-letters-requires Inv-loop μ-loop
+letters-requires c κs = tt
+
+add-s-2 : tie.Need-add-s-2 Inv-loop μ-loop
+add-s-2 c = let b = letters-bounds c in omega arith
+
+add-v-2 : tie.Need-add-v-2 Inv-loop μ-loop
+add-v-2 c = let b = letters-bounds c in omega arith
+
 loop-less : tie.Need-loop-less Inv-loop μ-loop
-loop-less c = let b = verbatim-bounds c in omega arith
+loop-less c = let b = verbatim-bounds (c .before .before .before) in let l = letters-bounds c in omega arith
 
 loop-again : tie.Need-loop-again Inv-loop μ-loop
 loop-again c =
-    let w = c .before .before .before .before .before .before .before .loop in (
-      on-verbatim _ _ _ _ _ (fair-here (c .before .before .before .before .before .before)) _ (w .s) (w .v) (w .from) (w .n) (w .inv .0) (c .before .before .before .before .before .before .loop-test .taken) _ (is-verbatim c),
-      clear-on (c .before .before .before .before .before .before .before .before .before .before .before .args .src .now) (w .s) (w .s + c .before .t .given .0 .0) (c .before .before .before .before .known-after .result) (omega arith) (clear-here (c .before .before .before .before)),
+    let t = c .before .before .before in
+    let i = t .before .before .before .before .before .before in
+    let a = i .before .before .before .before .before .args in
+    let w = i .before .loop in
+    let k = t .before .t .given .0 .0 in
+    let b = letters-bounds c in
+    let g = on-verbatim _ _ _ _ _ (fair-here i) _ (w .s) (w .v) (w .from) (w .n) (w .inv .0) (i .loop-test .taken) k (is-verbatim t) in (
+      on-letters _ _ _ _ _ (fair-here i) _ (w .s + k) (w .v + k) (w .from) (w .n) (c .letters .result) g (b .1) (letters-steps (a .style) (a .column) (a .src .now) (a .value .now) (w .s + k) (w .v + k) (c .letters .result) (letters-here c)),
+      clear-on (a .src .now) (w .s) (w .s + k + c .letters .result) (t .before .before .before .before .known-after .result) (omega arith) (clear-here (t .before .before .before .before)),
     )
 
 enum-known-t-2 : tie.Need-enum-known-t-2 Inv-loop μ-loop
@@ -125,11 +185,11 @@ put-replacement-requires c κs =
     let b = replacement-bounds (c .before) in
     (omega arith, omega arith, omega arith, ⊎-elim (λ z. omega arith) (λ z. omega arith) (b .1), omega arith)
 
-add-s-2 : tie.Need-add-s-2 Inv-loop μ-loop
-add-s-2 c = let limit = c .before .before .before .before .before .before .before .before .before .before .before .before .before .before .before .pre .0 .0 in let i = replaced c .in-source in omega arith
+add-s-3 : tie.Need-add-s-3 Inv-loop μ-loop
+add-s-3 c = let limit = c .before .before .before .before .before .before .before .before .before .before .before .before .before .before .before .pre .0 .0 in let i = replaced c .in-source in omega arith
 
-add-v-2 : tie.Need-add-v-2 Inv-loop μ-loop
-add-v-2 c = let limit = c .before .before .before .before .before .before .before .before .before .before .before .before .before .before .before .pre .0 .1 in let i = replaced c .in-value in omega arith
+add-v-3 : tie.Need-add-v-3 Inv-loop μ-loop
+add-v-3 c = let limit = c .before .before .before .before .before .before .before .before .before .before .before .before .before .before .before .pre .0 .1 in let i = replaced c .in-value in omega arith
 
 loop-less-2 : tie.Need-loop-less-2 Inv-loop μ-loop
 loop-less-2 c =
@@ -225,12 +285,21 @@ walk-scalar-provenance-spec =
     enum-known-t
     add-s
     add-v
+    sub-letters
+    part-letters-start
+    part-letters-end
+    sub-letters-2
+    part-letters-start-2
+    part-letters-end-2
+    letters-requires
+    add-s-2
+    add-v-2
     loop-less
     loop-again
     enum-known-t-2
     put-replacement-requires
-    add-s-2
-    add-v-2
+    add-s-3
+    add-v-3
     loop-less-2
     loop-again-2
     enum-told

@@ -1,0 +1,88 @@
+-- Letters gathered one by one and by chunks. Assumes nothing.
+use mathlib.Core.Path.{_≡_, _∙_, subst}
+use mathlib.Core.List.{List}
+use Prim.Native.Nat.{ℕ, _+_, _-_, _≤_, _<_, min, max}
+use native.Mathlib.Omega.{arith}
+use lib.ListN.{length, take, drop, getD, length-take, length-drop}
+use lib.Seq.{getD-drop, getD-take}
+use Rattle.provenance.specs.Tests.{by-order}
+use Rattle.provenance.specs.Letters.{gap, margin, Letter, AllLetters, Letters}
+
+-- ---- within a chunk
+
+-- of the first i bytes no margin is below `low` and no gap above `wide`
+abbrev pub Passed : List ℕ → List ℕ → List ℕ → ℕ → ℕ → ℕ → Type 0
+Passed src next val low wide i = (j : ℕ) → j < i → (low ≤ margin (getD src j 0) (getD next j 0)) × (gap (getD src j 0) (getD val j 0) ≤ wide)
+
+pub passed-more :
+    (src next val : List ℕ) (low wide i low′ wide′ : ℕ) → Passed src next val low wide i → low′ ≡ min low (margin (getD src i 0) (getD next i 0)) → wide′ ≡ max wide (gap (getD src i 0) (getD val i 0)) →
+    Passed src next val low′ wide′ (i + 1)
+passed-more src next val low wide i low′ wide′ p e f j h =
+    by-order j i
+    (λ lt. let q = p j lt in let a = q .0 in let b = q .1 in (least-is low _ low′ _ e a, most-is wide _ wide′ _ f b))
+    (λ le.
+    let here : i ≡ j = omega arith in
+    subst (λ (k : ℕ). (low′ ≤ margin (getD src k 0) (getD next k 0)) × (gap (getD src k 0) (getD val k 0) ≤ wide′)) here (last-least low _ low′ e, last-most wide _ wide′ f))
+  where
+    least-is : (a b c d : ℕ) → c ≡ min a b → a ≤ d → c ≤ d
+    least-is a b c d q l = omega arith
+
+    most-is : (a b c d : ℕ) → c ≡ max a b → d ≤ a → d ≤ c
+    most-is a b c d q l = omega arith
+
+    last-least : (a b c : ℕ) → c ≡ min a b → c ≤ b
+    last-least a b c q = omega arith
+
+    last-most : (a b c : ℕ) → c ≡ max a b → b ≤ c
+    last-most a b c q = omega arith
+
+pub passed-all : (src next val : List ℕ) (low wide i : ℕ) → Passed src next val low wide i → length src ≤ i → wide ≤ 0 → 0 < low → AllLetters src next val
+passed-all src next val low wide i p l w h j k =
+    let q = p j (omega arith) in
+    let a = q .0 in
+    let b = q .1 in
+    (no-gap (getD src j 0) (getD val j 0) (omega arith), omega arith)
+  where
+    no-gap : (a c : ℕ) → gap a c ≤ 0 → a ≡ c
+    no-gap a c g = omega arith
+
+-- ---- chunk by chunk, byte by byte
+
+part-at : (l : List ℕ) (i n k : ℕ) → k < n → getD (take n (drop i l)) k 0 ≡ getD l (i + k) 0
+part-at l i n k h = getD-take n (drop i l) k 0 h ∙ getD-drop i l k 0
+
+pub part-length : (l : List ℕ) (i n : ℕ) → n ≤ length l - i → length (take n (drop i l)) ≡ n
+part-length l i n h = let a = length-take n (drop i l) in let b = length-drop i l in omega arith
+
+-- a chunk of n letters after i
+pub chunk-more :
+    (src val : List ℕ) (i n m : ℕ) → Letters src val i → n < length src - i → n ≤ length val - i → m ≡ n →
+    AllLetters (take n (drop i src)) (take m (drop (i + 1) src)) (take n (drop i val)) → Letters src val (i + n)
+chunk-more src val i n m l s v e all =
+    record {
+      in-source = omega arith;
+      in-value = omega arith;
+      each = λ j h. by-order j i
+          (λ lt. l .each j lt)
+          (λ le.
+          let k : i + (j - i) ≡ j = omega arith in
+          let k′ : i + 1 + (j - i) ≡ j + 1 = omega arith in
+          let w = part-length src i n (omega arith) in
+          let q = all (j - i) (omega arith) in
+          rw (part-at src i n (j - i) (omega arith), part-at src (i + 1) m (j - i) (omega arith), part-at val i n (j - i) (omega arith), k, k′) at q);
+    }
+
+pub above-zero : (r m : ℕ) → r ≡ m → (r ≡ 0 → ⊥) → 0 < m
+above-zero r m e n = by-order 0 m (λ lt. lt) (λ le. absurd (n (omega arith)))
+
+-- one letter more
+pub letter-more : (src val : List ℕ) (i : ℕ) → Letters src val i → i < length src → i < length val → Letter (getD src i 0) (getD src (i + 1) 0) (getD val i 0) → Letters src val (i + 1)
+letter-more src val i l s v q =
+    record {
+      in-source = omega arith;
+      in-value = omega arith;
+      each = λ j h. by-order j i (λ lt. l .each j lt) (λ le. let here : i ≡ j = omega arith in subst (λ (k : ℕ). Letter (getD src k 0) (getD src (k + 1) 0) (getD val k 0)) here q);
+    }
+
+pub no-letters : (src val : List ℕ) → Letters src val 0
+no-letters src val = record { in-source = omega arith; in-value = omega arith; each = λ j h. absurd (omega arith) }

@@ -1,0 +1,122 @@
+-- `provenance::letter::letter_chunks` meets its contract. The loop's invariant: the bytes passed are letters. The measure is what is left. Assumes
+-- nothing.
+use mathlib.Core.Path.{_≡_, refl, sym, _∙_}
+use Prim.Native.Nat.{_+_, _-_}
+use native.Mathlib.Omega.{arith}
+use borrow.Author.Tests.{not-false}
+use lib.ListN.{length}
+use Rattle.provenance.specs.Letters.{Letters}
+use Rattle.provenance.proofs.Letters.{part-length, no-letters, chunk-more}
+use Rattle.provenance.proofs.letter.letter_chunks.Statement.{statement}
+use Rattle.provenance.proofs.letter.letter_chunks.Tie as tie
+
+abbrev Inv-loop : tie.InvT-loop
+Inv-loop src value i₀ i = Letters src value i
+
+abbrev μ-loop : tie.MeasureT-loop
+μ-loop src value i₀ i = length src - i
+
+loop-holds : tie.Need-loop-holds Inv-loop μ-loop
+loop-holds c = no-letters _ _
+
+sub-loop : tie.Need-sub-loop Inv-loop μ-loop
+sub-loop c = c .loop .inv .in-source
+
+sub-if1 : tie.Need-sub-if1 Inv-loop μ-loop
+sub-if1 c = c .before .loop .inv .in-value
+
+returns : tie.Need-returns Inv-loop μ-loop
+returns c = c .before .before .loop .inv
+
+add-end : tie.Need-add-end Inv-loop μ-loop
+add-end c = omega arith
+
+sub-are-letters : tie.Need-sub-are-letters Inv-loop μ-loop
+sub-are-letters c = omega arith
+
+part-are-letters-start : tie.Need-part-are-letters-start Inv-loop μ-loop
+part-are-letters-start c = omega arith
+
+part-are-letters-end : tie.Need-part-are-letters-end Inv-loop μ-loop
+part-are-letters-end c = omega arith
+
+add-are-letters : tie.Need-add-are-letters Inv-loop μ-loop
+add-are-letters c = omega arith
+
+add-are-letters-2 : tie.Need-add-are-letters-2 Inv-loop μ-loop
+add-are-letters-2 c = omega arith
+
+sub-are-letters-2 : tie.Need-sub-are-letters-2 Inv-loop μ-loop
+sub-are-letters-2 c = omega arith
+
+part-are-letters-start-2 : tie.Need-part-are-letters-start-2 Inv-loop μ-loop
+part-are-letters-start-2 c = omega arith
+
+part-are-letters-end-2 : tie.Need-part-are-letters-end-2 Inv-loop μ-loop
+part-are-letters-end-2 c = omega arith
+
+sub-are-letters-3 : tie.Need-sub-are-letters-3 Inv-loop μ-loop
+sub-are-letters-3 c = omega arith
+
+part-are-letters-start-3 : tie.Need-part-are-letters-start-3 Inv-loop μ-loop
+part-are-letters-start-3 c = omega arith
+
+part-are-letters-end-3 : tie.Need-part-are-letters-end-3 Inv-loop μ-loop
+part-are-letters-end-3 c = omega arith
+
+are-letters-requires : tie.Need-are-letters-requires Inv-loop μ-loop
+are-letters-requires c κs =
+    let a = c .before .before .before .before .before .before .before .before .args in
+    let i = c .before .before .before .before .before .loop .i in
+    let n : i + 32 - i ≡ 32 = omega arith in
+    let m : i + 32 + 1 - (i + 1) ≡ 32 = omega arith in
+    let src = part-length (a .src .now) i 32 (omega arith) in
+    let next = part-length (a .src .now) (i + 1) 32 (omega arith) in
+    let value = part-length (a .value .now) i 32 (omega arith) in
+    (rw (n, m) (next ∙ sym src), rw n (value ∙ sym src))
+
+returns-2 : tie.Need-returns-2 Inv-loop μ-loop
+returns-2 c = c .before .before .before .before .before .before .before .loop .inv
+
+loop-less : tie.Need-loop-less Inv-loop μ-loop
+loop-less c = omega arith
+
+loop-again : tie.Need-loop-again Inv-loop μ-loop
+loop-again c =
+    let a = c .before .before .before .before .before .before .before .before .before .before .args in
+    let w = c .before .before .before .before .before .before .before .loop in
+    let n : w .i + 32 - w .i ≡ 32 = omega arith in
+    let m : w .i + 32 + 1 - (w .i + 1) ≡ 32 = omega arith in
+    let all = rw (n, m) at (c .before .are-letters .ensures (not-false _ (c .if2 .left))) in
+    chunk-more (a .src .now) (a .value .now) (w .i) 32 32 (w .inv) (omega arith) (omega arith) refl all
+
+returns-3 : tie.Need-returns-3 Inv-loop μ-loop
+returns-3 c = c .before .loop .inv
+
+pub letter-chunks-spec : {M : Type 1} → statement M
+letter-chunks-spec =
+    tie.close
+    (tie.spec
+    Inv-loop
+    μ-loop
+    loop-holds
+    sub-loop
+    sub-if1
+    returns
+    add-end
+    sub-are-letters
+    part-are-letters-start
+    part-are-letters-end
+    add-are-letters
+    add-are-letters-2
+    sub-are-letters-2
+    part-are-letters-start-2
+    part-are-letters-end-2
+    sub-are-letters-3
+    part-are-letters-start-3
+    part-are-letters-end-3
+    are-letters-requires
+    returns-2
+    loop-less
+    loop-again
+    returns-3)
