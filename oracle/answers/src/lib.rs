@@ -1,14 +1,23 @@
 //! The original's answers in document 01's numbers: the table's rows, written here a second time and as the document
 //! words them, around the unchanged Rust.
 
+mod accessors;
 mod admit;
+mod buffer;
+mod damaged;
 mod decode;
+mod nodes;
 mod original;
 mod record;
+mod scan_errors;
+mod tree;
 
+pub use damaged::damaged;
 use framing::{Answer, Case};
+pub use nodes::nodes;
 use original::Panicked;
 pub use original::silence_listed_panic;
+pub use scan_errors::scan_errors;
 
 const TEXT_LIMIT: usize = 1_048_576;
 const EVENTS_LIMIT: usize = 4_194_304;

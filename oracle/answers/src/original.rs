@@ -2,8 +2,9 @@
 
 use crate::admit::{Admitted, Open};
 use crate::decode::{Body, Collection, Event, Tag};
-use quarto_yaml::YamlWithSourceInfo;
-use saphyr_parser::{Marker, Span};
+use crate::record;
+use quarto_yaml::{Error, YamlWithSourceInfo};
+use saphyr_parser::{Marker, ScanError, Span};
 use std::any::Any;
 use std::borrow::Cow;
 use std::ops::Range;
@@ -32,6 +33,17 @@ pub fn build<'a>(text: &str, bytes: &[u8], admitted: &'a Admitted) -> Result<Opt
             Err(Panicked(&admitted.events[admitted.events.len() - left - 1]))
         }
         Err(payload) => panic::resume_unwind(payload),
+    }
+}
+
+/// The span of the error at a marker index. An alias at the index `before`, if there is one, comes before the error.
+pub fn scan_error(text: &str, before: Option<u32>, index: u32) -> [u32; 2] {
+    let alias = before.map(|index| (saphyr_parser::Event::Alias(ANCHOR), span(index, 0, true)));
+    saphyr_parser::hand_in(alias.into_iter().collect());
+    saphyr_parser::hand_in_error(ScanError::new(Marker::new(index as usize, 0), String::new()));
+    match quarto_yaml::parse(text) {
+        Err(Error::ParseError { location: Some(location), .. }) => record::offsets(&location),
+        _ => unreachable!("the error that was handed in, with its place"),
     }
 }
 

@@ -85,6 +85,6 @@ pub fn record(
     [kind, start, end, tag_start, tag_end, suffix, suffix_length, *subtree, first, count, high, low]
 }
 
-fn offsets(span: &SourceInfo) -> [u32; 2] {
+pub fn offsets(span: &SourceInfo) -> [u32; 2] {
     [span.start_offset() as u32, span.end_offset() as u32]
 }

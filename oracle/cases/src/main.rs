@@ -4,11 +4,14 @@
 //! spaced ones where an enumeration is too long; the sample has the special cases, fewer of the enumeration and the
 //! first of the random ones.
 
+mod damaged;
 mod events;
 mod measures;
+mod nodes;
 mod offsets;
 mod rng;
 mod run;
+mod scan_errors;
 mod schema;
 mod source;
 mod tags;
@@ -26,7 +29,8 @@ type Family = fn(&mut Run);
 
 const SEED: u64 = 20_261_008;
 
-const USAGE: &str = "usage: cases offsets|schema|measures|walks|tags|events|trees sample|full [SEED]";
+const USAGE: &str =
+    "usage: cases offsets|schema|measures|walks|tags|events|trees|nodes|damaged|scan_errors sample|full [SEED]";
 
 fn main() -> ExitCode {
     answers::silence_listed_panic();
@@ -56,6 +60,9 @@ fn parse(arguments: &[&str]) -> Option<(Family, bool, u64)> {
         "tags" => tags::write,
         "events" => events::write,
         "trees" => trees::write,
+        "nodes" => nodes::write,
+        "damaged" => damaged::write,
+        "scan_errors" => scan_errors::write,
         _ => return None,
     };
     match size {

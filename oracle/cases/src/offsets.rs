@@ -7,10 +7,10 @@ use crate::words;
 use framing::event::{Event, encode};
 
 /// Characters of one to four bytes.
-const SHORT: [&str; 4] = ["a", "é", "€", "😀"];
+pub const SHORT: [&str; 4] = ["a", "é", "€", "😀"];
 
 /// With the first and last characters of each length.
-const LETTERS: [&str; 12] =
+pub const LETTERS: [&str; 12] =
     ["a", ":", "\n", "\u{0}", "\u{7f}", "\u{80}", "\u{7ff}", "\u{800}", "\u{ffff}", "\u{10000}", "\u{10ffff}", "é"];
 
 pub fn write(run: &mut Run) {
@@ -21,7 +21,10 @@ pub fn write(run: &mut Run) {
     }
     for number in (0..words::count(&SHORT, 5)).step_by(run.sized(11, 1)) {
         // Random numbers of its own, so that a sample has the same cases.
-        put_orders(run, &words::word(&SHORT, number), &mut Rng::new(number as u64));
+        let text = words::word(&SHORT, number);
+        for indices in orders(&text, &mut Rng::new(number as u64)) {
+            put(run, &text, &indices);
+        }
     }
     for _ in 0..run.sized(110, 100_000) {
         let text = run.rng.word(&LETTERS, 40);
@@ -38,16 +41,14 @@ pub fn write(run: &mut Run) {
 }
 
 /// Every index of a text and two past its end, rising, falling and in random order.
-fn put_orders(run: &mut Run, text: &str, rng: &mut Rng) {
-    let mut indices: Vec<u32> = (0..characters(text) + 3).collect();
-    put(run, text, &indices);
-    indices.reverse();
-    put(run, text, &indices);
-    let indices = random_indices(rng, text, indices.len());
-    put(run, text, &indices);
+pub fn orders(text: &str, rng: &mut Rng) -> [Vec<u32>; 3] {
+    let rising: Vec<u32> = (0..characters(text) + 3).collect();
+    let falling = rising.iter().rev().copied().collect();
+    let random = random_indices(rng, text, rising.len());
+    [rising, falling, random]
 }
 
-fn random_indices(rng: &mut Rng, text: &str, count: usize) -> Vec<u32> {
+pub fn random_indices(rng: &mut Rng, text: &str, count: usize) -> Vec<u32> {
     let end = characters(text) as usize + 3;
     (0..count).map(|_| rng.below(end) as u32).collect()
 }

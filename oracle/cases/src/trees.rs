@@ -35,10 +35,15 @@ pub fn write(run: &mut Run) {
 
 fn put_corpus(run: &mut Run) {
     for (text, events) in corpus::documents() {
-        // An event has seven bytes or more.
-        let (nodes, value_bytes) = (events.len() / 7, events.len());
-        run.put(&ample(text, events, nodes, value_bytes));
+        run.put(&whole(text, events));
     }
+}
+
+/// A case with room for any list of these events.
+pub fn whole(text: Vec<u8>, events: Vec<u8>) -> Case {
+    // An event has seven bytes or more.
+    let (nodes, value_bytes) = (events.len() / 7, events.len());
+    ample(text, events, nodes, value_bytes)
 }
 
 /// Texts, values, handles and suffixes that are not UTF-8.
@@ -146,14 +151,11 @@ fn put_event_lists(run: &mut Run) {
 
 /// A random document with ample room, with a room at its limit, and damaged.
 fn put_random(run: &mut Run) {
-    let mut document = Document::default();
-    let depth = run.rng.below(6);
-    document.node(&mut run.rng, depth);
-    let case = ample(document.text.into(), document.events, document.nodes, document.value_bytes);
+    let (case, nodes) = random(&mut run.rng);
     run.put(&case);
 
     let pieces = answers::answer(&case).returned[2];
-    let (records, pieces) = (12 * document.nodes as u32, 4 * pieces);
+    let (records, pieces) = (12 * nodes as u32, 4 * pieces);
     let mut limited = case.clone();
     if run.rng.once_in(2) {
         limited.record_room = run.rng.pick(&[0, records - 12, records - 1, records, records + 11]);
@@ -165,6 +167,15 @@ fn put_random(run: &mut Run) {
     let mut damaged = case;
     damage(&mut run.rng, &mut damaged.events);
     run.put(&damaged);
+}
+
+/// A random document with ample room, and how many nodes it has.
+pub fn random(rng: &mut Rng) -> (Case, usize) {
+    let mut document = Document::default();
+    let depth = rng.below(6);
+    document.node(rng, depth);
+    let nodes = document.nodes;
+    (ample(document.text.into(), document.events, nodes, document.value_bytes), nodes)
 }
 
 fn damage(rng: &mut Rng, events: &mut Vec<u8>) {

@@ -1,5 +1,5 @@
 //! Stand-in for `saphyr_parser`: events and what they carry, and a `Parser` that scans nothing: it replays the events
-//! that were handed in.
+//! that were handed in, and then the error that was handed in.
 
 use std::borrow::Cow;
 use std::cell::RefCell;
@@ -72,7 +72,6 @@ pub trait SpannedEventReceiver<'a> {
     fn on_event(&mut self, ev: Event<'a>, span: Span);
 }
 
-/// Named by the original; a replay never gives one.
 #[derive(Debug)]
 pub struct ScanError {
     marker: Marker,
@@ -80,6 +79,10 @@ pub struct ScanError {
 }
 
 impl ScanError {
+    pub fn new(marker: Marker, info: String) -> Self {
+        Self { marker, info }
+    }
+
     pub fn marker(&self) -> &Marker {
         &self.marker
     }
@@ -91,11 +94,17 @@ impl ScanError {
 
 thread_local! {
     static EVENTS: RefCell<VecDeque<(Event<'static>, Span)>> = const { RefCell::new(VecDeque::new()) };
+    static ERROR: RefCell<Option<ScanError>> = const { RefCell::new(None) };
 }
 
 /// Sets the events that the next `Parser::load` of this thread gives.
 pub fn hand_in(events: Vec<(Event<'static>, Span)>) {
     EVENTS.set(events.into());
+}
+
+/// Sets the error that the next `Parser::load` of this thread gives after the events.
+pub fn hand_in_error(error: ScanError) {
+    ERROR.set(Some(error));
 }
 
 /// How many of the events handed in have not been given yet.
@@ -118,6 +127,6 @@ impl Parser {
         while let Some((event, span)) = EVENTS.with_borrow_mut(VecDeque::pop_front) {
             receiver.on_event(event, span);
         }
-        Ok(())
+        ERROR.take().map_or(Ok(()), Err)
     }
 }

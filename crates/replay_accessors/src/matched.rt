@@ -1,0 +1,158 @@
+// Answers matched with the numbers of a list, one after another: 0 for none; 1 for no and 2 for yes; one more than a record's number;
+// otherwise 1 and the numbers.
+use node::child::Place;
+use node::entry::Entry;
+use node::entry::YamlHashEntry;
+use node::kind::Count;
+use node::kind::Flag;
+use node::record::Lookup;
+use node::source::Pieces;
+use node::source::Span;
+use node::source::Tagged;
+use parser::record::Extent;
+use parser::record::Node;
+
+// How many bytes of a list were matched, and whether all of them were.
+pub struct Matched {
+    pub at: usize,
+    pub same: bool,
+}
+
+pub const START: Matched = Matched { at: 0, same: true };
+
+const NONE: u32 = 0;
+
+const SOME: u32 = 1;
+
+const NO: u32 = 1;
+
+const YES: u32 = 2;
+
+// A list that does not match, wherever.
+pub const DIFFERENT: Matched = Matched { at: 0, same: false };
+
+// The next number of the list is `x`.
+pub fn number(list: &[u8], m: Matched, x: u32) -> Matched {
+    let at = m.at;
+    if !m.same {
+        return DIFFERENT;
+    }
+    if list.len() <= at {
+        return DIFFERENT;
+    }
+    if replay::case::number_at(list, at) != x {
+        return DIFFERENT;
+    }
+    Matched {
+        at: at + 4,
+        same: true,
+    }
+}
+
+// Whether the list was matched to its end.
+pub fn is_whole(list: &[u8], m: Matched) -> bool {
+    if m.same {
+        return m.at == list.len();
+    }
+    false
+}
+
+pub fn flag(list: &[u8], m: Matched, answer: Flag) -> Matched {
+    match answer {
+        Flag::Is(yes) => {
+            if yes {
+                return number(list, m, YES);
+            }
+            number(list, m, NO)
+        }
+        Flag::Missing => number(list, m, NONE),
+    }
+}
+
+pub fn count(list: &[u8], m: Matched, answer: Count) -> Matched {
+    match answer {
+        Count::Is(k) => number(list, number(list, m, SOME), k),
+        Count::Missing => number(list, m, NONE),
+    }
+}
+
+fn place_number(list: &[u8], m: Matched, n: usize) -> Matched {
+    if n < 0xffff_ffff {
+        return number(list, m, n as u32 + 1);
+    }
+    DIFFERENT
+}
+
+pub fn place(list: &[u8], m: Matched, answer: Place) -> Matched {
+    match answer {
+        Place::At(n) => place_number(list, m, n),
+        Place::Missing => number(list, m, NONE),
+    }
+}
+
+fn extent(list: &[u8], m: Matched, x: Extent) -> Matched {
+    number(list, number(list, m, x.start), x.end)
+}
+
+pub fn span(list: &[u8], m: Matched, answer: Span) -> Matched {
+    match answer {
+        Span::Of(x) => extent(list, number(list, m, SOME), x),
+        Span::Missing => number(list, m, NONE),
+    }
+}
+
+pub fn tagged(list: &[u8], m: Matched, answer: Tagged) -> Matched {
+    match answer {
+        Tagged::With(tag) => {
+            let m = number(list, m, SOME);
+            let m = number(list, number(list, m, tag.start), tag.end);
+            number(list, number(list, m, tag.suffix), tag.len)
+        }
+        Tagged::Missing => number(list, m, NONE),
+    }
+}
+
+pub fn pieces(list: &[u8], m: Matched, answer: Pieces) -> Matched {
+    match answer {
+        Pieces::Listed(pieces) => {
+            let m = number(list, m, SOME);
+            number(list, number(list, m, pieces.first), pieces.count)
+        }
+        Pieces::Missing => number(list, m, NONE),
+    }
+}
+
+fn pair(list: &[u8], m: Matched, x: YamlHashEntry) -> Matched {
+    let key_span = x.key_span;
+    let value_span = x.value_span;
+    let entry_span = x.entry_span;
+    let m = place_number(list, place_number(list, m, x.key), x.value);
+    let m = extent(list, m, key_span);
+    let m = extent(list, m, value_span);
+    extent(list, m, entry_span)
+}
+
+pub fn entry(list: &[u8], m: Matched, answer: Entry) -> Matched {
+    match answer {
+        Entry::Pair(x) => pair(list, m, x),
+        Entry::Missing => number(list, m, NONE),
+    }
+}
+
+// The twelve numbers of a record.
+fn node_numbers(list: &[u8], m: Matched, x: Node) -> Matched {
+    let m = number(list, m, x.kind);
+    let m = number(list, number(list, m, x.extent.start), x.extent.end);
+    let m = number(list, number(list, m, x.tag.start), x.tag.end);
+    let m = number(list, number(list, m, x.tag.suffix), x.tag.len);
+    let m = number(list, m, x.subtree);
+    let m = number(list, number(list, m, x.list.first), x.list.count);
+    number(list, number(list, m, x.payload.first), x.payload.second)
+}
+
+pub fn lookup(list: &[u8], m: Matched, answer: Lookup) -> Matched {
+    match answer {
+        Lookup::Record(x) => node_numbers(list, number(list, m, SOME), x),
+        Lookup::Missing => number(list, m, NONE),
+    }
+}
