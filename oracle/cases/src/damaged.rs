@@ -15,10 +15,12 @@ const RECORD_NUMBERS: usize = 12;
 const NUMBERS: [u32; 14] = [0, 1, 2, 3, 4, 5, 7, 8, 9, 0x8000_0000, 0xFFFF_FFFC, 0xFFFF_FFFD, 0xFFFF_FFFE, u32::MAX];
 
 /// Where the numbers stand that lead on: kind, subtree count, and the two payload numbers.
-const LEADING: [usize; 4] = [0, 7, 10, 11];
+const COUNT: usize = 7;
+const LEADING: [usize; 4] = [0, COUNT, 10, 11];
 
 pub fn write(run: &mut Run) {
     put_kinds(run);
+    put_tags(run);
     for (number, (buffer, events)) in built().into_iter().enumerate() {
         put_cut_off(run, &buffer, &events, number);
         put_changed(run, &buffer, &events);
@@ -79,6 +81,19 @@ fn put_kinds(run: &mut Run) {
     }
 }
 
+/// Tags of which some of the four numbers say that there is none.
+fn put_tags(run: &mut Run) {
+    for absent in 0..16 {
+        let mut record = [6, 2, 3, 4, 5, 6, 7, 1, 9, 10, 0, 0];
+        for place in 0..4 {
+            if absent >> place & 1 == 1 {
+                record[3 + place] = u32::MAX;
+            }
+        }
+        put(run, &record, b"");
+    }
+}
+
 /// A buffer cut off at every length; in the sample only the first one.
 fn put_cut_off(run: &mut Run, buffer: &[u32], events: &[u8], number: usize) {
     if run.full || number == 0 {
@@ -93,13 +108,14 @@ fn put_cut_off(run: &mut Run, buffer: &[u32], events: &[u8], number: usize) {
     }
 }
 
-/// Every number changed to every one of some; in the sample only those that lead on, and fewer.
+/// Every number changed to every one of some; in the sample only those that lead on, to one each, and every count to 0.
 fn put_changed(run: &mut Run, buffer: &[u32], events: &[u8]) {
     for place in 0..buffer.len() {
         let leads = LEADING.contains(&(place % RECORD_NUMBERS));
+        let counts = place % RECORD_NUMBERS == COUNT;
         let near = [buffer[place].wrapping_sub(1), buffer[place].wrapping_add(1), buffer[place].wrapping_add(2)];
         for (turn, number) in near.into_iter().chain(NUMBERS).enumerate() {
-            if run.full || (leads && turn % 17 == (place * 5 + place / 12) % 17) {
+            if run.full || (leads && turn == place % 17) || (counts && turn > 2 && number == 0) {
                 let mut changed = buffer.to_vec();
                 changed[place] = number;
                 put(run, &changed, events);
@@ -111,7 +127,7 @@ fn put_changed(run: &mut Run, buffer: &[u32], events: &[u8]) {
 /// Numbers that only look like records.
 fn put_random(run: &mut Run) {
     let rng = &mut run.rng;
-    let length = rng.below(run.full.then_some(80).unwrap_or(50));
+    let length = rng.below(if run.full { 80 } else { 50 });
     let buffer: Vec<u32> = (0..length).map(|place| random_number(rng, place)).collect();
     let events: Vec<u8> = (0..rng.below(12)).map(|_| rng.pick(b"aab\xc3")).collect();
     put(run, &buffer, &events);
