@@ -16,7 +16,7 @@ pub use damaged::damaged;
 use framing::{Answer, Case};
 pub use nodes::nodes;
 use original::Panicked;
-pub use original::silence_listed_panic;
+pub use original::{Received, silence_listed_panic};
 pub use scan_errors::scan_errors;
 
 const TEXT_LIMIT: usize = 1_048_576;
@@ -63,6 +63,12 @@ pub fn answer(case: &Case) -> Answer {
         records: records.into_flattened(),
         pieces: pieces.into_flattened(),
     }
+}
+
+/// The events that document 01's table lets through, as the original receives them.
+pub fn received(events: &[u8]) -> Vec<Received> {
+    let admitted = admit::admit(events, usize::MAX);
+    admitted.events.iter().map(|event| original::received(event, events)).collect()
 }
 
 /// The answer where the original panics on the event at a place: row 8 may refuse one of those before it.

@@ -11,7 +11,7 @@ use std::ops::Range;
 use std::panic;
 
 /// An event as the original receives it.
-type Received = (saphyr_parser::Event<'static>, Span);
+pub type Received = (saphyr_parser::Event<'static>, Span);
 
 /// The original looks at no anchor.
 const ANCHOR: usize = 0;
@@ -79,7 +79,7 @@ fn closing(open: &[Open]) -> Vec<Received> {
     events
 }
 
-fn received(event: &Event, bytes: &[u8]) -> Received {
+pub fn received(event: &Event, bytes: &[u8]) -> Received {
     use saphyr_parser::Event::*;
     let mut column = 0;
     let mut empty_span = true;

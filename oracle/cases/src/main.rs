@@ -1,33 +1,11 @@
 //! `cases FAMILY sample|full [SEED]`: writes the cases of a family on standard output.
-//!
-//! A family is its special cases, an enumeration of short ones and random ones. The full list has them all, or evenly
-//! spaced ones where an enumeration is too long; the sample has the special cases, fewer of the enumeration and the
-//! first of the random ones.
 
-mod damaged;
-mod events;
-mod measures;
-mod nodes;
-mod offsets;
-mod rng;
-mod run;
-mod scan_errors;
-mod schema;
-mod source;
-mod tags;
-mod trees;
-mod walks;
-mod words;
-
-use rng::Rng;
-use run::Run;
+use cases::rng::Rng;
+use cases::run::Run;
+use cases::{ACCESSOR_FAMILIES, FAMILIES, Family, SEED};
 use std::env;
+use std::io::{self, BufWriter, Write};
 use std::process::ExitCode;
-
-/// Writes a family's cases.
-type Family = fn(&mut Run);
-
-const SEED: u64 = 20_261_008;
 
 const USAGE: &str =
     "usage: cases offsets|schema|measures|walks|tags|events|trees|nodes|damaged|scan_errors sample|full [SEED]";
@@ -40,8 +18,10 @@ fn main() -> ExitCode {
         eprintln!("{USAGE}");
         return ExitCode::FAILURE;
     };
-    let mut run = Run::new(full, Rng::new(seed));
-    family(&mut run);
+    let mut out = BufWriter::new(io::stdout().lock());
+    let mut put = |case: &framing::Case| case.write(&mut out).expect("standard output takes the cases");
+    family(&mut Run::new(full, Rng::new(seed), &mut put));
+    out.flush().expect("standard output takes the cases");
     ExitCode::SUCCESS
 }
 
@@ -52,22 +32,10 @@ fn parse(arguments: &[&str]) -> Option<(Family, bool, u64)> {
         [family, size, seed] => (family, size, seed.parse().ok()?),
         _ => return None,
     };
-    let family: Family = match family {
-        "offsets" => offsets::write,
-        "schema" => schema::write,
-        "measures" => measures::write,
-        "walks" => walks::write,
-        "tags" => tags::write,
-        "events" => events::write,
-        "trees" => trees::write,
-        "nodes" => nodes::write,
-        "damaged" => damaged::write,
-        "scan_errors" => scan_errors::write,
-        _ => return None,
-    };
+    let (_, family) = FAMILIES.iter().chain(&ACCESSOR_FAMILIES).find(|(name, _)| *name == family)?;
     match size {
-        "sample" => Some((family, false, seed)),
-        "full" => Some((family, true, seed)),
+        "sample" => Some((*family, false, seed)),
+        "full" => Some((*family, true, seed)),
         _ => None,
     }
 }

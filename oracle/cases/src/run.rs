@@ -3,7 +3,6 @@
 use crate::rng::Rng;
 use framing::Case;
 use framing::event::{Event, Scalar, encode};
-use std::io::{self, BufWriter, StdoutLock, Write};
 
 pub const PLAIN: u8 = 0;
 pub const SINGLE_QUOTED: u8 = 1;
@@ -12,16 +11,16 @@ pub const LITERAL: u8 = 3;
 pub const FOLDED: u8 = 4;
 pub const STYLES: [u8; 5] = [PLAIN, SINGLE_QUOTED, DOUBLE_QUOTED, LITERAL, FOLDED];
 
-pub struct Run {
+pub struct Run<'a> {
     pub full: bool,
     pub rng: Rng,
-    out: BufWriter<StdoutLock<'static>>,
+    sink: &'a mut dyn FnMut(&Case),
 }
 
-impl Run {
-    pub fn new(full: bool, rng: Rng) -> Self {
-        let out = BufWriter::new(io::stdout().lock());
-        Self { full, rng, out }
+impl<'a> Run<'a> {
+    /// Each case goes to `sink`.
+    pub fn new(full: bool, rng: Rng, sink: &'a mut dyn FnMut(&Case)) -> Self {
+        Self { full, rng, sink }
     }
 
     /// The number for the size of this list.
@@ -30,18 +29,12 @@ impl Run {
     }
 
     pub fn put(&mut self, case: &Case) {
-        case.write(&mut self.out).expect("standard output takes the cases");
+        (self.sink)(case);
     }
 
     /// A document of one scalar, with ample room.
     pub fn put_scalar(&mut self, text: &str, scalar: Scalar) {
         self.put(&one_scalar(text, scalar));
-    }
-}
-
-impl Drop for Run {
-    fn drop(&mut self) {
-        self.out.flush().expect("standard output takes the cases");
     }
 }
 

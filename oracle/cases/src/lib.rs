@@ -1,0 +1,43 @@
+//! Cases for the port and the original, in families.
+//!
+//! A family is its special cases, an enumeration of short ones and random ones. The full list has them all, or evenly
+//! spaced ones where an enumeration is too long; the sample has the special cases, fewer of the enumeration and the
+//! first of the random ones.
+
+mod damaged;
+mod events;
+mod measures;
+mod nodes;
+mod offsets;
+pub mod rng;
+pub mod run;
+mod scan_errors;
+mod schema;
+mod source;
+mod tags;
+mod trees;
+mod walks;
+mod words;
+
+use run::Run;
+
+/// Puts a family's cases.
+pub type Family = fn(&mut Run);
+
+/// The families that `build` answers, by their names.
+pub const FAMILIES: [(&str, Family); 7] = [
+    ("offsets", offsets::write),
+    ("schema", schema::write),
+    ("measures", measures::write),
+    ("walks", walks::write),
+    ("tags", tags::write),
+    ("events", events::write),
+    ("trees", trees::write),
+];
+
+/// Those that the accessors and `scan_error` answer.
+pub const ACCESSOR_FAMILIES: [(&str, Family); 3] =
+    [("nodes", nodes::write), ("damaged", damaged::write), ("scan_errors", scan_errors::write)];
+
+/// The seed of the committed lists.
+pub const SEED: u64 = 20_261_008;
