@@ -5,7 +5,7 @@ mod accessors;
 mod admit;
 mod buffer;
 mod damaged;
-mod decode;
+pub mod decode;
 mod nodes;
 mod original;
 mod record;

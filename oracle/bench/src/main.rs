@@ -8,15 +8,13 @@
 //!
 //! The three take turns. A ratio is of one turn; it is given as the median of all turns with the quartiles.
 
-mod chapter;
-mod script;
 mod timing;
 
 use answers::Received;
-use chapter::Shape;
+use cases::chapter::{self, Shape};
+use cases::script::SCRIPTS;
 use framing::Case;
 use framing::event::{Event, Scalar, encode};
-use script::SCRIPTS;
 use std::env;
 use timing::{Bench, Figures};
 

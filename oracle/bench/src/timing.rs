@@ -69,7 +69,17 @@ impl Figures {
     pub fn heading() {
         println!(
             "{:32} {:>8} {:>7} {:>9} {:>9} {:>9} {:>8} {:>7} {:>6} {:>14} {:>7}",
-            "", "bytes", "nodes", "port µs", "build µs", "drop µs", "sum µs", "ns/byte", "ratio", "quartiles", "no drop"
+            "",
+            "bytes",
+            "nodes",
+            "port µs",
+            "build µs",
+            "drop µs",
+            "sum µs",
+            "ns/byte",
+            "ratio",
+            "quartiles",
+            "no drop"
         );
     }
 

@@ -4,6 +4,7 @@
 //! spaced ones where an enumeration is too long; the sample has the special cases, fewer of the enumeration and the
 //! first of the random ones.
 
+pub mod chapter;
 mod damaged;
 mod events;
 mod measures;
@@ -13,6 +14,7 @@ pub mod rng;
 pub mod run;
 mod scan_errors;
 mod schema;
+pub mod script;
 mod source;
 mod tags;
 mod trees;
@@ -38,6 +40,20 @@ pub const FAMILIES: [(&str, Family); 7] = [
 /// Those that the accessors and `scan_error` answer.
 pub const ACCESSOR_FAMILIES: [(&str, Family); 3] =
     [("nodes", nodes::write), ("damaged", damaged::write), ("scan_errors", scan_errors::write)];
+
+/// Puts the next random cases of a family.
+pub const RANDOM: [(&str, Family); 7] = [
+    ("offsets", offsets::put_random),
+    ("schema", schema::put_random),
+    ("measures", measures::put_random),
+    ("walks", walks::put_random),
+    ("breaks", walks::put_breaks),
+    ("tags", tags::put_random),
+    ("trees", trees::put_random),
+];
+
+/// Sizes at the limits.
+pub const LIMITS: Family = trees::put_limits;
 
 /// The seed of the committed lists.
 pub const SEED: u64 = 20_261_008;

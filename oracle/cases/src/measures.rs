@@ -53,7 +53,7 @@ fn put_worked(run: &mut Run) {
     }
 }
 
-fn put_random(run: &mut Run) {
+pub fn put_random(run: &mut Run) {
     let style = run.rng.pick(&STYLES);
     let (source, value) = source::random(&mut run.rng, style, 8);
     let before = run.rng.pick(&["", "", "- ", "é: "]);

@@ -27,9 +27,7 @@ pub fn write(run: &mut Run) {
         }
     }
     for _ in 0..run.sized(110, 100_000) {
-        let text = run.rng.word(&LETTERS, 40);
-        let indices = random_indices(&mut run.rng, &text, 8);
-        put(run, &text, &indices);
+        put_random(run);
     }
     if run.full {
         for letters in ["a", "aé", "€a", "😀"] {
@@ -38,6 +36,12 @@ pub fn write(run: &mut Run) {
             put(run, &text, &indices);
         }
     }
+}
+
+pub fn put_random(run: &mut Run) {
+    let text = run.rng.word(&LETTERS, 40);
+    let indices = random_indices(&mut run.rng, &text, 8);
+    put(run, &text, &indices);
 }
 
 /// Every index of a text and two past its end, rising, falling and in random order.

@@ -145,11 +145,15 @@ pub fn write(run: &mut Run) {
         put(run, value, DOUBLE_QUOTED, tag);
     }
     for _ in 0..run.sized(600, 1_000_000) {
-        let value = random(run);
-        let tag = if run.rng.once_in(3) { run.rng.pick(&TAGS) } else { None };
-        let style = if run.rng.once_in(8) { FOLDED } else { PLAIN };
-        put(run, &value, style, tag);
+        put_random(run);
     }
+}
+
+pub fn put_random(run: &mut Run) {
+    let value = random(run);
+    let tag = if run.rng.once_in(3) { run.rng.pick(&TAGS) } else { None };
+    let style = if run.rng.once_in(8) { FOLDED } else { PLAIN };
+    put(run, &value, style, tag);
 }
 
 fn product<'a>(values: &'a [String], tags: &'a [Tag<'a>]) -> impl Iterator<Item = (&'a str, Tag<'a>)> {

@@ -51,13 +51,17 @@ pub fn write(run: &mut Run) {
         }
     }
     for _ in 0..run.sized(250, 1_000_000) {
-        let text = run.rng.word(&PARTS, 8) + run.rng.pick(&["", "a", " b"]);
-        let index = run.rng.below(characters(&text) as usize + 2) as u32;
-        let suffix = run.rng.pick(&[b"t".as_slice(), b"", b"int", "é".as_bytes(), LONG]);
-        put(run, &text, index, suffix);
-        if run.rng.once_in(3) {
-            put_collection(run);
-        }
+        put_random(run);
+    }
+}
+
+pub fn put_random(run: &mut Run) {
+    let text = run.rng.word(&PARTS, 8) + run.rng.pick(&["", "a", " b"]);
+    let index = run.rng.below(characters(&text) as usize + 2) as u32;
+    let suffix = run.rng.pick(&[b"t".as_slice(), b"", b"int", "é".as_bytes(), LONG]);
+    put(run, &text, index, suffix);
+    if run.rng.once_in(3) {
+        put_collection(run);
     }
 }
 

@@ -150,7 +150,7 @@ fn put_event_lists(run: &mut Run) {
 }
 
 /// A random document with ample room, with a room at its limit, and damaged.
-fn put_random(run: &mut Run) {
+pub fn put_random(run: &mut Run) {
     let (case, nodes) = random(&mut run.rng);
     run.put(&case);
 
@@ -308,7 +308,7 @@ impl Document {
 }
 
 /// Sizes one below the limits, at them and one above.
-fn put_limits(run: &mut Run) {
+pub fn put_limits(run: &mut Run) {
     let alias = encode(&[Event::Alias(u32::MAX)]);
     for length in [TEXT_LIMIT - 1, TEXT_LIMIT, TEXT_LIMIT + 1] {
         for letter in [b'a', 0x80] {

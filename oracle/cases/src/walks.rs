@@ -83,7 +83,7 @@ fn put_rooms(run: &mut Run, case: &Case) {
     }
 }
 
-fn put_random(run: &mut Run) {
+pub fn put_random(run: &mut Run) {
     let style = run.rng.pick(&STYLES);
     let (source, value) = source::random(&mut run.rng, style, 7);
     let before = run.rng.pick(&["", "", "- ", "é: "]);
@@ -104,6 +104,18 @@ fn put_random(run: &mut Run) {
         case.piece_room = run.rng.pick(&[0, exact.saturating_sub(1), exact, exact + 3]);
     }
     run.put(&case);
+}
+
+/// White space of all kinds between letters, some of which the value lacks: breaks that few scanners would give.
+pub fn put_breaks(run: &mut Run) {
+    let style = run.rng.pick(&STYLES);
+    let source = run.rng.word(&["a", "b", "\n", "\n", " ", " ", "\t", "\r"], 10);
+    let rng = &mut run.rng;
+    let value: String = source.chars().filter(|letter| letter.is_alphabetic() || rng.once_in(2)).collect();
+    let open = if style == SINGLE_QUOTED || style == DOUBLE_QUOTED { "'" } else { "" };
+    let text = format!("{open}{source}");
+    let column = run.rng.below(4) as u32;
+    run.put(&case(&text, 0, column, style, &value));
 }
 
 fn case(text: &str, index: u32, column: u32, style: u8, value: &str) -> Case {

@@ -1,8 +1,8 @@
 //! Chapters of a manual: a YAML text with the events that a scanner reads from it, markers where the scanner puts them.
 
+use crate::rng::Rng;
+use crate::run::{DOUBLE_QUOTED, FOLDED, LITERAL, PLAIN, SINGLE_QUOTED};
 use crate::script::Script;
-use cases::rng::Rng;
-use cases::run::{DOUBLE_QUOTED, FOLDED, LITERAL, PLAIN, SINGLE_QUOTED};
 use framing::Case;
 use framing::event::{Event, Scalar};
 
@@ -23,7 +23,8 @@ const LINE: usize = 72;
 /// A text of at least so many bytes less one section, the events, and rooms as a caller has them: a record for each
 /// node, and a piece for each eight bytes of text.
 pub fn chapter(shape: Shape, script: &Script, bytes: usize, seed: u64) -> Case {
-    let mut chapter = Chapter { rng: Rng::new(seed), script, text: String::new(), index: 0, events: Vec::new(), nodes: 0 };
+    let mut chapter =
+        Chapter { rng: Rng::new(seed), script, text: String::new(), index: 0, events: Vec::new(), nodes: 0 };
     chapter.root(shape, bytes);
     let piece_room = chapter.text.len() as u32 / 8 * 4;
     Case { text: chapter.text.into(), events: chapter.events, record_room: 12 * chapter.nodes, piece_room }
