@@ -1,0 +1,125 @@
+// The calls that read a text. (01: the table; N4.)
+ghost use mathlib.Core.Path.{_≡_};
+ghost use lib.ListN.{length};
+ghost use Rattle.parser.specs.Call.{building, readingScalar};
+ghost use Rattle.parser.specs.Call.{returned};
+ghost use Rattle.parser.specs.Record.{nodeNumbers};
+ghost use Rattle.node.specs.Marker.{scanError, scanned};
+ghost use Rattle.quarto_yaml.specs.Answer.{three, numbersIn, Fit, Told, ToldScalar};
+use node::marker::Scanned;
+use parser::answer::Answer;
+use parser::record::Node;
+
+// 0 and what the call says of the two others; or document 01's number, its place, and 0.
+#[repr(C)]
+pub struct Answered {
+    pub code: u32,
+    pub first: u32,
+    pub second: u32,
+}
+
+// The answer and the scalar's record, zero if it is refused.
+#[repr(C)]
+pub struct AnsweredScalar {
+    pub answer: Answered,
+    pub record: [u32; 12],
+}
+
+// The twelve numbers of a record in their order.
+fn numbers(x: Node) -> [u32; 12]
+    ensures { λ r. ⌜ r ≡ nodeNumbers x ⌝ }
+{
+    [
+        x.kind,
+        x.extent.start,
+        x.extent.end,
+        x.tag.start,
+        x.tag.end,
+        x.tag.suffix,
+        x.tag.len,
+        x.subtree,
+        x.list.first,
+        x.list.count,
+        x.payload.first,
+        x.payload.second,
+    ]
+}
+
+// The three numbers of an answer.
+fn of_answer(a: Answer) -> Answered
+    requires { ⌜ Fit (returned a) ⌝ }
+    ensures { λ r. ⌜ numbersIn r ≡ three (returned a) ⌝ }
+{
+    match a {
+        Answer::Built { nodes, pieces } => Answered {
+            code: 0,
+            first: nodes as u32,
+            second: pieces as u32,
+        },
+        Answer::Refused { number, place } => Answered {
+            code: number,
+            first: place as u32,
+            second: 0,
+        },
+    }
+}
+
+// `build`: 0, records and pieces.
+#[no_mangle]
+pub extern "C" fn quarto_yaml_build(
+    text: &[u8],
+    events: &[u8],
+    records: &mut [u32],
+    pieces: &mut [u32],
+) -> Answered
+    ensures { λ r. ⌜ Told (length (now (records .entry))) (length (now (pieces .entry))) (building (now (text .entry)) (now (events .entry)) (length (now (records .entry))) (length (now (pieces .entry)))) r (now (records .exit)) (now (pieces .exit)) ⌝ }
+{
+    of_answer(parser::build::build(text, events, records, pieces))
+}
+
+// `scalar`: 0, 1 and pieces.
+#[no_mangle]
+pub extern "C" fn quarto_yaml_scalar(
+    text: &[u8],
+    index: u32,
+    column: u32,
+    style: u8,
+    empty_span: bool,
+    value: &[u8],
+    pieces: &mut [u32],
+) -> AnsweredScalar
+    ensures { λ r. ⌜ ToldScalar (length (now (pieces .entry))) (readingScalar (now (text .entry)) index column style «empty_span» (now (value .entry)) (length (now (pieces .entry)))) r (now (pieces .exit)) ⌝ }
+{
+    let r = parser::one::scalar(text, index, column, style, empty_span, value, pieces);
+    let a = r.answer;
+    let x = r.node;
+    let answer = of_answer(a);
+    let record = numbers(x);
+    AnsweredScalar { answer, record }
+}
+
+// The three numbers of a span or a refusal.
+fn of_scanned(s: Scanned) -> Answered
+    ensures { λ r. ⌜ numbersIn r ≡ three (scanned s) ⌝ }
+{
+    match s {
+        Scanned::Span(e) => Answered {
+            code: 0,
+            first: e.start,
+            second: e.end,
+        },
+        Scanned::Refused(number) => Answered {
+            code: number,
+            first: 0,
+            second: 0,
+        },
+    }
+}
+
+// `scan_error`: 0, start and end.
+#[no_mangle]
+pub extern "C" fn quarto_yaml_scan_error(text: &[u8], index: u32) -> Answered
+    ensures { λ r. ⌜ numbersIn r ≡ three (scanError (now (text .entry)) index) ⌝ }
+{
+    of_scanned(node::marker::scan_error(text, index))
+}
