@@ -15,6 +15,8 @@ pub mod RunLaws
 pub mod Layout
 -- the two public calls
 pub mod Call
+-- how many nodes and pieces a call comes to at most, and which places and numbers
+pub mod Bounds
 -- what the code's values hold of the machine's state: for the inner calls
 pub mod Held
 -- K1 to K12

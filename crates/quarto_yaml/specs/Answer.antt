@@ -11,7 +11,7 @@ use Rattle.quarto_yaml.specs.declared.build.Answered.{Answered}
 use Rattle.quarto_yaml.specs.declared.build.AnsweredScalar.{AnsweredScalar}
 
 -- a row of the table as three numbers: a refusal has 0 after its place
-unfoldable pub three : List ℕ → List ℕ
+abbrev pub three : List ℕ → List ℕ
 three row = take 3 (row ++ (0 ∷ []))
 
 -- every number of a row is one of 32 bits

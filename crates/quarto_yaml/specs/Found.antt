@@ -5,24 +5,25 @@ use Rattle.parser.specs.declared.record.Extent.{Extent}
 use Rattle.parser.specs.declared.record.TagInfo.{TagInfo}
 use Rattle.parser.specs.declared.record.PieceList.{PieceList}
 use Rattle.node.specs.declared.entry.YamlHashEntry.{YamlHashEntry}
+use Rattle.quarto_yaml.specs.None.{Each}
 use Rattle.quarto_yaml.specs.declared.source.FoundSpan.{FoundSpan}
 use Rattle.quarto_yaml.specs.declared.source.FoundTag.{FoundTag}
 use Rattle.quarto_yaml.specs.declared.source.FoundPieces.{FoundPieces}
 use Rattle.quarto_yaml.specs.declared.source.FoundEntry.{FoundEntry}
 
-unfoldable pub foundSpan : Option Extent → FoundSpan
+abbrev pub foundSpan : Option Extent → FoundSpan
 foundSpan none = record { present = 0; start = 0; end = 0 }
 foundSpan (some e) = record { present = 1; start = e .start; end = e .end }
 
-unfoldable pub foundTag : Option TagInfo → FoundTag
+abbrev pub foundTag : Option TagInfo → FoundTag
 foundTag none = record { present = 0; start = 0; end = 0; suffix = 0; len = 0 }
 foundTag (some t) = record { present = 1; start = t .start; end = t .end; suffix = t .suffix; len = t .len }
 
-unfoldable pub foundPieces : Option PieceList → FoundPieces
+abbrev pub foundPieces : Option PieceList → FoundPieces
 foundPieces none = record { present = 0; first = 0; count = 0 }
 foundPieces (some l) = record { present = 1; first = l .first; count = l .count }
 
-unfoldable pub foundEntry : Option YamlHashEntry → FoundEntry
+abbrev pub foundEntry : Option YamlHashEntry → FoundEntry
 foundEntry none =
     record {
       present = 0;
@@ -50,5 +51,4 @@ foundEntry (some e) =
 
 -- the records of a pair, if there is one, are at most m
 abbrev pub RecordsAtMost : ℕ → Option YamlHashEntry → Type 0
-RecordsAtMost m none = Unit {0}
-RecordsAtMost m (some e) = (e .key ≤ m) × (e .value ≤ m)
+RecordsAtMost m = Each (λ (e : YamlHashEntry). (e .key ≤ m) × (e .value ≤ m))

@@ -6,17 +6,20 @@ use mathlib.Core.Option.{Option, none, some}
 abbrev pub largest : ℕ
 largest = 0xffff_ffff
 
-unfoldable pub orNone : Option ℕ → ℕ
+abbrev pub orNone : Option ℕ → ℕ
 orNone none = largest
 orNone (some n) = n
 
 -- 1 for yes, 0 for no
-unfoldable pub flagOrNone : Option Bool → ℕ
+abbrev pub flagOrNone : Option Bool → ℕ
 flagOrNone none = largest
 flagOrNone (some true) = 1
 flagOrNone (some false) = 0
 
--- a number, if there is one, is at most m
+-- what there is, if anything, has the property
+abbrev pub Each : {A : Type 0} → (A → Type 0) → Option A → Type 0
+Each P none = Unit {0}
+Each P (some a) = P a
+
 abbrev pub AtMost : ℕ → Option ℕ → Type 0
-AtMost m none = Unit {0}
-AtMost m (some n) = n ≤ m
+AtMost m = Each (λ (n : ℕ). n ≤ m)

@@ -1,0 +1,40 @@
+-- `quarto_yaml_build` is `build` in 32 bits: its counts and its place are bounded by the event bytes and by the pieces that are let in. Assumes nothing.
+use mathlib.Core.Path.{ap, _∙_}
+use lib.ListN.{length}
+use native.Mathlib.Omega.{arith}
+use borrow.Author.Needs.{needs}
+use Rattle.event.specs.Read.{eventsLimit}
+use Rattle.parser.specs.Layout.{pieceLimit}
+use Rattle.parser.specs.Call.{building}
+use Rattle.parser.specs.Bounds.{building-bounded}
+use Rattle.quarto_yaml.proofs.Rows.{told-fits}
+use Rattle.quarto_yaml.specs.Answer.{three}
+use Rattle.quarto_yaml.proofs.build.quarto_yaml_build.Statement.{statement}
+use Rattle.quarto_yaml.proofs.build.quarto_yaml_build.Tie as tie
+
+build-requires : tie.Need-build-requires
+build-requires c κs = search needs
+
+of-answer-requires : tie.Need-of-answer-requires
+of-answer-requires c κs =
+    let a = c .before .before .before .before .before .before .before .before .before .before .before .args in
+    let size = length (a .records .now) in
+    let pieceSize = length (a .pieces .now) in
+    told-fits eventsLimit pieceLimit (building (a .text .now) (a .events .now) size pieceSize) _ (omega arith) (omega arith)
+    (building-bounded (a .text .now) (a .events .now) size pieceSize (λ k. c .before .before .before .before .before .before .before .before .before .shared-slice-known2 .given k .fits))
+    (c .before .before .before .before .build .ensures .answer)
+
+same-length : tie.Need-same-length
+same-length c = search needs
+
+same-length-2 : tie.Need-same-length-2
+same-length-2 c = search needs
+
+returns : tie.Need-returns
+returns c =
+    let made = c .before .before .before .before .before .build .ensures in
+    record { answer = c .of-answer .ensures ∙ ap three (made .answer); all-records = made .all-records; all-pieces = made .all-pieces }
+
+pub quarto-yaml-build-spec : {M : Type 1} → statement M
+quarto-yaml-build-spec =
+    tie.close (tie.spec build-requires of-answer-requires same-length same-length-2 returns)

@@ -1,0 +1,38 @@
+-- `quarto_yaml_scalar` is `scalar` in 32 bits: its counts are 1 and what is let in of pieces. Assumes nothing.
+use mathlib.Core.Path.{ap, _∙_}
+use lib.ListN.{length}
+use native.Mathlib.Omega.{arith}
+use borrow.Author.Needs.{needs}
+use Rattle.parser.specs.Layout.{pieceLimit}
+use Rattle.parser.specs.Record.{nodeNumbers}
+use Rattle.parser.specs.Call.{readingScalar}
+use Rattle.parser.specs.Bounds.{scalar-bounded}
+use Rattle.quarto_yaml.proofs.Rows.{told-fits}
+use Rattle.quarto_yaml.specs.Answer.{three}
+use Rattle.quarto_yaml.proofs.build.quarto_yaml_scalar.Statement.{statement}
+use Rattle.quarto_yaml.proofs.build.quarto_yaml_scalar.Tie as tie
+
+scalar-requires : tie.Need-scalar-requires
+scalar-requires c κs = search needs
+
+of-answer-requires : tie.Need-of-answer-requires
+of-answer-requires c κs =
+    let a = c .before .before .before .before .before .before .before .before .args in
+    told-fits 1 pieceLimit (readingScalar (a .text .now) (a .index) (a .column) (a .style) (a .empty-span) (a .value .now) (length (a .pieces .now))) _ (omega arith) (omega arith)
+    (scalar-bounded (a .text .now) (a .index) (a .column) (a .style) (a .empty-span) (a .value .now) (length (a .pieces .now)))
+    (c .before .before .before .scalar .ensures .answer)
+
+numbers-requires : tie.Need-numbers-requires
+numbers-requires c κs = search needs
+
+same-length : tie.Need-same-length
+same-length c = search needs
+
+returns : tie.Need-returns
+returns c =
+    let made = c .before .before .before .before .before .scalar .ensures in
+    record { answer = c .before .of-answer .ensures ∙ ap three (made .answer); one-record = c .numbers .ensures ∙ ap nodeNumbers (made .one-record); all-pieces = made .all-pieces }
+
+pub quarto-yaml-scalar-spec : {M : Type 1} → statement M
+quarto-yaml-scalar-spec =
+    tie.close (tie.spec scalar-requires of-answer-requires numbers-requires same-length returns)

@@ -1,0 +1,20 @@
+-- `quarto_yaml_child_before` is `child_before` in 32 bits: the record that it answers has a number of at most the one it is asked about. Assumes nothing.
+use mathlib.Core.Path.{ap, _∙_}
+use native.Mathlib.Omega.{arith}
+use borrow.Author.Needs.{needs}
+use Rattle.quarto_yaml.proofs.Records.{fits, child-before-at-most}
+use Rattle.quarto_yaml.specs.None.{orNone}
+use Rattle.quarto_yaml.proofs.child.quarto_yaml_child_before.Statement.{statement}
+use Rattle.quarto_yaml.proofs.child.quarto_yaml_child_before.Tie as tie
+
+child-before-requires : tie.Need-child-before-requires
+child-before-requires c κs = search needs
+
+or-none-requires : tie.Need-or-none-requires
+or-none-requires c κs = let start = c .before .before in fits (start .args .c) (omega arith) (c .child-before .ensures) (child-before-at-most (start .args .records .now) (start .args .c))
+
+returns : tie.Need-returns
+returns c = c .or-none .ensures ∙ ap orNone (c .before .child-before .ensures)
+
+pub quarto-yaml-child-before-spec : {M : Type 1} → statement M
+quarto-yaml-child-before-spec = tie.close (tie.spec child-before-requires or-none-requires returns)

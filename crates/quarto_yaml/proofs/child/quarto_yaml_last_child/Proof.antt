@@ -1,0 +1,20 @@
+-- `quarto_yaml_last_child` is `last_child` in 32 bits: the record that it answers has a number of at most the one it is asked about. Assumes nothing.
+use mathlib.Core.Path.{ap, _∙_}
+use native.Mathlib.Omega.{arith}
+use borrow.Author.Needs.{needs}
+use Rattle.quarto_yaml.proofs.Records.{fits, last-at-most}
+use Rattle.quarto_yaml.specs.None.{orNone}
+use Rattle.quarto_yaml.proofs.child.quarto_yaml_last_child.Statement.{statement}
+use Rattle.quarto_yaml.proofs.child.quarto_yaml_last_child.Tie as tie
+
+last-child-requires : tie.Need-last-child-requires
+last-child-requires c κs = search needs
+
+or-none-requires : tie.Need-or-none-requires
+or-none-requires c κs = let start = c .before .before in fits (start .args .n) (omega arith) (c .last-child .ensures) (last-at-most (start .args .records .now) (start .args .n))
+
+returns : tie.Need-returns
+returns c = c .or-none .ensures ∙ ap orNone (c .before .last-child .ensures)
+
+pub quarto-yaml-last-child-spec : {M : Type 1} → statement M
+quarto-yaml-last-child-spec = tie.close (tie.spec last-child-requires or-none-requires returns)

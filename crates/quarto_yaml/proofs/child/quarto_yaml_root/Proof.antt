@@ -1,0 +1,20 @@
+-- `quarto_yaml_root` is `root` in 32 bits: the record that it answers has a number of at most the one it is asked about. Assumes nothing.
+use mathlib.Core.Path.{ap, _∙_}
+use native.Mathlib.Omega.{arith}
+use borrow.Author.Needs.{needs}
+use Rattle.quarto_yaml.proofs.Records.{fits, before-at-most}
+use Rattle.quarto_yaml.specs.None.{orNone}
+use Rattle.quarto_yaml.proofs.child.quarto_yaml_root.Statement.{statement}
+use Rattle.quarto_yaml.proofs.child.quarto_yaml_root.Tie as tie
+
+root-requires : tie.Need-root-requires
+root-requires c κs = search needs
+
+or-none-requires : tie.Need-or-none-requires
+or-none-requires c κs = let start = c .before .before in fits (start .args .nodes) (omega arith) (c .root .ensures) (before-at-most (start .args .records .now) (start .args .nodes))
+
+returns : tie.Need-returns
+returns c = c .or-none .ensures ∙ ap orNone (c .before .root .ensures)
+
+pub quarto-yaml-root-spec : {M : Type 1} → statement M
+quarto-yaml-root-spec = tie.close (tie.spec root-requires or-none-requires returns)
