@@ -2,49 +2,54 @@
  * quarto_yaml: from the text of a YAML file and the events of a YAML parser to a record for each node and, for each scalar, the
  * pieces that say from which bytes of the file every stretch of its value came.
  *
- * No heap, no threads, no state, no input or output: a call reads what it is given, writes the buffers that it is lent, and returns.
- * It may be called from several threads at once on different buffers. Every call ends, whatever the bytes are, and reads and writes
- * nothing outside the lengths that it is given.
+ *     rt staticlib quarto_yaml                                             makes target/staticlib/libquarto_yaml.a
+ *     cc -Iinclude program.c target/staticlib/libquarto_yaml.a -o program  links it; it needs nothing but `memset`
+ *
+ * No heap, no threads, no state, no input or output, a few kilobytes of stack: a call reads what it is given, writes the buffers that it
+ * is lent, and returns. Every call ends, whatever the bytes are, and reads and writes nothing outside the lengths that it is given.
+ * Calls may run at the same time on different lent buffers.
  *
  * POINTERS. A slice is a pointer and its length: in bytes for `uint8_t`, in numbers for `uint32_t`. With length 0 the pointer is not
- * used and may be NULL; otherwise it must not be NULL and must lead to so many readable (for `uint32_t *`, writable) elements, a
- * `uint32_t` one aligned as such. A buffer lent for writing must not overlap anything else that the same call is given. A `bool`
- * must be 0 or 1, which C sees to.
+ * used and may be NULL; otherwise it leads to so many elements, `uint32_t` ones aligned as such. A buffer lent for writing (a pointer
+ * without `const`) must not overlap anything else that the same call is given. Text, events, value and key are never written.
  *
  * EVENTS. All numbers high byte first. An event is
  *
  *     1 byte   which event: 1 sequence start, 2 sequence end, 3 mapping start, 4 mapping end, 5 scalar, 6 alias
- *     2 bytes  the length of the body
- *     body     4 bytes  marker index: how many characters (code points, not bytes) of the text stand before it
- *              of 2, 4 and 6 no more; of 1 and 3 then the YAML tag; of 5 then
- *              4 bytes  column; 1 byte style: 0 plain, 1 single-quoted, 2 double-quoted, 3 literal, 4 folded
- *              1 byte   0, or 1 where the parser gave the scalar an empty span; the YAML tag; the value, to the body's end
- *     YAML tag 1 byte 0 for none; or 1 byte 1, 2 bytes length, handle, 2 bytes length, suffix
+ *     2 bytes  the length of the body that follows
+ *     body     4 bytes  marker index: so many characters (code points, not bytes) of the text stand before the marker
+ *              2, 4, 6: no more. 1, 3: the YAML tag. 5: 4 bytes column; 1 byte style: 0 plain, 1 single-quoted, 2 double-quoted,
+ *              3 literal, 4 folded; 1 byte empty span: 0, or 1; the YAML tag; the value, to the end of the body
+ *     YAML tag 1 byte 0 for none; or 1 byte 1, 2 bytes length, the handle, 2 bytes length, the suffix
  *
- * Handle, suffix and value are UTF-8. There is no event for the start and end of the stream or of the document: the events are
- * those of one root.
+ * Handle, suffix and value are UTF-8, the value with its escapes and folds resolved, as a parser hands it over. There is no event for
+ * the start and end of the stream or the document: the events are those of one root. A body has up to 65,535 bytes.
+ *
+ * The marker of a scalar or of a flow collection is its first character (the quote, `[`, `{`), not its tag or anchor; of a literal or
+ * folded scalar the first character of its content, with that character's column; where it has no content its `|` or `>`, or the next
+ * token with empty span 1. A block mapping's start may stand anywhere: its span starts at its first key. A missing value has its marker on the
+ * `:` before it. An end has it on the closing bracket, or where a block collection ends.
  *
  * RECORDS. Twelve `uint32_t` for each node, in the order in which nodes are complete: children before their collection, the root
- * last. The number of a record counts from 0; it starts at `records[12 * number]`. By place (QUARTO_YAML_AT_...):
+ * last. Record n, from 0, starts at `records[12 * n]`. By place (QUARTO_YAML_AT_...):
  *
  *     0      kind, QUARTO_YAML_KIND_...
- *     1, 2   span in the text: first byte, and the byte after the last
- *     3, 4   span of the tag in the text          \  all four QUARTO_YAML_NONE
- *     5, 6   the suffix in the events: place, length  /  where there is no tag
+ *     1, 2   its span in the text: first byte, and the byte after the last
+ *     3, 4   the span of its tag in the text
+ *     5, 6   the tag's suffix in the events: place, length. 3 to 6 are all QUARTO_YAML_NONE where there is no tag
  *     7      records in its subtree, itself counted
- *     8, 9   number of its first piece, and how many; QUARTO_YAML_NONE and 0 where there is no list, as for every collection
- *     10, 11 boolean: 0 or 1, and 0. Integer: high and low 32 bits of its 64, two's complement. Real, string: place in the events,
- *            and length of the value's bytes (in a call on one scalar: place 0). Array: items, and 0. Hash: pairs, and 0. Else 0, 0.
+ *     8, 9   its first piece, and how many; QUARTO_YAML_NONE and 0 where there is no list, as for every collection
+ *     10, 11 boolean: 0 or 1, and 0. Integer: the high and low 32 bits of its 64, two's complement. Real, string: place of the value
+ *            in the events (0 in a call on one scalar), and its length. Array: items, and 0. Hash: pairs, and 0. Else 0 and 0
  *
- * The children of a hash are its keys and values in turn. An alias is a null of span length 0. A scalar whose pieces cannot be found
- * has no list; a scalar with an empty value has a list of no pieces.
+ * The children of a hash are its keys and values in turn; every pair is kept, equal keys too. An alias is a null of span length 0. A
+ * scalar whose pieces cannot be found has no list; one with an empty value has a list of no pieces.
  *
- * PIECES. Four `uint32_t` each: 1 verbatim or 2 replacement, first byte in the text, the byte after the last, length in bytes of
- * the content that it stands for. The contents of a scalar's pieces, one after the other, are its value. Verbatim: the bytes are
- * the content. The number of a piece counts from 0; it starts at `pieces[4 * number]`. An escape that the text's end cuts off still
- * claims its whole length, so a piece can end up to 4 bytes past the text: compare with the text's length before using an end.
- *
- * Numbers of both buffers that are not used are set to 0; of a refused call all of them.
+ * PIECES. Four `uint32_t` each: 1 verbatim or 2 replacement, first byte in the text, the byte after the last, and the length in bytes
+ * of the content that they stand for; of a verbatim piece the bytes are the content. Piece n, from 0, starts at `pieces[4 * n]`. A
+ * scalar's pieces in order stand for its value from the front. Of an escape the content is as long as what it names and is not
+ * compared with the value, so the last content can reach past the value; and an escape that the text's end cuts off still claims its
+ * whole length, so a piece can end up to 4 bytes past the text: compare with the text's length before you use an end.
  */
 #ifndef QUARTO_YAML_H
 #define QUARTO_YAML_H
@@ -70,8 +75,8 @@ extern "C" {
 #define QUARTO_YAML_DEPTH_LIMIT 64
 #define QUARTO_YAML_PIECE_LIMIT 4294967294u
 
-/* The table of numbers, and the place that comes with each: of 3 to 8 the number of the event, from 0. Text and sizes are looked at
- * first, then the events in order, each tested from 3 upward. */
+/* What a call answers, and the place that comes with it: of 3 to 8 the number of the event, from 0. Sizes and UTF-8 come first, then
+ * the events in order, each tested from 3 upward. There is no other number. */
 enum {
     QUARTO_YAML_OK = 0,
     QUARTO_YAML_TOO_LONG = 1,        /* text, value or events above their limit. Place 0 */
@@ -148,11 +153,11 @@ typedef struct {
 } quarto_yaml_scalar_answer;
 
 /*
- * A whole document. Answers 0, how many records and how many pieces; they stand at the front of the buffers, and the rest of both is
- * 0. Otherwise 1 to 9, its place, 0, and both buffers are 0. What the buffers held before does not matter.
+ * A whole document. Answers 0, how many records and how many pieces; they stand at the front of the buffers, and all numbers
+ * past them are 0. Otherwise 1 to 9, its place, 0, and both buffers are 0. What the buffers held before does not matter.
  *
- * An event has at least 7 bytes, so `events_len / 7` records (twelve numbers each) are always enough. One piece for each byte of the
- * text and one for each scalar are enough for the events of a parser; where they are not, 8 says so.
+ * An event has at least 7 bytes, so `events_len / 7` records (twelve numbers each) are always enough. As a rule a piece for each byte
+ * of the text and one for each scalar are; where they are not, 8 says so.
  */
 quarto_yaml_answer quarto_yaml_build(const uint8_t *text, size_t text_len, const uint8_t *events, size_t events_len,
                                      uint32_t *records, size_t records_len, uint32_t *pieces, size_t pieces_len);
