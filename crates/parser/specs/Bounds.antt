@@ -1,5 +1,5 @@
 -- What a call comes to is in bounds: the nodes and the place by the number of event bytes, since each node has an event and each event that
--- leads on takes at least a byte; the pieces by their room; the number by the table's last. Assumes nothing.
+-- leads on takes at least a byte; the pieces by their room; the number by the table's last. Assumes nothing but that events are bytes.
 use mathlib.Core.Path.{_≡_, refl, sym, ap, _∙_}
 use Prim.Native.Nat.{ℕ, zero, suc, _+_, _≤_, _<_}
 use mathlib.Core.Bool.{Bool, true, false}
@@ -25,7 +25,9 @@ use Rattle.parser.specs.Pick.{pick}
 use Rattle.parser.specs.Record.{withList}
 use Rattle.parser.specs.Scalar.{ScalarAt}
 use Rattle.parser.specs.Collection.{closes}
-use Rattle.parser.specs.Machine.{State, empty, Next, go, stop, Outcome, built, refused, rootDone, beforeRoot, withinDepth, withinRoom, completed, started, ended, closed, aliased, keeping, scalarAt, scalarKept, scalared, step, nextPlace, ending, follow, run, runAll}
+use Rattle.parser.specs.Machine.{State, empty, Next, go, stop, Outcome, built, refused, rootDone, beforeRoot, withinDepth, withinRoom}
+use Rattle.parser.specs.Machine.{completed, started, ended, closed, aliased, keeping, scalarAt, scalarKept, scalared}
+use Rattle.parser.specs.Machine.{step, nextPlace, ending, follow, run, runAll}
 use Rattle.parser.specs.RunLaws.{onward, stop-not-go}
 use Rattle.parser.specs.Layout.{recordRoom, pieceRoom, pieceLimit}
 use Rattle.parser.specs.Call.{admitted, building, oneScalar, readingScalar}
@@ -72,6 +74,9 @@ module _ (k r : ℕ) where
   unfolding completed
   completes x st h = (simp length-append (omega arith), h .1)
 
+abbrev withPieces : List Piece → State → State
+withPieces ps st = record { nodes = st .nodes; opens = st .opens; pieces = st .pieces ++ ps }
+
 module _ (text events : List ℕ) (room r k : ℕ) where
   start-stepped : (mapping : Bool) (index : ℕ) (tag : YamlTag) (st : State) → Holding k r st → Stepped (k + 1) r (started text mapping index tag st)
   unfolding started
@@ -88,11 +93,11 @@ module _ (text events : List ℕ) (room r k : ℕ) where
   alias-stepped index st h = before-root (k + 1) r st _ (within-room (k + 1) r room st _ (completes k r _ st h))
 
   kept-in-room : (x : Node) (ps : List Piece) (st : State) (t : Bool) → ltb r (length (st .pieces) + length ps) ≡ t → Holding k r st
-      → Stepped (k + 1) r (pick t (stop 8) (go (completed (withList x (length (st .pieces)) (length ps)) (record { nodes = st .nodes; opens = st .opens; pieces = st .pieces ++ ps }))))
+      → Stepped (k + 1) r (pick t (stop 8) (go (completed (withList x (length (st .pieces)) (length ps)) (withPieces ps st))))
   kept-in-room x ps st true e h = omega arith
   kept-in-room x ps st false e h =
       let fit = ltb-false r (length (st .pieces) + length ps) e in
-      completes k r _ (record { nodes = st .nodes; opens = st .opens; pieces = st .pieces ++ ps }) (h .0, simp length-append (omega arith))
+      completes k r _ (withPieces ps st) (h .0, simp length-append (omega arith))
 
   keep-stepped : (x : Node) (l : Option (List Piece)) (st : State) → Holding k r st → Stepped (k + 1) r (keeping r x l st)
   unfolding keeping
@@ -125,7 +130,8 @@ ended-bounded n r k st h l = by (rootDone st)
 
 module _ (text events : List ℕ) (bytes : Bytes events) (room r : ℕ) where
   -- an event that leads on ends further on, within the bytes
-  led-on : (i : ℕ) (st n : State) → step text events room r (readEvent events i) st ≡ go n → (i < nextPlace (readEvent events i)) × (nextPlace (readEvent events i) ≤ length events)
+  led-on : (i : ℕ) (st n : State) → step text events room r (readEvent events i) st ≡ go n
+      → (i < nextPlace (readEvent events i)) × (nextPlace (readEvent events i) ≤ length events)
   led-on i st n e =
       onward events i (readEvent events i) (answer-within events i bytes)
       (λ bad. stop-not-go 3 n (sym (ap (λ (x : Event). step text events room r x st) bad) ∙ e))
@@ -134,7 +140,9 @@ module _ (text events : List ℕ) (bytes : Bytes events) (room r : ℕ) where
   pub run-bounded : (f i k : ℕ) (st : State) → Holding k r st → k ≤ i → i ≤ length events → Bounded (length events) r (run text events room r f i k st)
   unfolding run
   run-bounded zero i k st h l m = ended-bounded (length events) r k st h (omega arith)
-  run-bounded (suc f) i k st h l m = by (ltb i (length events)) (step text events room r (readEvent events i) st) refl (stepped text events room r k (readEvent events i) st h) (λ j u g a b. run-bounded f j (k + 1) u g a b)
+  run-bounded (suc f) i k st h l m =
+      by (ltb i (length events)) (step text events room r (readEvent events i) st) refl (stepped text events room r k (readEvent events i) st h)
+      (λ j u g a b. run-bounded f j (k + 1) u g a b)
     where
       by : (t : Bool) (n : Next) → step text events room r (readEvent events i) st ≡ n → Stepped (k + 1) r n
           → ((j : ℕ) (u : State) → Holding (k + 1) r u → k + 1 ≤ j → j ≤ length events → Bounded (length events) r (run text events room r f j (k + 1) u))

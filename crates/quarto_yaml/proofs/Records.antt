@@ -33,7 +33,7 @@ module _ {A B : Type 0} (Q : B → Type 0) (f : A → Option B) where
   each-after none g = tt
   each-after (some a) g = g a
 
-module _ {A : Type 0} (P Q : A → Type 0) where
+module _ {A : Type 0} (P : A → Type 0) where
   each-when : (t : Bool) (o : Option A) → Each P o → Each P (when t o)
   each-when true o h = h
   each-when false o h = tt
@@ -42,13 +42,9 @@ module _ {A : Type 0} (P Q : A → Type 0) where
   each-pick true o u h i = h
   each-pick false o u h i = i
 
-  each-wider : (o : Option A) → ((a : A) → P a → Q a) → Each P o → Each Q o
-  each-wider none g h = tt
-  each-wider (some a) g h = g a h
-
--- a property of no use where a lemma asks for two
-abbrev Any : {A : Type 0} → A → Type 0
-Any a = Unit {0}
+each-wider : {A : Type 0} (P Q : A → Type 0) (o : Option A) → ((a : A) → P a → Q a) → Each P o → Each Q o
+each-wider P Q none g h = tt
+each-wider P Q (some a) g h = g a h
 
 abbrev Upto : ℕ → ℕ → Type 0
 Upto m n = n ≤ m
@@ -62,83 +58,109 @@ wider m n o l h = each-wider (Upto m) (Upto n) o (λ a g. omega arith) h
 -- ---- the accessors
 
 module _ (b : List ℕ) where
-  place-at-most : (n : ℕ) → AtMost n (placeAt b n)
+  place-at-most : (n m : ℕ) → n ≤ m → AtMost m (placeAt b n)
   unfolding placeAt
-  place-at-most n = each-after (Upto n) (λ (x : Node). some n) (recordAt b n) (λ x. omega arith)
+  place-at-most n m l = each-after (Upto m) (λ (x : Node). some n) (recordAt b n) (λ x. l)
 
   pub before-at-most : (n : ℕ) → AtMost n (recordBefore b n)
   unfolding recordBefore
-  before-at-most n = each-when (Upto n) Any (ltb 0 n) (placeAt b (n - 1)) (wider (n - 1) n (placeAt b (n - 1)) (omega arith) (place-at-most (n - 1)))
+  before-at-most n = each-when (Upto n) (ltb 0 n) (placeAt b (n - 1)) (place-at-most (n - 1) n (omega arith))
 
   pub last-at-most : (n : ℕ) → AtMost n (lastChild b n)
   unfolding lastChild
   last-at-most n =
-      each-after (Upto n) (λ (k : ℕ). when (ltb 0 k) (recordBefore b n)) (lenAt b n) (λ k. each-when (Upto n) Any (ltb 0 k) (recordBefore b n) (before-at-most n))
+      each-after (Upto n) (λ (k : ℕ). when (ltb 0 k) (recordBefore b n)) (lenAt b n)
+      (λ k. each-when (Upto n) (ltb 0 k) (recordBefore b n) (before-at-most n))
+
+  less-at-most : (c s : ℕ) → AtMost c (lessCount b c s)
+  less-at-most c s = each-when (Upto c) (ltb 0 s && leb s c) (placeAt b (c - s)) (place-at-most (c - s) c (omega arith))
 
   pub child-before-at-most : (c : ℕ) → AtMost c (childBefore b c)
   unfolding childBefore
-  child-before-at-most c =
-      each-after (Upto c) (λ (x : Node). lessCount b c (x .subtree)) (recordAt b c)
-      (λ x. each-when (Upto c) Any (ltb 0 (x .subtree) && leb (x .subtree) c) (placeAt b (c - x .subtree))
-      (wider (c - x .subtree) c (placeAt b (c - x .subtree)) (omega arith) (place-at-most (c - x .subtree))))
+  child-before-at-most c = each-after (Upto c) (λ (x : Node). lessCount b c (x .subtree)) (recordAt b c) (λ x. less-at-most c (x .subtree))
 
-  steps-at-most : (k c : ℕ) → AtMost c (stepsBack b k c)
+  steps-at-most : (k c m : ℕ) → c ≤ m → AtMost m (stepsBack b k c)
   unfolding stepsBack
-  steps-at-most zero c = omega arith
-  steps-at-most (suc k) c =
-      each-then (Upto c) (Upto c) (stepsBack b k) (childBefore b c) (child-before-at-most c) (λ u h. wider u c (stepsBack b k u) h (steps-at-most k u))
+  steps-at-most zero c m l = l
+  steps-at-most (suc k) c m l =
+      each-then (Upto c) (Upto m) (stepsBack b k) (childBefore b c) (child-before-at-most c) (λ u h. steps-at-most k u m (omega arith))
 
   from-last-at-most : (n k : ℕ) → AtMost n (childFromLast b n k)
   unfolding childFromLast
-  from-last-at-most n k =
-      each-then (Upto n) (Upto n) (stepsBack b k) (recordBefore b n) (before-at-most n) (λ c h. wider c n (stepsBack b k c) h (steps-at-most k c))
+  from-last-at-most n k = each-then (Upto n) (Upto n) (stepsBack b k) (recordBefore b n) (before-at-most n) (λ c h. steps-at-most k c n h)
+
+  -- item i of an array of k
+  abbrev itemOf : ℕ → ℕ → Bool → ℕ → Option ℕ
+  itemOf n i t k = when (t && ltb i k) (childFromLast b n (k - 1 - i))
 
   pub item-at-most : (n i : ℕ) → AtMost n (arrayItem b n i)
   unfolding arrayItem
   item-at-most n i =
-      each-after (Upto n) (λ (x : Node). when (isArray x && ltb i (x .payload .first)) (childFromLast b n (x .payload .first - 1 - i))) (recordAt b n)
-      (λ x. each-when (Upto n) Any (isArray x && ltb i (x .payload .first)) (childFromLast b n (x .payload .first - 1 - i)) (from-last-at-most n (x .payload .first - 1 - i)))
+      each-after (Upto n) (λ (x : Node). itemOf n i (isArray x) (x .payload .first)) (recordAt b n)
+      (λ x. let k = x .payload .first in each-when (Upto n) (isArray x && ltb i k) (childFromLast b n (k - 1 - i)) (from-last-at-most n (k - 1 - i)))
 
-  pair-at-most : (v : ℕ) → RecordsAtMost v (pairEnding b v)
+  -- the pair of a value v, which is y, and the key k
+  abbrev pairOf : ℕ → Node → ℕ → Option YamlHashEntry
+  pairOf v y k = andThen (recordAt b k) (λ (x : Node). some (entry k x v y))
+
+  pair-at-most : (v m : ℕ) → v ≤ m → RecordsAtMost m (pairEnding b v)
   unfolding pairEnding
-  pair-at-most v =
-      each-after (PairUpto v) (λ (y : Node). andThen (childBefore b v) (λ (k : ℕ). andThen (recordAt b k) (λ (x : Node). some (entry k x v y)))) (recordAt b v)
-      (λ y. each-then (Upto v) (PairUpto v) (λ (k : ℕ). andThen (recordAt b k) (λ (x : Node). some (entry k x v y))) (childBefore b v) (child-before-at-most v)
-      (λ k h. each-after (PairUpto v) (λ (x : Node). some (entry k x v y)) (recordAt b k) (λ x. (h, omega arith))))
+  pair-at-most v m l =
+      each-after (PairUpto m) (λ (y : Node). andThen (childBefore b v) (pairOf v y)) (recordAt b v)
+      (λ y. each-then (Upto v) (PairUpto m) (pairOf v y) (childBefore b v) (child-before-at-most v)
+      (λ k h. each-after (PairUpto m) (λ (x : Node). some (entry k x v y)) (recordAt b k) (λ x. (omega arith, l))))
+
+  -- the pair that ends with the child k before the last
+  pair-from-last : (n k : ℕ) → RecordsAtMost n (andThen (childFromLast b n k) (pairEnding b))
+  pair-from-last n k = each-then (Upto n) (PairUpto n) (pairEnding b) (childFromLast b n k) (from-last-at-most n k) (λ v h. pair-at-most v n h)
+
+  abbrev entryOf : ℕ → ℕ → Bool → ℕ → Option YamlHashEntry
+  entryOf n i t k = when (t && ltb i k) (andThen (childFromLast b n (2 * (k - 1 - i))) (pairEnding b))
 
   pub entry-at-most : (n i : ℕ) → RecordsAtMost n (hashEntry b n i)
   unfolding hashEntry
   entry-at-most n i =
-      each-after (PairUpto n) (λ (x : Node). when (isHash x && ltb i (x .payload .first)) (andThen (childFromLast b n (2 * (x .payload .first - 1 - i))) (pairEnding b)))
-      (recordAt b n)
-      (λ x. each-when (PairUpto n) Any (isHash x && ltb i (x .payload .first)) (andThen (childFromLast b n (2 * (x .payload .first - 1 - i))) (pairEnding b))
-      (each-then (Upto n) (PairUpto n) (pairEnding b) (childFromLast b n (2 * (x .payload .first - 1 - i))) (from-last-at-most n (2 * (x .payload .first - 1 - i)))
-      (λ v h. each-wider (PairUpto v) (PairUpto n) (pairEnding b v) (λ e g. (omega arith, omega arith)) (pair-at-most v))))
+      each-after (PairUpto n) (λ (x : Node). entryOf n i (isHash x) (x .payload .first)) (recordAt b n)
+      (λ x.
+      let k = x .payload .first in
+      each-when (PairUpto n) (isHash x && ltb i k) (andThen (childFromLast b n (2 * (k - 1 - i))) (pairEnding b)) (pair-from-last n (2 * (k - 1 - i))))
 
   module _ (events key : List ℕ) (m : ℕ) where
     earlier-at-most : (k v : ℕ) (later : Option ℕ) → v ≤ m → AtMost m later → AtMost m (earlier b events key k v later)
-    earlier-at-most k v later l h = each-pick (Upto m) Any (keyIs b events key k) (some v) later l h
+    earlier-at-most k v later l h = each-pick (Upto m) (keyIs b events key k) (some v) later l h
+
+    -- the p pairs before the pair of k and v
+    abbrev before : ℕ → ℕ → Option ℕ → ℕ → Option ℕ
+    before p v later k = andThen (childBefore b k) (λ (u : ℕ). searchBack b events key p u (earlier b events key k v later))
 
     search-at-most : (p v : ℕ) (later : Option ℕ) → v ≤ m → AtMost m later → AtMost m (searchBack b events key p v later)
     unfolding searchBack
     search-at-most zero v later l h =
         each-after (Upto m) (λ (e : YamlHashEntry). earlier b events key (e .key) v later) (pairEnding b v) (λ e. earlier-at-most (e .key) v later l h)
     search-at-most (suc p) v later l h =
-        each-then (PairUpto v) (Upto m)
-        (λ (e : YamlHashEntry). andThen (childBefore b (e .key)) (λ (u : ℕ). searchBack b events key p u (earlier b events key (e .key) v later)))
-        (pairEnding b v) (pair-at-most v)
-        (λ e g. each-then (Upto (e .key)) (Upto m) (λ (u : ℕ). searchBack b events key p u (earlier b events key (e .key) v later)) (childBefore b (e .key)) (child-before-at-most (e .key))
-        (λ u i. search-at-most p u (earlier b events key (e .key) v later) (omega arith) (earlier-at-most (e .key) v later l h)))
+        each-then (PairUpto m) (Upto m) (λ (e : YamlHashEntry). before p v later (e .key)) (pairEnding b v) (pair-at-most v m l)
+        (λ e g.
+        let rest = earlier b events key (e .key) v later in
+        each-then (Upto (e .key)) (Upto m) (λ (u : ℕ). searchBack b events key p u rest) (childBefore b (e .key)) (child-before-at-most (e .key))
+        (λ u i. search-at-most p u rest (omega arith) (earlier-at-most (e .key) v later l h)))
+
+  -- over the pairs of a hash of k
+  from-last-value : (events key : List ℕ) (n k : ℕ) → AtMost n (andThen (recordBefore b n) (λ (v : ℕ). searchBack b events key (k - 1) v none))
+  from-last-value events key n k =
+      each-then (Upto n) (Upto n) (λ (v : ℕ). searchBack b events key (k - 1) v none) (recordBefore b n) (before-at-most n)
+      (λ v h. search-at-most events key n (k - 1) v none h tt)
+
+  abbrev valueOf : List ℕ → List ℕ → ℕ → Bool → ℕ → Option ℕ
+  valueOf events key n t k = when (t && ltb 0 k) (andThen (recordBefore b n) (λ (v : ℕ). searchBack b events key (k - 1) v none))
 
   pub value-at-most : (events key : List ℕ) (n : ℕ) → AtMost n (hashValue b events n key)
   unfolding hashValue
   value-at-most events key n =
-      each-after (Upto n)
-      (λ (x : Node). when (isHash x && ltb 0 (x .payload .first)) (andThen (recordBefore b n) (λ (v : ℕ). searchBack b events key (x .payload .first - 1) v none)))
-      (recordAt b n)
-      (λ x. each-when (Upto n) Any (isHash x && ltb 0 (x .payload .first)) (andThen (recordBefore b n) (λ (v : ℕ). searchBack b events key (x .payload .first - 1) v none))
-      (each-then (Upto n) (Upto n) (λ (v : ℕ). searchBack b events key (x .payload .first - 1) v none) (recordBefore b n) (before-at-most n)
-      (λ v h. search-at-most events key n (x .payload .first - 1) v none h tt)))
+      each-after (Upto n) (λ (x : Node). valueOf events key n (isHash x) (x .payload .first)) (recordAt b n)
+      (λ x.
+      let k = x .payload .first in
+      each-when (Upto n) (isHash x && ltb 0 k) (andThen (recordBefore b n) (λ (v : ℕ). searchBack b events key (k - 1) v none))
+      (from-last-value events key n k))
 
 -- ---- 32 bits
 
@@ -147,4 +169,5 @@ fits {o} {p} n l e h = subst (λ (x : Option ℕ). AtMost largest x) (sym e) (wi
 
 pub pair-fits : {o p : Option YamlHashEntry} (n : ℕ) → n ≤ largest → o ≡ p → RecordsAtMost n p → RecordsAtMost largest o
 pair-fits {o} {p} n l e h =
-    subst (λ (x : Option YamlHashEntry). RecordsAtMost largest x) (sym e) (each-wider (PairUpto n) (PairUpto largest) p (λ e g. (omega arith, omega arith)) h)
+    subst (λ (x : Option YamlHashEntry). RecordsAtMost largest x) (sym e)
+    (each-wider (PairUpto n) (PairUpto largest) p (λ x g. (omega arith, omega arith)) h)

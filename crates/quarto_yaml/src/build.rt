@@ -1,14 +1,14 @@
 // The calls that read a text. (01: the table; N4.)
 ghost use mathlib.Core.Path.{_≡_};
 ghost use lib.ListN.{length};
-ghost use Rattle.parser.specs.Call.{building, readingScalar};
-ghost use Rattle.parser.specs.Call.{returned};
+ghost use Rattle.parser.specs.Call.{returned, building, readingScalar};
 ghost use Rattle.parser.specs.Record.{nodeNumbers};
 ghost use Rattle.node.specs.Marker.{scanError, scanned};
 ghost use Rattle.quarto_yaml.specs.Answer.{three, numbersIn, Fit, Told, ToldScalar};
 use node::marker::Scanned;
 use parser::answer::Answer;
 use parser::record::Node;
+use parser::record::RECORD_WIDTH;
 
 // 0 and what the call says of the two others; or document 01's number, its place, and 0.
 #[repr(C)]
@@ -22,11 +22,11 @@ pub struct Answered {
 #[repr(C)]
 pub struct AnsweredScalar {
     pub answer: Answered,
-    pub record: [u32; 12],
+    pub record: [u32; RECORD_WIDTH],
 }
 
 // The twelve numbers of a record in their order.
-fn numbers(x: Node) -> [u32; 12]
+fn numbers(x: Node) -> [u32; RECORD_WIDTH]
     ensures { λ r. ⌜ r ≡ nodeNumbers x ⌝ }
 {
     [

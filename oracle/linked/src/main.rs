@@ -7,13 +7,13 @@ use std::process::ExitCode;
 
 #[repr(C)]
 struct Answered {
-    code: usize,
-    first: usize,
-    second: usize,
+    code: u32,
+    first: u32,
+    second: u32,
 }
 
 unsafe extern "C" {
-    fn replay_linked_build(
+    fn quarto_yaml_build(
         text: *const u8,
         text_len: usize,
         events: *const u8,
@@ -59,7 +59,7 @@ fn is_same(case: &Case, answer: &Answer) -> bool {
     let (text, events, lent_records, lent_pieces) = (&case.text, &case.events, records.lent(), pieces.lent());
     // Each pointer comes with the length of the slice that it is of.
     let answered = unsafe {
-        replay_linked_build(
+        quarto_yaml_build(
             text.as_ptr(),
             text.len(),
             events.as_ptr(),
@@ -70,7 +70,7 @@ fn is_same(case: &Case, answer: &Answer) -> bool {
             lent_pieces.len(),
         )
     };
-    [answered.code, answered.first, answered.second] == answer.returned.map(|number| number as usize)
+    [answered.code, answered.first, answered.second] == answer.returned
         && records.holds(&answer.records)
         && pieces.holds(&answer.pieces)
 }

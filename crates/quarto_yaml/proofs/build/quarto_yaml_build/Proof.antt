@@ -18,10 +18,11 @@ build-requires c κs = search needs
 of-answer-requires : tie.Need-of-answer-requires
 of-answer-requires c κs =
     let a = c .before .before .before .before .before .before .before .before .before .before .before .args in
+    let bytes = c .before .before .before .before .before .before .before .before .before .shared-slice-known2 .given in
     let size = length (a .records .now) in
     let pieceSize = length (a .pieces .now) in
     told-fits eventsLimit pieceLimit (building (a .text .now) (a .events .now) size pieceSize) _ (omega arith) (omega arith)
-    (building-bounded (a .text .now) (a .events .now) size pieceSize (λ k. c .before .before .before .before .before .before .before .before .before .shared-slice-known2 .given k .fits))
+    (building-bounded (a .text .now) (a .events .now) size pieceSize (λ k. bytes k .fits))
     (c .before .before .before .before .build .ensures .answer)
 
 same-length : tie.Need-same-length

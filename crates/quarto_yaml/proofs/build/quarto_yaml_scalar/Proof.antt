@@ -18,7 +18,9 @@ scalar-requires c κs = search needs
 of-answer-requires : tie.Need-of-answer-requires
 of-answer-requires c κs =
     let a = c .before .before .before .before .before .before .before .before .args in
-    told-fits 1 pieceLimit (readingScalar (a .text .now) (a .index) (a .column) (a .style) (a .empty-span) (a .value .now) (length (a .pieces .now))) _ (omega arith) (omega arith)
+    told-fits 1 pieceLimit
+    (readingScalar (a .text .now) (a .index) (a .column) (a .style) (a .empty-span) (a .value .now) (length (a .pieces .now))) _
+    (omega arith) (omega arith)
     (scalar-bounded (a .text .now) (a .index) (a .column) (a .style) (a .empty-span) (a .value .now) (length (a .pieces .now)))
     (c .before .before .before .scalar .ensures .answer)
 
@@ -31,7 +33,11 @@ same-length c = search needs
 returns : tie.Need-returns
 returns c =
     let made = c .before .before .before .before .before .scalar .ensures in
-    record { answer = c .before .of-answer .ensures ∙ ap three (made .answer); one-record = c .numbers .ensures ∙ ap nodeNumbers (made .one-record); all-pieces = made .all-pieces }
+    record {
+      answer = c .before .of-answer .ensures ∙ ap three (made .answer);
+      one-record = c .numbers .ensures ∙ ap nodeNumbers (made .one-record);
+      all-pieces = made .all-pieces;
+    }
 
 pub quarto-yaml-scalar-spec : {M : Type 1} → statement M
 quarto-yaml-scalar-spec =

@@ -11,7 +11,10 @@ child-before-requires : tie.Need-child-before-requires
 child-before-requires c κs = search needs
 
 or-none-requires : tie.Need-or-none-requires
-or-none-requires c κs = let start = c .before .before in fits (start .args .c) (omega arith) (c .child-before .ensures) (child-before-at-most (start .args .records .now) (start .args .c))
+or-none-requires c κs =
+    let start = c .before .before in
+    fits (start .args .c) (omega arith) (c .child-before .ensures)
+    (child-before-at-most (start .args .records .now) (start .args .c))
 
 returns : tie.Need-returns
 returns c = c .or-none .ensures ∙ ap orNone (c .before .child-before .ensures)

@@ -1,4 +1,4 @@
--- `quarto_yaml_get_array_item` is `get_array_item` in 32 bits: the record that it answers has a number of at most the one it is asked about. Assumes nothing.
+-- `quarto_yaml_get_array_item` is `get_array_item` in 32 bits: the record answered has a number of at most the one asked about. Assumes nothing.
 use mathlib.Core.Path.{ap, _∙_}
 use native.Mathlib.Omega.{arith}
 use borrow.Author.Needs.{needs}
@@ -11,7 +11,10 @@ get-array-item-requires : tie.Need-get-array-item-requires
 get-array-item-requires c κs = search needs
 
 or-none-requires : tie.Need-or-none-requires
-or-none-requires c κs = let start = c .before .before in fits (start .args .n) (omega arith) (c .get-array-item .ensures) (item-at-most (start .args .records .now) (start .args .n) (start .args .i))
+or-none-requires c κs =
+    let start = c .before .before in
+    fits (start .args .n) (omega arith) (c .get-array-item .ensures)
+    (item-at-most (start .args .records .now) (start .args .n) (start .args .i))
 
 returns : tie.Need-returns
 returns c = c .or-none .ensures ∙ ap orNone (c .before .get-array-item .ensures)

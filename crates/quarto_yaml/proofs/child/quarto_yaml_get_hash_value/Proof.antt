@@ -1,4 +1,4 @@
--- `quarto_yaml_get_hash_value` is `get_hash_value` in 32 bits: the record that it answers has a number of at most the one it is asked about. Assumes nothing.
+-- `quarto_yaml_get_hash_value` is `get_hash_value` in 32 bits: the record answered has a number of at most the one asked about. Assumes nothing.
 use mathlib.Core.Path.{ap, _∙_}
 use native.Mathlib.Omega.{arith}
 use borrow.Author.Needs.{needs}
@@ -11,7 +11,10 @@ get-hash-value-requires : tie.Need-get-hash-value-requires
 get-hash-value-requires c κs = search needs
 
 or-none-requires : tie.Need-or-none-requires
-or-none-requires c κs = let start = c .before .before .before .before in fits (start .args .n) (omega arith) (c .get-hash-value .ensures) (value-at-most (start .args .records .now) (start .args .events .now) (start .args .key .now) (start .args .n))
+or-none-requires c κs =
+    let start = c .before .before .before .before in
+    fits (start .args .n) (omega arith) (c .get-hash-value .ensures)
+    (value-at-most (start .args .records .now) (start .args .events .now) (start .args .key .now) (start .args .n))
 
 returns : tie.Need-returns
 returns c = c .or-none .ensures ∙ ap orNone (c .before .get-hash-value .ensures)

@@ -11,7 +11,10 @@ last-child-requires : tie.Need-last-child-requires
 last-child-requires c κs = search needs
 
 or-none-requires : tie.Need-or-none-requires
-or-none-requires c κs = let start = c .before .before in fits (start .args .n) (omega arith) (c .last-child .ensures) (last-at-most (start .args .records .now) (start .args .n))
+or-none-requires c κs =
+    let start = c .before .before in
+    fits (start .args .n) (omega arith) (c .last-child .ensures)
+    (last-at-most (start .args .records .now) (start .args .n))
 
 returns : tie.Need-returns
 returns c = c .or-none .ensures ∙ ap orNone (c .before .last-child .ensures)

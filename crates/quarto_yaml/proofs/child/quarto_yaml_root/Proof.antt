@@ -11,7 +11,10 @@ root-requires : tie.Need-root-requires
 root-requires c κs = search needs
 
 or-none-requires : tie.Need-or-none-requires
-or-none-requires c κs = let start = c .before .before in fits (start .args .nodes) (omega arith) (c .root .ensures) (before-at-most (start .args .records .now) (start .args .nodes))
+or-none-requires c κs =
+    let start = c .before .before in
+    fits (start .args .nodes) (omega arith) (c .root .ensures)
+    (before-at-most (start .args .records .now) (start .args .nodes))
 
 returns : tie.Need-returns
 returns c = c .or-none .ensures ∙ ap orNone (c .before .root .ensures)

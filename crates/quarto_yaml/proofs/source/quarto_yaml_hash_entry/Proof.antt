@@ -11,7 +11,10 @@ hash-entry-requires : tie.Need-hash-entry-requires
 hash-entry-requires c κs = search needs
 
 of-entry-requires : tie.Need-of-entry-requires
-of-entry-requires c κs = let start = c .before .before in pair-fits (start .args .n) (omega arith) (c .hash-entry .ensures) (entry-at-most (start .args .records .now) (start .args .n) (start .args .i))
+of-entry-requires c κs =
+    let start = c .before .before in
+    pair-fits (start .args .n) (omega arith) (c .hash-entry .ensures)
+    (entry-at-most (start .args .records .now) (start .args .n) (start .args .i))
 
 returns : tie.Need-returns
 returns c = c .of-entry .ensures ∙ ap foundEntry (c .before .hash-entry .ensures)

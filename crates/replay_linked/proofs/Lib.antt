@@ -1,3 +1,0 @@
--- Lemmas of the proofs of `replay_linked`.
--- the three numbers of an answer
-mod Told
