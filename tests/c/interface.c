@@ -245,6 +245,7 @@ static void accessors(void) {
     CHECK(quarto_yaml_is_array(ROWS, 3) == 1 && quarto_yaml_is_array(ROWS, 6) == 0 && quarto_yaml_is_array(ROWS, 7) == NONE);
     CHECK(quarto_yaml_is_hash(ROWS, 6) == 1 && quarto_yaml_is_hash(ROWS, 3) == 0 && quarto_yaml_is_hash(ROWS, NONE) == NONE);
     CHECK(quarto_yaml_is_empty(ROWS, 0) == 1 && quarto_yaml_is_empty(ROWS, 3) == 0 && quarto_yaml_is_empty(ROWS, 7) == NONE);
+    CHECK(quarto_yaml_is_empty(NUMBERS(ROW(7, 0, 2, 1, 0, 0)), 0) == 1 && quarto_yaml_last_child(NUMBERS(ROW(7, 0, 2, 1, 0, 0)), 0) == NONE);
     CHECK(quarto_yaml_len(ROWS, 3) == 2 && quarto_yaml_len(ROWS, 0) == 0 && quarto_yaml_len(ROWS, 7) == NONE);
     CHECK(quarto_yaml_last_child(ROWS, 6) == 5 && quarto_yaml_last_child(ROWS, 5) == NONE);
     CHECK(quarto_yaml_child_before(ROWS, 4) == 3 && quarto_yaml_child_before(ROWS, 3) == 0);
