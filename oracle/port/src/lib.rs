@@ -2,13 +2,13 @@
 
 #[repr(C)]
 struct Answered {
-    code: usize,
-    first: usize,
-    second: usize,
+    code: u32,
+    first: u32,
+    second: u32,
 }
 
 unsafe extern "C" {
-    fn replay_linked_build(
+    fn quarto_yaml_build(
         text: *const u8,
         text_len: usize,
         events: *const u8,
@@ -24,7 +24,7 @@ unsafe extern "C" {
 pub fn build(text: &[u8], events: &[u8], records: &mut [u32], pieces: &mut [u32]) -> [u32; 3] {
     // Each pointer comes with the length of the slice that it is of.
     let answered = unsafe {
-        replay_linked_build(
+        quarto_yaml_build(
             text.as_ptr(),
             text.len(),
             events.as_ptr(),
@@ -35,5 +35,5 @@ pub fn build(text: &[u8], events: &[u8], records: &mut [u32], pieces: &mut [u32]
             pieces.len(),
         )
     };
-    [answered.code, answered.first, answered.second].map(|number| number as u32)
+    [answered.code, answered.first, answered.second]
 }
