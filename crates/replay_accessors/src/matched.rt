@@ -1,5 +1,7 @@
 // Answers matched with the numbers of a list, one after another: 0 for none; 1 for no and 2 for yes; one more than a record's number;
 // otherwise 1 and the numbers.
+ghost use mathlib.Core.Path.{_≡_};
+ghost use Rattle.replay_accessors.specs.Matched.{matchAt, matchNumber, matchedWhole};
 use node::child::Place;
 use node::entry::Entry;
 use node::entry::YamlHashEntry;
@@ -11,6 +13,8 @@ use node::source::Span;
 use node::source::Tagged;
 use parser::record::Extent;
 use parser::record::Node;
+use parser::record::PieceList;
+use parser::record::TagInfo;
 
 // How many bytes of a list were matched, and whether all of them were.
 pub struct Matched {
@@ -31,12 +35,10 @@ const YES: u32 = 2;
 // A list that does not match, wherever.
 pub const DIFFERENT: Matched = Matched { at: 0, same: false };
 
-// The next number of the list is `x`.
-pub fn number(list: &[u8], m: Matched, x: u32) -> Matched {
-    let at = m.at;
-    if !m.same {
-        return DIFFERENT;
-    }
+// `x` is the number at `at` of the list.
+fn number_at(list: &[u8], at: usize, x: u32) -> Matched
+    ensures { λ r. ⌜ r ≡ matchAt (now (list .entry)) at x ⌝ }
+{
     if list.len() <= at {
         return DIFFERENT;
     }
@@ -49,8 +51,20 @@ pub fn number(list: &[u8], m: Matched, x: u32) -> Matched {
     }
 }
 
+// `x` is the next number of the list.
+pub fn number(list: &[u8], m: Matched, x: u32) -> Matched
+    ensures { λ r. ⌜ r ≡ matchNumber (now (list .entry)) m x ⌝ }
+{
+    if m.same {
+        return number_at(list, m.at, x);
+    }
+    DIFFERENT
+}
+
 // Whether the list was matched to its end.
-pub fn is_whole(list: &[u8], m: Matched) -> bool {
+pub fn is_whole(list: &[u8], m: Matched) -> bool
+    ensures { λ r. ⌜ r ≡ matchedWhole (now (list .entry)) m ⌝ }
+{
     if m.same {
         return m.at == list.len();
     }
@@ -101,23 +115,25 @@ pub fn span(list: &[u8], m: Matched, answer: Span) -> Matched {
     }
 }
 
+fn tag_numbers(list: &[u8], m: Matched, tag: TagInfo) -> Matched {
+    let m = number(list, number(list, m, tag.start), tag.end);
+    number(list, number(list, m, tag.suffix), tag.len)
+}
+
+fn piece_numbers(list: &[u8], m: Matched, pieces: PieceList) -> Matched {
+    number(list, number(list, m, pieces.first), pieces.count)
+}
+
 pub fn tagged(list: &[u8], m: Matched, answer: Tagged) -> Matched {
     match answer {
-        Tagged::With(tag) => {
-            let m = number(list, m, SOME);
-            let m = number(list, number(list, m, tag.start), tag.end);
-            number(list, number(list, m, tag.suffix), tag.len)
-        }
+        Tagged::With(tag) => tag_numbers(list, number(list, m, SOME), tag),
         Tagged::Missing => number(list, m, NONE),
     }
 }
 
 pub fn pieces(list: &[u8], m: Matched, answer: Pieces) -> Matched {
     match answer {
-        Pieces::Listed(pieces) => {
-            let m = number(list, m, SOME);
-            number(list, number(list, m, pieces.first), pieces.count)
-        }
+        Pieces::Listed(pieces) => piece_numbers(list, number(list, m, SOME), pieces),
         Pieces::Missing => number(list, m, NONE),
     }
 }
@@ -141,12 +157,12 @@ pub fn entry(list: &[u8], m: Matched, answer: Entry) -> Matched {
 
 // The twelve numbers of a record.
 fn node_numbers(list: &[u8], m: Matched, x: Node) -> Matched {
-    let m = number(list, m, x.kind);
-    let m = number(list, number(list, m, x.extent.start), x.extent.end);
-    let m = number(list, number(list, m, x.tag.start), x.tag.end);
-    let m = number(list, number(list, m, x.tag.suffix), x.tag.len);
-    let m = number(list, m, x.subtree);
-    let m = number(list, number(list, m, x.list.first), x.list.count);
+    let span = x.extent;
+    let tag = x.tag;
+    let pieces = x.list;
+    let m = extent(list, number(list, m, x.kind), span);
+    let m = number(list, tag_numbers(list, m, tag), x.subtree);
+    let m = piece_numbers(list, m, pieces);
     number(list, number(list, m, x.payload.first), x.payload.second)
 }
 

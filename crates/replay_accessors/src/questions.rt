@@ -31,17 +31,27 @@ const KEY_BYTES: usize = 8;
 
 const LENGTH_AT: usize = 4;
 
-// What is asked of the record itself.
-fn about_itself(records: &[u32], n: usize, list: &[u8], m: Matched) -> Matched {
-    let m = lookup(list, m, get_record(records, n));
+// What kind of node the record is.
+fn about_kind(records: &[u32], n: usize, list: &[u8], m: Matched) -> Matched {
     let m = flag(list, m, is_scalar(records, n));
     let m = flag(list, m, is_array(records, n));
     let m = flag(list, m, is_hash(records, n));
     let m = count(list, m, len(records, n));
-    let m = flag(list, m, is_empty(records, n));
+    flag(list, m, is_empty(records, n))
+}
+
+// Where the node stands.
+fn about_source(records: &[u32], n: usize, list: &[u8], m: Matched) -> Matched {
     let m = span(list, m, source_info(records, n));
     let m = tagged(list, m, tag(records, n));
-    let m = pieces(list, m, content_source_info(records, n));
+    pieces(list, m, content_source_info(records, n))
+}
+
+// What is asked of the record itself.
+fn about_itself(records: &[u32], n: usize, list: &[u8], m: Matched) -> Matched {
+    let m = lookup(list, m, get_record(records, n));
+    let m = about_kind(records, n, list, m);
+    let m = about_source(records, n, list, m);
     place(list, m, last_child(records, n))
 }
 

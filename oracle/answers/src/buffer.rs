@@ -130,3 +130,53 @@ impl Accessors for Buffer<'_> {
         found
     }
 }
+
+#[cfg(test)]
+mod tests {
+    use super::*;
+
+    const EVENTS: &[u8] = b"ab";
+
+    fn string(at: u32, length: u32) -> [u32; 12] {
+        [STRING, 3, 4, NONE, NONE, NONE, NONE, 1, 0, 1, at, length]
+    }
+
+    fn hash(subtree: u32, pairs: u32) -> [u32; 12] {
+        [HASH, 0, 9, NONE, NONE, NONE, NONE, subtree, NONE, 0, pairs, 0]
+    }
+
+    fn value(records: &[[u32; 12]], key: &[u8]) -> Option<usize> {
+        Buffer { records, events: EVENTS }.get_hash_value(records.len() - 1, key)
+    }
+
+    #[test]
+    fn the_first_of_equal_keys() {
+        let records = [string(0, 1), string(1, 1), string(0, 1), string(0, 0), hash(5, 2)];
+        assert_eq!(value(&records, b"a"), Some(1));
+        assert_eq!(value(&records, b"b"), None);
+    }
+
+    #[test]
+    fn a_key_outside_the_events_matches_nothing() {
+        let records = [string(1, 2), string(0, 1), hash(3, 1)];
+        assert_eq!([value(&records, b"b"), value(&records, b"")], [None; 2]);
+    }
+
+    #[test]
+    fn a_missing_pair_hides_the_others() {
+        let records = [string(0, 1), string(1, 1), hash(3, 2)];
+        assert_eq!(value(&records, b"a"), None);
+        let buffer = Buffer { records: &records, events: EVENTS };
+        assert_eq!(buffer.hash_entry(2, 1).map(|entry| entry.key), Some(0));
+        assert!(buffer.hash_entry(2, 0).is_none());
+    }
+
+    #[test]
+    fn a_count_of_zero_ends_the_way() {
+        let mut records = [string(0, 1), string(1, 1), hash(3, 1)];
+        records[1][7] = 0;
+        let buffer = Buffer { records: &records, events: EVENTS };
+        assert_eq!(buffer.last_child(2), Some(1));
+        assert!(buffer.hash_entry(2, 0).is_none());
+    }
+}

@@ -65,3 +65,34 @@ fn shorter(events: &[u8], value: &Range<usize>) -> Range<usize> {
     let last = text.chars().next_back().map_or(0, char::len_utf8);
     value.start..value.end - last
 }
+
+#[cfg(test)]
+mod tests {
+    use super::*;
+    use crate::buffer::Buffer;
+    use framing::corpus;
+
+    /// On built records the second reader answers as the original does.
+    #[test]
+    fn both_readers_agree_on_the_corpus() {
+        for (text, events) in corpus::documents() {
+            let case = Case { text, events, record_room: 10_000, piece_room: 10_000 };
+            let built = answer(&case);
+            assert_eq!(built.returned[0], 0);
+            let admitted = admit::admit(&case.events, 1_000);
+            let text = str::from_utf8(&case.text).expect("a text");
+            let Ok(Some(root)) = original::build(text, &case.events, &admitted) else { panic!("a tree") };
+            let records = built.records.as_chunks().0;
+            let tree = Tree::new(&root, &admitted.completed, records);
+            let buffer = Buffer { records, events: &case.events };
+            let parts = keys(&case.events, &admitted.completed);
+            let keys: Vec<&[u8]> = parts.iter().map(|part| &case.events[part.clone()]).collect();
+            for n in 0..=records.len() {
+                let [mut by_tree, mut by_buffer] = [Told::default(), Told::default()];
+                by_tree.about(&tree, n, usize::MAX, &keys);
+                by_buffer.about(&buffer, n, usize::MAX, &keys);
+                assert_eq!(by_tree.0, by_buffer.0);
+            }
+        }
+    }
+}

@@ -201,3 +201,14 @@ fn corpus() {
     // 440 scalars and 10 aliases.
     assert_eq!((leaves, lists), (450, 405));
 }
+
+#[test]
+fn an_error_covers_one_character() {
+    let indices = [0, 1, 3, 4, 9_u32];
+    let events = indices.iter().flat_map(|index| index.to_be_bytes()).collect();
+    let case = Case { text: "é: a".into(), events, record_room: 0, piece_room: 0 };
+    assert_eq!(answers::scan_errors(&case).records.as_chunks().0, [[0, 2], [2, 3], [4, 5], [5, 5], [5, 5]]);
+    let refusal = |text| answers::scan_errors(&Case { text, ..case.clone() }).returned;
+    assert_eq!(refusal(b"\xc3".to_vec()), [2, 0, 0]);
+    assert_eq!(refusal(vec![0xFF; 1_048_577]), [1, 0, 0]);
+}

@@ -1,0 +1,3 @@
+-- The definitions that the contracts of `replay_accessors` cite.
+-- numbers matched with a list
+pub mod Matched
