@@ -5,8 +5,8 @@
  *     rt staticlib quarto_yaml                                             makes target/staticlib/libquarto_yaml.a
  *     cc -Iinclude program.c target/staticlib/libquarto_yaml.a -o program  links it; it needs nothing but `memset`
  *
- * No heap, no threads, no state, no input or output, a few kilobytes of stack: a call reads what it is given, writes the buffers that it
- * is lent, and returns. Every call ends, whatever the bytes are, and reads and writes nothing outside the lengths that it is given.
+ * No heap, no threads, no state, no input or output, a few kilobytes of stack: a call reads what it is given, writes the buffers that
+ * it is lent, and returns. Every call ends, whatever the bytes are, and reads and writes nothing outside the lengths that it is given.
  * Calls may run at the same time on different lent buffers.
  *
  * POINTERS. A slice is a pointer and its length: in bytes for `uint8_t`, in numbers for `uint32_t`. With length 0 the pointer is not
@@ -27,8 +27,8 @@
  *
  * The marker of a scalar or of a flow collection is its first character (the quote, `[`, `{`), not its tag or anchor; of a literal or
  * folded scalar the first character of its content, with that character's column; where it has no content its `|` or `>`, or the next
- * token with empty span 1. A block mapping's start may stand anywhere: its span starts at its first key. A missing value has its marker on the
- * `:` before it. An end has it on the closing bracket, or where a block collection ends.
+ * token with empty span 1. A block mapping's start may stand anywhere but on a `{`: its span starts at its first key. A missing value
+ * has its marker on the `:` before it. An end has it on the closing bracket, or where a block collection ends.
  *
  * RECORDS. Twelve `uint32_t` for each node, in the order in which nodes are complete: children before their collection, the root
  * last. Record n, from 0, starts at `records[12 * n]`. By place (QUARTO_YAML_AT_...):
