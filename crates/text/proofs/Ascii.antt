@@ -1,36 +1,53 @@
--- The ASCII bytes from a place on. Assumes nothing.
+-- Whether bytes are ASCII, by the largest of those met. Assumes nothing.
 use mathlib.Core.Path.{_≡_, refl, sym, _∙_, ap}
 use mathlib.Core.Bool.{true, false}
 use mathlib.Core.List.{List}
-use Prim.Native.Nat.{ℕ, suc, _+_, _≤_, _<_}
+use mathlib.Core.Logic.{_⊎_, inl, inr}
+use Prim.Native.Nat.{ℕ, _+_, _≤_, _<_}
 use native.Mathlib.Numerals.{add-one}
-use borrow.Author.Tests.{lt-ltb, le-ltb, eq-eqb, ne-eqb}
+use native.Mathlib.Decide.{decLt}
+use native.Mathlib.Omega.{arith}
+use borrow.Author.Tests.{lt-ltb, le-ltb}
+use lib.Dec.{ltb}
 use lib.ListN.{length, drop, getD, drop-of-length-le}
 use lib.Seq.{drop-cons}
-use Rattle.text.specs.Utf8.{isUtf8}
-use Rattle.text.specs.Offset.{isAscii, asciiLen}
-use Rattle.text.specs.OffsetLaws.{ascii-prefix, ascii-len-is}
+use Rattle.text.specs.Offset.{isAscii}
 
-pub ascii-stops : (s : List ℕ) (i : ℕ) → i < length s → 0x80 ≤ getD s i 0 → asciiLen (drop i s) ≡ 0
-unfolding asciiLen
-ascii-stops s i h l = ap asciiLen (drop-cons s i 0 h) ∙ rw (le-ltb (getD s i 0) 0x80 l)
+ascii-on : (s : List ℕ) (i : ℕ) → i < length s → getD s i 0 < 0x80 → isAscii (drop i s) ≡ isAscii (drop (i + 1) s)
+unfolding isAscii
+ascii-on s i h l = ap isAscii (drop-cons s i 0 h) ∙ rw (add-one, lt-ltb (getD s i 0) 0x80 l)
 
-pub ascii-goes-on : (s : List ℕ) (i : ℕ) → i < length s → getD s i 0 < 0x80 → asciiLen (drop i s) ≡ suc (asciiLen (drop (i + 1) s))
-unfolding asciiLen
-ascii-goes-on s i h l = ap asciiLen (drop-cons s i 0 h) ∙ rw (add-one, lt-ltb (getD s i 0) 0x80 l)
+ascii-stops : (s : List ℕ) (i : ℕ) → i < length s → 0x80 ≤ getD s i 0 → isAscii (drop i s) ≡ false
+unfolding isAscii
+ascii-stops s i h l = ap isAscii (drop-cons s i 0 h) ∙ rw (le-ltb (getD s i 0) 0x80 l)
 
-pub ascii-ends : (s : List ℕ) (i : ℕ) → length s ≤ i → asciiLen (drop i s) ≡ 0
-unfolding asciiLen
+ascii-ends : (s : List ℕ) (i : ℕ) → length s ≤ i → isAscii (drop i s) ≡ true
+unfolding isAscii
 ascii-ends s i h = rw (drop-of-length-le s h)
 
--- ---- what the ASCII bytes say of the whole
+-- what the largest of the bytes before i says
+pub record Met (s : List ℕ) (i largest : ℕ) : Type 0 where
+  pub below : largest < 0x80 → isAscii s ≡ isAscii (drop i s)
+  pub above : 0x80 ≤ largest → isAscii s ≡ false
 
-pub all-ascii : (s : List ℕ) (n : ℕ) → n ≡ asciiLen s → n ≡ length s → isAscii s ≡ true
-all-ascii s n e h = ascii-len-is s ∙ eq-eqb (asciiLen s) (length s) (sym e ∙ h)
+pub met-start : (s : List ℕ) → Met s 0 0
+met-start s = record { below = λ h. refl; above = λ h. absurd (omega arith) }
 
-pub not-all-ascii : (s : List ℕ) (n : ℕ) → n ≡ asciiLen s → (n ≡ length s → ⊥) → isAscii s ≡ false
-not-all-ascii s n e h = ascii-len-is s ∙ ne-eqb (asciiLen s) (length s) (λ q. h (e ∙ q))
+pub met-on : (s : List ℕ) (i m n : ℕ) → i < length s → Met s i m → m ≤ n → getD s i 0 ≤ n → (n ≡ m) ⊎ (n ≡ getD s i 0) → Met s (i + 1) n
+met-on s i m n h w l k o =
+    record {
+      below = λ b. w .below (omega arith) ∙ ascii-on s i h (omega arith);
+      above = λ a. go (decLt m 0x80) a o;
+    }
+  where
+    go : Dec (m < 0x80) → 0x80 ≤ n → (n ≡ m) ⊎ (n ≡ getD s i 0) → isAscii s ≡ false
+    go (no p) a o = w .above (omega arith)
+    go (yes p) a (inl e) = absurd (omega arith)
+    go (yes p) a (inr e) = w .below p ∙ ascii-stops s i h (omega arith)
 
--- the rest decides whether all of it is UTF-8
-pub rest-decides : (s : List ℕ) (n : ℕ) → n ≡ asciiLen s → isUtf8 (drop n s) ≡ isUtf8 s
-rest-decides s n e = ap (λ (k : ℕ). isUtf8 (drop k s)) e ∙ ascii-prefix s
+pub met-end : (s : List ℕ) (i m : ℕ) → length s ≤ i → Met s i m → ltb m 0x80 ≡ isAscii s
+met-end s i m h w = go (decLt m 0x80)
+  where
+    go : Dec (m < 0x80) → ltb m 0x80 ≡ isAscii s
+    go (yes p) = lt-ltb m 0x80 p ∙ sym (w .below p ∙ ascii-ends s i h)
+    go (no p) = le-ltb m 0x80 (omega arith) ∙ sym (w .above (omega arith))

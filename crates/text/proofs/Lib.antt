@@ -3,8 +3,10 @@
 pub mod Table
 -- going back from a boundary to the start of a character
 pub mod Back
--- the ASCII bytes from a place on
+-- texts of ASCII bytes
 pub mod Ascii
+-- what passes by windows is UTF-8
+pub mod Windows
 -- a search in a rising table
 pub mod Search
 -- the answer on a text and a value

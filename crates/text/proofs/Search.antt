@@ -150,3 +150,43 @@ none-between c l h =
       below-inside 0x205f 0x205f c (omega arith),
       below-inside 0x3000 0x3000 c (omega arith),
     )
+
+pub blank-is : (c : ℕ) → c ≡ 0x20 → isWhiteSpace c ≡ true
+unfolding isWhiteSpace isIn whiteSpace
+blank-is c e = rw e
+
+-- nor from U+00A1 to U+167F
+pub none-between-wide : (c : ℕ) → 0xa0 < c → c < 0x1680 → isWhiteSpace c ≡ false
+unfolding isWhiteSpace isIn whiteSpace
+none-between-wide c l h =
+    rw (
+      above-inside 0x9 0xd c (omega arith),
+      above-inside 0x20 0x20 c (omega arith),
+      above-inside 0x85 0x85 c (omega arith),
+      above-inside 0xa0 0xa0 c l,
+      below-inside 0x1680 0x1680 c h,
+      below-inside 0x2000 0x200a c (omega arith),
+      below-inside 0x2028 0x2028 c (omega arith),
+      below-inside 0x2029 0x2029 c (omega arith),
+      below-inside 0x202f 0x202f c (omega arith),
+      below-inside 0x205f 0x205f c (omega arith),
+      below-inside 0x3000 0x3000 c (omega arith),
+    )
+
+-- nor past U+3000
+pub none-past : (c : ℕ) → 0x3000 < c → isWhiteSpace c ≡ false
+unfolding isWhiteSpace isIn whiteSpace
+none-past c l =
+    rw (
+      above-inside 0x9 0xd c (omega arith),
+      above-inside 0x20 0x20 c (omega arith),
+      above-inside 0x85 0x85 c (omega arith),
+      above-inside 0xa0 0xa0 c (omega arith),
+      above-inside 0x1680 0x1680 c (omega arith),
+      above-inside 0x2000 0x200a c (omega arith),
+      above-inside 0x2028 0x2028 c (omega arith),
+      above-inside 0x2029 0x2029 c (omega arith),
+      above-inside 0x202f 0x202f c (omega arith),
+      above-inside 0x205f 0x205f c (omega arith),
+      above-inside 0x3000 0x3000 c l,
+    )

@@ -1,7 +1,7 @@
 -- Marker offsets (P1): the byte offset of a character index is the length of that many characters, so an index past the text
 -- gives the text's length with no case of its own. The cursor of the Rust, a count of characters and an offset, stands at
 -- such a place. The laws stand in `OffsetLaws`.
-use Prim.Native.Nat.{ℕ, suc, _≤_, min}
+use Prim.Native.Nat.{ℕ, _≤_, min}
 use mathlib.Core.Path.{_≡_}
 use mathlib.Core.Bool.{Bool, true, false, _&&_}
 use mathlib.Core.List.{List, [], _∷_}
@@ -27,12 +27,3 @@ pub record Stands (s : List ℕ) (chars offset : ℕ) : Type 0 where
 unfoldable pub isAscii : List ℕ → Bool
 isAscii [] = true
 isAscii (b ∷ s) = ltb b 0x80 && isAscii s
-
-abbrev pub pickLength : Bool → ℕ → ℕ → ℕ
-pickLength true a b = a
-pickLength false a b = b
-
--- how many bytes below 128 the text begins with
-unfoldable pub asciiLen : List ℕ → ℕ
-asciiLen [] = 0
-asciiLen (b ∷ s) = pickLength (ltb b 0x80) (suc (asciiLen s)) 0

@@ -10,9 +10,9 @@ use borrow.Author.Tests.{ltb-true, lt-ltb}
 use lib.Dec.{ltb, eqb, eqb·suc-suc, eqb·zero-suc}
 use lib.ListN.{length, take, drop, getD, length-append, length-drop, length-take, take-append-drop, drop-of-length-le}
 use lib.Seq.{take-suc, drop-cons, take-all}
-use Rattle.text.specs.Utf8.{ScalarValue, ScalarValues, Utf8, encode, encodeAll, character, firstChar, codes, charsAfter, isUtf8, lastOf, lastChar}
+use Rattle.text.specs.Utf8.{ScalarValue, ScalarValues, Utf8, encode, encodeAll, character, firstChar, codes, charsAfter, isUtf8, lastOf, lastChar, allSome}
 use Rattle.text.specs.Boundary.{Boundary}
-use Rattle.text.specs.Offset.{byteOffset, cursorAt, Stands, isAscii, pickLength, asciiLen}
+use Rattle.text.specs.Offset.{byteOffset, cursorAt, Stands, isAscii}
 use Rattle.text.specs.Bytes.{and-left, and-right}
 use Rattle.text.specs.Utf8Laws.{Place, place-front, place-back, place-boundary, codes-encode, codes-scalars, codes-encodeAll, encodeAll-append, scalars-front, scalars-back, encode-some, read, last-of, first-char-ascii, codes-step, utf8-on}
 use Rattle.text.specs.declared.utf8.Char.{Char}
@@ -186,24 +186,8 @@ pub ascii-cursor : (s : List ℕ) (k : ℕ) → isAscii s ≡ true → cursorAt 
 unfolding cursorAt byteOffset
 ascii-cursor s k e = rw (ascii-codes s e, ascii-encode s k e, length-take k s)
 
--- the bytes past the ASCII ones decide
-pub ascii-prefix : (s : List ℕ) → isUtf8 (drop (asciiLen s) s) ≡ isUtf8 s
-unfolding asciiLen
-ascii-prefix [] = refl
-ascii-prefix (b ∷ s) = go (ltb b 0x80) refl (ascii-prefix s)
-  where
-    step : b < 0x80 → isUtf8 s ≡ isUtf8 (b ∷ s)
-    step h = let e = ascii-head b s h in rw e at (utf8-on (b ∷ s) 0 (rw e (omega arith)))
-
-    go : (t : Bool) → ltb b 0x80 ≡ t → isUtf8 (drop (asciiLen s) s) ≡ isUtf8 s → isUtf8 (drop (pickLength t (suc (asciiLen s)) 0) (b ∷ s)) ≡ isUtf8 (b ∷ s)
-    go true e r = r ∙ step (ltb-true b 0x80 e)
-    go false e r = refl
-
-pub ascii-len-is : (s : List ℕ) → isAscii s ≡ eqb (asciiLen s) (length s)
-unfolding isAscii asciiLen
-ascii-len-is [] = refl
-ascii-len-is (b ∷ s) = go (ltb b 0x80) (ascii-len-is s)
-  where
-    go : (t : Bool) → isAscii s ≡ eqb (asciiLen s) (length s) → t && isAscii s ≡ eqb (pickLength t (suc (asciiLen s)) 0) (suc (length s))
-    go true r = r ∙ sym (eqb·suc-suc (asciiLen s) (length s))
-    go false r = sym (eqb·zero-suc (length s))
+-- it is UTF-8
+pub ascii-utf8 : (s : List ℕ) → isAscii s ≡ true → isUtf8 s ≡ true
+unfolding isAscii isUtf8 charsAfter allSome
+ascii-utf8 [] e = refl
+ascii-utf8 (b ∷ s) e = rw (ascii-head b s (ltb-true b 0x80 (and-left (ltb b 0x80) (isAscii s) e))) (ascii-utf8 s (and-right (ltb b 0x80) (isAscii s) e))

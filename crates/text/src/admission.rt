@@ -1,9 +1,8 @@
 // What every public call tests first: the sizes, then UTF-8. (01: rows 1 and 2 of the table; R1, R2, RO.)
 ghost use mathlib.Core.Path.{_≡_};
 ghost use Rattle.text.specs.Admission.{admission, admissionOfBoth};
-use crate::offset::ascii_len;
 use crate::utf8::is_utf8;
-use crate::utf8::is_utf8_from;
+use crate::window::is_ascii;
 
 // The most bytes of a text, and of the value of a call on one scalar.
 pub const TEXT_LIMIT: usize = 1_048_576;
@@ -17,18 +16,17 @@ pub enum Admission {
     NotUtf8,
 }
 
-// Whether a text is admitted. Its bytes are looked at once.
+// Whether a text is admitted.
 pub fn admit_text(text: &[u8]) -> Admission
     ensures { λ r. ⌜ r ≡ admission (now (text .entry)) ⌝ }
 {
     if TEXT_LIMIT < text.len() {
         return Admission::TooLong;
     }
-    let n = ascii_len(text);
-    if n == text.len() {
+    if is_ascii(text) {
         return Admission::Admitted { ascii: true };
     }
-    if is_utf8_from(text, n) {
+    if is_utf8(text) {
         return Admission::Admitted { ascii: false };
     }
     Admission::NotUtf8

@@ -8,6 +8,17 @@ const DECIMAL_DIGIT: u8 = 2;
 
 const HEX_DIGIT: u8 = 4;
 
+const TAB: u8 = 9;
+
+const CARRIAGE_RETURN: u8 = 13;
+
+const BLANK: u8 = 32;
+
+// The first and the last of the bytes that only the table tells to be white space or not.
+const NEXT_LINE: u8 = 133;
+
+const NO_BREAK_SPACE: u8 = 160;
+
 // The entry of a byte is the sum of its classes.
 const CLASSES: [u8; 256] = [
     0,
@@ -277,9 +288,25 @@ pub fn class_of(b: u8) -> u8
 }
 
 // Whether `b` is white space to the walk, which goes by bytes. Spans and tags go by code points: `white_space::is_white_space`.
+// Most bytes are told by comparison: the compiler lays the table out anew at each use.
 pub fn is_white_space_byte(b: u8) -> bool
     ensures { λ r. ⌜ r ≡ isWhiteSpaceByte b ⌝ }
 {
+    if b < NEXT_LINE {
+        if BLANK < b {
+            return false;
+        }
+        if b == BLANK {
+            return true;
+        }
+        if b < TAB {
+            return false;
+        }
+        return b <= CARRIAGE_RETURN;
+    }
+    if NO_BREAK_SPACE < b {
+        return false;
+    }
     class_of(b) & WHITE_SPACE != 0
 }
 

@@ -6,3 +6,4 @@ pub mod class;
 pub mod offset;
 pub mod utf8;
 pub mod white_space;
+mod window;

@@ -2,7 +2,7 @@
 ghost use mathlib.Core.Path.{_≡_};
 ghost use Prim.Native.Nat.{_≤_};
 ghost use Rattle.text.specs.Utf8.{Utf8};
-ghost use Rattle.text.specs.Offset.{cursorAt, Stands, isAscii, asciiLen};
+ghost use Rattle.text.specs.Offset.{cursorAt, Stands, isAscii};
 use crate::utf8::first_char;
 use crate::utf8::last_char;
 
@@ -17,20 +17,6 @@ pub const START: Cursor = Cursor {
     chars: 0,
     offset: 0,
 };
-
-// How many ASCII bytes `s` begins with.
-pub fn ascii_len(s: &[u8]) -> usize
-    ensures { λ r. ⌜ r ≡ asciiLen (now (s .entry)) ⌝ }
-{
-    let mut i = 0;
-    while i < s.len() {
-        if 0x80 <= s[i] {
-            return i;
-        }
-        i += 1;
-    }
-    i
-}
 
 // The cursor moved on to the character index `target`, or to the text's end where that comes first.
 fn forward(text: &[u8], cursor: Cursor, target: usize) -> Cursor

@@ -5,6 +5,7 @@ ghost use lib.ListN.{take, drop, getD};
 ghost use Rattle.text.specs.Utf8.{Utf8, twoBytes, threeBytes, fourBytes, multiByte, firstChar, lastChar, isUtf8};
 ghost use Rattle.text.specs.Boundary.{Boundary, isBoundary};
 use crate::class::is_continuation;
+use crate::window::passes;
 
 // A character: its code point and how many bytes encode it. Where there is none, both are 0.
 pub struct Char {
@@ -145,7 +146,7 @@ pub fn last_char(s: &[u8], i: usize) -> Char
 }
 
 // Whether the bytes from `from` on are UTF-8.
-pub fn is_utf8_from(s: &[u8], from: usize) -> bool
+fn is_utf8_from(s: &[u8], from: usize) -> bool
     ensures { λ r. ⌜ r ≡ isUtf8 (drop from (now (s .entry))) ⌝ }
 {
     let mut i = from;
@@ -159,9 +160,12 @@ pub fn is_utf8_from(s: &[u8], from: usize) -> bool
     true
 }
 
-// Whether the bytes are UTF-8.
+// Whether the bytes are UTF-8: those that do not pass by windows are read character by character.
 pub fn is_utf8(s: &[u8]) -> bool
     ensures { λ r. ⌜ r ≡ isUtf8 (now (s .entry)) ⌝ }
 {
+    if passes(s) {
+        return true;
+    }
     is_utf8_from(s, 0)
 }

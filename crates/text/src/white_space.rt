@@ -38,12 +38,30 @@ const BLANK: u32 = 0x20;
 
 const NEXT_LINE: u32 = 0x85;
 
+// Nor between these two, nor past the last.
+const NO_BREAK_SPACE: u32 = 0xa0;
+
+const OGHAM_SPACE_MARK: u32 = 0x1680;
+
+const IDEOGRAPHIC_SPACE: u32 = 0x3000;
+
 // Whether a code point is white space. The table rises, so the first entry that is not below it decides.
 pub fn is_white_space(code: u32) -> bool
     ensures { λ r. ⌜ r ≡ isWhiteSpace code ⌝ }
 {
     if BLANK < code {
         if code < NEXT_LINE {
+            return false;
+        }
+    }
+    if code == BLANK {
+        return true;
+    }
+    if IDEOGRAPHIC_SPACE < code {
+        return false;
+    }
+    if NO_BREAK_SPACE < code {
+        if code < OGHAM_SPACE_MARK {
             return false;
         }
     }

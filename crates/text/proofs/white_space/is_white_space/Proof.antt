@@ -6,7 +6,7 @@ use Prim.Native.Nat.{_-_, _≤_}
 use native.Mathlib.Omega.{arith}
 use lib.ListN.{drop}
 use Rattle.text.specs.WhiteSpace.{whiteSpace}
-use Rattle.text.proofs.Search.{find, find-here, find-on, find-none, spelt, white-space-found, none-between}
+use Rattle.text.proofs.Search.{find, find-here, find-on, find-none, spelt, white-space-found, none-between, blank-is, none-between-wide, none-past}
 use Rattle.text.proofs.white_space.is_white_space.Statement.{statement}
 use Rattle.text.proofs.white_space.is_white_space.Tie as tie
 
@@ -19,6 +19,15 @@ abbrev μ-loop : tie.MeasureT-loop
 returns : tie.Need-returns Inv-loop μ-loop
 returns c = sym (none-between (c .before .before .args .code) (c .before .if1 .taken) (c .if2 .taken))
 
+returns-2 : tie.Need-returns-2 Inv-loop μ-loop
+returns-2 c = sym (blank-is (c .before .before .args .code) (c .if3 .taken))
+
+returns-3 : tie.Need-returns-3 Inv-loop μ-loop
+returns-3 c = sym (none-past (c .before .before .before .args .code) (c .if4 .taken))
+
+returns-4 : tie.Need-returns-4 Inv-loop μ-loop
+returns-4 c = sym (none-between-wide (c .before .before .before .before .before .args .code) (c .before .if5 .taken) (c .if6 .taken))
+
 loop-holds : tie.Need-loop-holds Inv-loop μ-loop
 loop-holds c = (omega arith, refl)
 
@@ -28,9 +37,9 @@ mul-entry c = search needs
 array-read-entry : tie.Need-array-read-entry Inv-loop μ-loop
 array-read-entry c = search needs
 
-returns-2 : tie.Need-returns-2 Inv-loop μ-loop
+returns-5 : tie.Need-returns-5 Inv-loop μ-loop
 unfolding whiteSpace
-returns-2 c = sym (find-here (spelt whiteSpace) (c .before .before .loop .i) (c .before .before .before .before .args .code) (omega arith) (c .if3 .taken)) ∙ c .before .before .loop .inv .1 ∙ white-space-found (c .before .before .before .before .args .code)
+returns-5 c = sym (find-here (spelt whiteSpace) (c .before .before .loop .i) (c .before .before .before .before .before .before .before .args .code) (omega arith) (c .if7 .taken)) ∙ c .before .before .loop .inv .1 ∙ white-space-found (c .before .before .before .before .before .before .before .args .code)
 
 add-i : tie.Need-add-i Inv-loop μ-loop
 add-i c = omega arith
@@ -40,11 +49,11 @@ loop-less c = omega arith
 
 loop-again : tie.Need-loop-again Inv-loop μ-loop
 unfolding whiteSpace
-loop-again c = (omega arith, sym (find-on (spelt whiteSpace) (c .before .before .loop .i) (c .before .before .before .before .args .code) (omega arith) (c .if3 .left)) ∙ c .before .before .loop .inv .1)
+loop-again c = (omega arith, sym (find-on (spelt whiteSpace) (c .before .before .loop .i) (c .before .before .before .before .before .before .before .args .code) (omega arith) (c .if7 .left)) ∙ c .before .before .loop .inv .1)
 
-returns-3 : tie.Need-returns-3 Inv-loop μ-loop
+returns-6 : tie.Need-returns-6 Inv-loop μ-loop
 unfolding whiteSpace
-returns-3 c = sym (find-none (spelt whiteSpace) (c .before .loop .i) (c .before .before .before .args .code) (omega arith)) ∙ c .before .loop .inv .1 ∙ white-space-found (c .before .before .before .args .code)
+returns-6 c = sym (find-none (spelt whiteSpace) (c .before .loop .i) (c .before .before .before .before .before .before .args .code) (omega arith)) ∙ c .before .loop .inv .1 ∙ white-space-found (c .before .before .before .before .before .before .args .code)
 
 pub is-white-space-spec : {M : Type 1} → statement M
 is-white-space-spec =
@@ -53,11 +62,14 @@ is-white-space-spec =
     Inv-loop
     μ-loop
     returns
+    returns-2
+    returns-3
+    returns-4
     loop-holds
     mul-entry
     array-read-entry
-    returns-2
+    returns-5
     add-i
     loop-less
     loop-again
-    returns-3)
+    returns-6)
