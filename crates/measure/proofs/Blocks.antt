@@ -10,9 +10,8 @@ use lib.Dec.{eqb}
 use lib.ListN.{length, drop}
 use Rattle.text.specs.Utf8.{Utf8, encode, encodeAll, codes}
 use Rattle.text.specs.Boundary.{Boundary}
-use Rattle.text.specs.Offset.{pickLength}
 use Rattle.text.specs.Utf8Laws.{boundary-start}
-use Rattle.measure.specs.Run.{newline, bytesOf, whiteSpaceRun}
+use Rattle.measure.specs.Run.{pickLength, newline, bytesOf, whiteSpaceRun}
 use Rattle.measure.specs.Block.{lines, firstOf, isBlank, trimmedLen, endsBlock, pastLine, laterReach, blockReach, blockLen, lineOf}
 use Rattle.measure.specs.Places.{Onward, onward, bytes-left, bytes-cons, bytes-append}
 use Rattle.measure.specs.declared.block.Line.{Line}

@@ -1,23 +1,27 @@
 -- A line, character by character: what was counted so far, and the line of what is left. Assumes nothing.
-use mathlib.Core.Path.{_≡_, refl, sym, _∙_, ap}
+use mathlib.Core.Path.{_≡_, refl, sym, _∙_, ap, subst}
+use mathlib.Core.Logic.{_⊎_, inl, inr}
 use mathlib.Core.Bool.{Bool, true, false}
 use mathlib.Core.List.{List, [], _∷_}
-use Prim.Native.Nat.{ℕ, _+_, _≤_, _<_}
+use Prim.Native.Nat.{ℕ, zero, suc, _+_, _-_, _≤_, _<_}
 use native.Mathlib.Nat.{zero-add, add-zero, add-assoc}
 use native.Mathlib.Omega.{arith}
 use borrow.Author.Tests.{eq-eqb, ne-eqb}
 use lib.Dec.{eqb}
-use lib.ListN.{length, drop}
-use Rattle.text.specs.Utf8.{Utf8, encode, encodeAll, codes}
+use lib.ListN.{length, drop, getD, length-drop}
+use Rattle.text.specs.Utf8.{Utf8, encode, encodeAll, codes, character, firstChar}
 use Rattle.text.specs.Boundary.{Boundary}
-use Rattle.text.specs.WhiteSpace.{isWhiteSpace}
-use Rattle.text.specs.Offset.{pickLength}
-use Rattle.text.specs.Utf8Laws.{Char-at, boundary-start}
+use Rattle.text.specs.WhiteSpace.{whiteSpace, isIn, isWhiteSpace}
+use Rattle.text.specs.Utf8Laws.{Char-at, char-at, boundary-start}
 use Rattle.text.specs.declared.utf8.Char.{Char}
-use Rattle.measure.specs.Run.{newline, bytesOf, whiteSpaceRun, run-goes-on, run-stops}
+use Rattle.measure.specs.Run.{pickLength, newline, bytesOf, whiteSpaceRun, run-goes-on, run-stops}
 use Rattle.measure.specs.Block.{before, lines, firstOf, isBlank, trimmedLen, lineOf}
 use Rattle.measure.specs.Places.{bytes-cons, encode-takes}
 use Rattle.measure.specs.declared.block.Line.{Line}
+use Rattle.measure.specs.Letters.{Letters}
+use Rattle.measure.specs.LetterLaws.{WordByte}
+use Rattle.measure.proofs.Tests.{by-order}
+use Rattle.measure.proofs.Words.{Dark, dark, above-blank, letter-at, letter-here, fits, after-blank, rest-of}
 use Rattle.measure.proofs.Read.{codes-end}
 use Rattle.measure.proofs.Reached.{reached, reached-start, reached-more, reached-on}
 
@@ -163,3 +167,53 @@ module _ {s : List ℕ} {lead trimmed len : ℕ} (r : Counting s lead trimmed le
 
       pub line-goes-on : isWhiteSpace (k .code) ≡ false → Counting s lead (len + k .len) (len + k .len)
       line-goes-on e = joins lead (len + k .len) (λ y. absurd (let h = a .some in omega arith)) (content-on lead trimmed len (k .len) (k .code) more (a .size) e)
+
+-- ---- over letters
+
+dark-goes-on : {s : List ℕ} {lead trimmed len : ℕ} {k : Char} → Counting s lead trimmed len → Char-at s len k → Dark (k .code) → Counting s lead (len + k .len) (len + k .len)
+dark-goes-on {k = k} r a d = line-goes-on r a (λ e. let h = above-blank (k .code) d in omega arith) (dark (k .code) d)
+
+blank-spaces : {s : List ℕ} {lead trimmed len : ℕ} {k : Char} → Counting s lead trimmed len → Char-at s len k → k ≡ character 32 1 → (trimmed ≡ 0 → ⊥) → Counting s lead trimmed (len + 1)
+unfolding isWhiteSpace isIn whiteSpace
+blank-spaces {s} {lead} {trimmed} {len} {k} r a e t =
+    subst (λ (x : Char). Counting s lead trimmed (len + x .len)) e (line-spaces r a (λ z. let c : k .code ≡ 32 = ap (λ (x : Char). x .code) e in omega arith) (ap (λ (x : Char). isWhiteSpace (x .code)) e) t)
+
+-- some letters after a character that is no white space, or a blank after it
+over-letters :
+    (m : ℕ) (s val : List ℕ) (lead trimmed len n : ℕ) → Utf8 s → n ≤ m → 0 < n → (trimmed ≡ 0 → ⊥) → Counting s lead trimmed len → Letters (drop len s) val n →
+    Counting s lead (len + n) (len + n)
+over-letters zero s val lead trimmed len n u b h t r l = absurd (omega arith)
+over-letters (suc m) s val lead trimmed len n u b h t r l =
+    by (letter-at a (letter-here s val len n l h)) (λ trimmed′ k. over-letters m s (drop k val) lead trimmed′ (len + k) (n - k) u)
+  where
+    k : Char
+    k = firstChar (drop len s)
+
+    a : Char-at s len k
+    a = char-at u (r .boundary) (let i = l .run .in-source in let d = length-drop len s in omega arith)
+
+    Rest : Type 0
+    Rest = (trimmed′ j : ℕ) → n - j ≤ m → 0 < n - j → (trimmed′ ≡ 0 → ⊥) → Counting s lead trimmed′ (len + j) → Letters (drop (len + j) s) (drop j val) (n - j) → Counting s lead (len + j + (n - j)) (len + j + (n - j))
+
+    same : (j : ℕ) → j ≤ n → len + j + (n - j) ≡ len + n
+    same j g = omega arith
+
+    solid : Dark (k .code) → Rest → k .len ≤ n → 1 ≤ k .len → Counting s lead (len + n) (len + n)
+    solid d rest f o =
+        let g = dark-goes-on r a d in
+        by-order (k .len) n
+        (λ lt. subst (λ (x : ℕ). Counting s lead x x) (same (k .len) f) (rest (len + k .len) (k .len) (omega arith) (omega arith) (λ z. omega arith) g (rest-of s val len n l h (k .len) f)))
+        (λ le. let e : k .len ≡ n = omega arith in subst (λ (x : ℕ). Counting s lead (len + x) (len + x)) e g)
+
+    by : Dark (k .code) ⊎ ((getD s len 0 ≡ 32) × (k ≡ character 32 1) × WordByte (getD s (len + 1) 0)) → Rest → Counting s lead (len + n) (len + n)
+    by (inl d) rest = solid d rest (fits s val len n l h a) (a .some)
+    by (inr (z, e, w)) rest =
+        let more = after-blank s val len n l h z in
+        subst (λ (x : ℕ). Counting s lead x x) (same 1 h) (rest trimmed 1 (omega arith) (omega arith) t (blank-spaces r a e t) (rest-of s val len n l h 1 h))
+
+-- any letters after a character that is no white space
+pub line-letters : {s : List ℕ} {lead len n : ℕ} → Utf8 s → (len ≡ 0 → ⊥) → Counting s lead len len → Letters (drop len s) (drop len s) n → Counting s lead (len + n) (len + n)
+line-letters {s} {lead} {len} {n} u t r l =
+    by-order 0 n
+    (λ lt. over-letters n s (drop len s) lead len len n u (omega arith) lt t r l)
+    (λ le. let e : len ≡ len + n = omega arith in subst (λ (x : ℕ). Counting s lead x x) e r)

@@ -1,6 +1,7 @@
 -- A value, matched character by character with the rest of the text: what was matched so far, and how far the match of what is left
 -- reaches. Assumes nothing.
 use mathlib.Core.Path.{_≡_, refl, sym, _∙_, ap, subst}
+use mathlib.Core.Logic.{⊎-elim}
 use mathlib.Core.Bool.{Bool, true, false, _&&_, _||_}
 use mathlib.Core.List.{List, [], _∷_, _++_}
 use Prim.Native.Nat.{ℕ, zero, suc, _+_, _-_, _≤_, _<_}
@@ -10,19 +11,22 @@ use native.Mathlib.Omega.{arith}
 use borrow.Author.Tests.{eq-eqb, ne-eqb, eqb-true, lt-ltb, ltb-true}
 use lib.Dec.{eqb, ltb}
 use lib.ListN.{length, take, drop, getD, length-append, length-drop, take-append-drop, List·getD-append}
-use lib.Seq.{take-suc, take-at, getD-drop}
+use lib.Seq.{take-suc, take-at, drop-drop, getD-drop}
 use Rattle.text.specs.Utf8.{Utf8, encode, encodeAll, codes, character, firstChar}
 use Rattle.text.specs.Boundary.{Boundary}
-use Rattle.text.specs.WhiteSpace.{isWhiteSpace}
+use Rattle.text.specs.WhiteSpace.{whiteSpace, isIn, isWhiteSpace}
 use Rattle.text.specs.Bytes.{and-left, and-right}
-use Rattle.text.specs.Utf8Laws.{Char-at, boundary-start, boundary-splits, codes-encode, read}
+use Rattle.text.specs.Utf8Laws.{Char-at, char-at, boundary-start, boundary-splits, codes-encode, read}
 use Rattle.text.specs.declared.utf8.Char.{Char}
 use Rattle.measure.specs.Run.{newline, bytesOf, whiteSpaceRun, afterRun, holdsNewline, runOf, run-split, run-goes-on, run-stops}
 use Rattle.measure.specs.Plain.{isFold, hasByte, Reach, unmatched, reaches, pastEqual, pastRun, beginsWith, takesRun, plainReach, reachOr, plainLen}
 use Rattle.measure.specs.Places.{onward, bytes-cons}
 use Rattle.measure.specs.declared.run.Run.{Run}
 use Rattle.measure.proofs.Read.{char-read, codes-end, part-is}
-use Rattle.measure.proofs.Tests.{clash}
+use Rattle.measure.specs.Letters.{Letters}
+use Rattle.measure.specs.LetterLaws.{WordByte, LetterByte}
+use Rattle.measure.proofs.Words.{Dark, dark, above-blank, letter-at, solid-at, word-solid, letter-here, fits, rest-of}
+use Rattle.measure.proofs.Tests.{clash, by-order}
 use Rattle.measure.proofs.Reached.{reached, reached-start, reached-more, reached-on}
 
 -- ---- a character of the value, byte by byte
@@ -265,3 +269,92 @@ module _ {rest value : List ℕ} {at end known v : ℕ} {k : Char} (u : Utf8 res
   match-fails j h p =
       let m = r .matching in
       ap (reachOr (length value)) (decides u w m a (reach-none (k .code) (codes (drop (v + k .len) value)) (codes (drop at rest)) (r .no-run) (other-char u (m .rest-place) w a j h p)))
+
+-- ---- over letters
+
+-- bytes that are equal one by one
+take-same : (x y : List ℕ) (k : ℕ) → k ≤ length x → k ≤ length y → ((j : ℕ) → j < k → getD x j 0 ≡ getD y j 0) → take k x ≡ take k y
+take-same x y zero a b e = refl
+take-same [] y (suc k) a b e = absurd (omega arith)
+take-same (c ∷ x) [] (suc k) a b e = absurd (omega arith)
+take-same (c ∷ x) (d ∷ y) (suc k) a b e =
+    let h : c ≡ d = e 0 (omega arith) in
+    let t = take-same x y k (omega arith) (omega arith) (λ j l. e (suc j) (omega arith)) in
+    ap (λ (z : ℕ). z ∷ take k x) h ∙ ap (λ (z : List ℕ). d ∷ z) t
+
+equal-letters : (rest value : List ℕ) (at v n k : ℕ) → Letters (drop at rest) (drop v value) n → k ≤ n → Equal rest at value v k
+equal-letters rest value at v n k l h =
+    let a = l .run .in-source in
+    let b = l .run .in-value in
+    take-same (drop at rest) (drop v value) k (omega arith) (omega arith) (λ j g. l .run .each j (omega arith) .0)
+
+-- a character that is no white space takes no run
+dark-compares : {rest value : List ℕ} {at end known v : ℕ} {k : Char} → Matching rest value at end known v → Dark (k .code) → Comparing rest value at end known v k
+unfolding isFold
+dark-compares {k = k} r d = let h = above-blank (k .code) d in compare-other r (rw (ne-eqb (k .code) 32 (λ e. omega arith), ne-eqb (k .code) 10 (λ e. omega arith)))
+
+-- and a blank none before a word
+blank-run : {rest : List ℕ} {at : ℕ} {k : Char} → Utf8 rest → Char-at rest at k → k ≡ character 32 1 → WordByte (getD rest (at + 1) 0) → holdsNewline (whiteSpaceRun (codes (drop at rest))) ≡ false
+unfolding holdsNewline isWhiteSpace isIn whiteSpace
+blank-run {rest} {at} {k} u a e w =
+    let n : k .len ≡ 1 = ap (λ (x : Char). x .len) e in
+    let c : k .code ≡ 32 = ap (λ (x : Char). x .code) e in
+    let place : at + k .len ≡ at + 1 = ap (λ (m : ℕ). at + m) n in
+    let b : Boundary rest (at + 1) = subst (λ (m : ℕ). Boundary rest m) place (a .next) in
+    let o = w .above in
+    let next = char-at u b (byte-inside rest (at + 1) (omega arith)) in
+    let none = run-stops _ (codes (drop (at + 1 + firstChar (drop (at + 1) rest) .len) rest)) (dark _ (solid-at next (word-solid _ _ w))) in
+    let f : codes (drop at rest) ≡ 32 ∷ codes (drop (at + 1) rest) = a .forward ∙ ap (λ (x : ℕ). x ∷ codes (drop (at + k .len) rest)) c ∙ ap (λ (m : ℕ). 32 ∷ codes (drop m rest)) place in
+    let g : whiteSpaceRun (codes (drop at rest)) ≡ 32 ∷ [] = ap whiteSpaceRun f ∙ run-goes-on 32 (codes (drop (at + 1) rest)) refl ∙ ap (λ (l : List ℕ). 32 ∷ l) (ap whiteSpaceRun (next .forward) ∙ none) in
+    ap holdsNewline g
+  where
+    byte-inside : (l : List ℕ) (i : ℕ) → 0 < getD l i 0 → i < length l
+    byte-inside [] i h = absurd (omega arith)
+    byte-inside (x ∷ l) zero h = omega arith
+    byte-inside (x ∷ l) (suc i) h = let r = byte-inside l i h in omega arith
+
+blank-compares : {rest value : List ℕ} {at end known v : ℕ} {k : Char} → Utf8 rest → Matching rest value at end known v → Char-at rest at k → k ≡ character 32 1 → WordByte (getD rest (at + 1) 0) → Comparing rest value at end known v k
+unfolding takesRun
+blank-compares {k = k} u r a e w = record { matching = r; no-run = rw (blank-run u a e w) (and-false (isFold (k .code))) }
+
+letter-compares : {rest value : List ℕ} {at end known v : ℕ} {k : Char} → Utf8 rest → Matching rest value at end known v → Char-at rest at k → LetterByte (getD rest at 0) (getD rest (at + 1) 0) → Comparing rest value at end known v k
+letter-compares u r a l = ⊎-elim (λ d. dark-compares r d) (λ x. blank-compares u r a (x .1) (x .2)) (letter-at a l)
+
+match-some :
+    (m : ℕ) (rest value : List ℕ) (at end known v n : ℕ) → Utf8 rest → Utf8 value → n ≤ m → 0 < n → Matching rest value at end known v → Letters (drop at rest) (drop v value) n →
+    Matching rest value (at + n) (at + n) known (v + n)
+match-some zero rest value at end known v n u w b h r l = absurd (omega arith)
+match-some (suc m) rest value at end known v n u w b h r l = by (fits rest (drop v value) at n l h a) (λ j. match-some m rest value (at + j) (at + j) known (v + j) (n - j) u w)
+  where
+    k : Char
+    k = firstChar (drop at rest)
+
+    a : Char-at rest at k
+    a = char-at u (r .rest-place) (let i = l .run .in-source in let d = length-drop at rest in omega arith)
+
+    Rest : Type 0
+    Rest = (j : ℕ) → n - j ≤ m → 0 < n - j → Matching rest value (at + j) (at + j) known (v + j) → Letters (drop (at + j) rest) (drop (v + j) value) (n - j) → Matching rest value (at + j + (n - j)) (at + j + (n - j)) known (v + j + (n - j))
+
+    by : k .len ≤ n → Rest → Matching rest value (at + n) (at + n) known (v + n)
+    by f more =
+        let o = a .some in
+        let q = equal-letters rest value at v n (k .len) l f in
+        let c = equal-char w (r .value-place) u a (sym q) in
+        let g = match-equal u w (letter-compares u r a (letter-here rest (drop v value) at n l h)) c q in
+        let tail = subst (λ (x : List ℕ). Letters (drop (at + k .len) rest) x (n - k .len)) (drop-drop (k .len) v value) (rest-of rest (drop v value) at n l h (k .len) f) in
+        by-order (k .len) n
+        (λ lt.
+        let ea : at + k .len + (n - k .len) ≡ at + n = omega arith in
+        let ev : v + k .len + (n - k .len) ≡ v + n = omega arith in
+        subst (λ (x : ℕ). Matching rest value (at + n) (at + n) known x) ev (subst (λ (x : ℕ). Matching rest value x x known (v + k .len + (n - k .len))) ea (more (k .len) (omega arith) (omega arith) g tail)))
+        (λ le. let e : k .len ≡ n = omega arith in subst (λ (x : ℕ). Matching rest value (at + x) (at + x) known (v + x)) e g)
+
+-- any letters after an equal character
+pub match-letters : {rest value : List ℕ} {at known v n : ℕ} → Utf8 rest → Utf8 value → Matching rest value at at known v → Letters (drop at rest) (drop v value) n → Matching rest value (at + n) (at + n) known (v + n)
+match-letters {rest} {value} {at} {known} {v} {n} u w r l =
+    by-order 0 n
+    (λ lt. match-some n rest value at at known v n u w (omega arith) lt r l)
+    (λ le.
+    let ea : at ≡ at + n = omega arith in
+    let ev : v ≡ v + n = omega arith in
+    subst (λ (x : ℕ). Matching rest value (at + n) (at + n) known x) ev (subst (λ (x : ℕ). Matching rest value x x known v) ea r))

@@ -8,8 +8,7 @@ use lib.Dec.{eqb, ltb}
 use lib.ListN.{length}
 use Rattle.text.specs.Utf8.{encode, codes}
 use Rattle.text.specs.WhiteSpace.{isWhiteSpace}
-use Rattle.text.specs.Offset.{pickLength}
-use Rattle.measure.specs.Run.{newline, bytesOf, whiteSpaceRun}
+use Rattle.measure.specs.Run.{pickLength, newline, bytesOf, whiteSpaceRun}
 use Rattle.measure.specs.declared.block.Line.{Line}
 
 abbrev pub pickLines : Bool → List (List ℕ) → List (List ℕ) → List (List ℕ)

@@ -12,11 +12,10 @@ use lib.ListN.{length, drop, getD, length-append}
 use lib.Seq.{getD-append-add}
 use Rattle.text.specs.Utf8.{Utf8, encode, encodeAll, codes}
 use Rattle.text.specs.Boundary.{Boundary}
-use Rattle.text.specs.Offset.{pickLength}
 use Rattle.text.specs.Bytes.{below-inside}
 use Rattle.text.specs.Utf8Laws.{char-at, first-char-ascii}
 use Rattle.text.specs.declared.utf8.Char.{Char}
-use Rattle.measure.specs.Run.{newline, bytesOf, whiteSpaceRun, afterRun, run-split}
+use Rattle.measure.specs.Run.{pickLength, newline, bytesOf, whiteSpaceRun, afterRun, run-split}
 use Rattle.measure.specs.Plain.{Reach, unmatched, reaches, pickReach, pastEqual, pastRun, beginsWith, takesRun, plainReach}
 use Rattle.measure.specs.Quoted.{pickQuoted, further, passedTogether, toClosing, quotedLen}
 use Rattle.measure.specs.Block.{before, pickLines, lines, isBlank, trimmedLen, endsBlock, pastLine, laterReach, blockReach, blockLen}

@@ -9,6 +9,10 @@ pub mod Quoted
 pub mod Block
 -- the choice by style, cut to the text left
 pub mod Scalar
+-- bytes that are passed over many at a time
+pub mod Letters
+-- what is known of them
+pub mod LetterLaws
 -- places of a text by the characters before them
 pub mod Places
 -- what callers may rely on

@@ -13,6 +13,10 @@ use Rattle.measure.specs.declared.run.Run.{Run}
 abbrev pub newline : ℕ
 newline = 0xa
 
+abbrev pub pickLength : Bool → ℕ → ℕ → ℕ
+pickLength true a b = a
+pickLength false a b = b
+
 -- how many bytes encode some characters
 abbrev pub bytesOf : List ℕ → ℕ
 bytesOf cs = length (encodeAll cs)

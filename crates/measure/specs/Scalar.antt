@@ -5,7 +5,7 @@ use mathlib.Core.Bool.{Bool}
 use mathlib.Core.List.{List}
 use lib.Dec.{eqb}
 use lib.ListN.{length}
-use Rattle.text.specs.Offset.{pickLength}
+use Rattle.measure.specs.Run.{pickLength}
 use Rattle.measure.specs.Plain.{plainLen}
 use Rattle.measure.specs.Quoted.{singleQuote, doubleQuote, quotedOrValueLen}
 use Rattle.measure.specs.Block.{blockLen}

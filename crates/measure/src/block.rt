@@ -2,6 +2,7 @@
 ghost use mathlib.Core.Path.{_≡_};
 ghost use Rattle.text.specs.Utf8.{Utf8, codes};
 ghost use Rattle.measure.specs.Block.{lineOf, blockLen};
+use crate::letter::letters;
 use crate::run::NEWLINE;
 use text::utf8::first_char;
 use text::white_space::is_white_space;
@@ -14,7 +15,7 @@ struct Line {
     len: usize,
 }
 
-// The line that a text begins with.
+// The line that a text begins with. Letters are passed over at once.
 fn first_line(tail: &[u8]) -> Line
     requires { ⌜ Utf8 (now tail) ⌝ }
     ensures { λ r. ⌜ r ≡ lineOf (codes (now (tail .entry))) ⌝ }
@@ -33,6 +34,7 @@ fn first_line(tail: &[u8]) -> Line
                 lead = len;
             }
         } else {
+            len += letters(&tail[len..], &tail[len..]);
             trimmed = len;
         }
     }

@@ -2,6 +2,7 @@
 ghost use mathlib.Core.Path.{_≡_};
 ghost use Rattle.text.specs.Utf8.{Utf8};
 ghost use Rattle.measure.specs.Plain.{plainLen, isFold, hasByte};
+use crate::letter::letters;
 use crate::run::NEWLINE;
 use crate::run::white_space_run;
 use text::utf8::first_char;
@@ -32,7 +33,8 @@ fn has_byte(s: &[u8], i: usize, b: u8) -> bool
 // or the value's own length where the two do not line up.
 //
 // `at` and `v` are how far the rest and the value are matched. The first unequal byte ends the whole measure. `known` is where
-// the white space that was last looked at ends: no newline stands before it, so it is not looked at again.
+// the white space that was last looked at ends: no newline stands before it, so it is not looked at again. After an equal character come
+// mostly letters, which are passed over at once.
 pub fn plain_scalar_len(rest: &[u8], value: &[u8]) -> usize
     requires { ⌜ Utf8 (now rest) ⌝ }
     requires { ⌜ Utf8 (now value) ⌝ }
@@ -65,6 +67,9 @@ pub fn plain_scalar_len(rest: &[u8], value: &[u8]) -> usize
         }
         at += c.len;
         v += c.len;
+        let n = letters(&rest[at..], &value[v..]);
+        at += n;
+        v += n;
         end = at;
     }
     end

@@ -5,8 +5,6 @@ pub mod Parts
 pub mod Runs
 -- escapes, as the code tells them
 pub mod Escapes
--- letters, one by one and by chunks
-pub mod Letters
 -- the step that fits, as the code finds it
 pub mod Steps
 -- where the walk starts, as the code asks

@@ -1,9 +1,9 @@
 -- At a letter the grammar's step is one equal byte, whatever the style (S11). Assumes nothing.
 use mathlib.Core.Path.{_≡_, refl, sym, ap, _∙_}
 use mathlib.Core.Bool.{Bool, true, false, _&&_, _||_}
-use mathlib.Core.Logic.{_⊎_, inl, inr}
+use mathlib.Core.Logic.{⊎-elim}
 use mathlib.Core.List.{List, [], _∷_}
-use Prim.Native.Nat.{ℕ, suc, _+_, _-_, _<_, min, max}
+use Prim.Native.Nat.{ℕ, suc, _+_, _<_}
 use native.Mathlib.Omega.{arith}
 use borrow.Author.Tests.{lt-leb, eq-eqb, ne-eqb}
 use lib.Dec.{leb, eqb}
@@ -16,25 +16,9 @@ use Rattle.provenance.specs.declared.step.Step.the-variants.{Verbatim, N
 use Rattle.provenance.specs.Run.{pick, whiteRun, newlinesIn}
 use Rattle.provenance.specs.Escape.{singleQuoteEscapes, doubleQuoteEscapes, escapesOf}
 use Rattle.provenance.specs.Grammar.{Rules, opensBreak, breakStep, equalStep, step, stepAt, rulesOf}
-use Rattle.provenance.specs.Letters.{gap, fromWhite, margin, Letters}
+use Rattle.measure.specs.Letters.{margin, Letters}
+use Rattle.measure.specs.LetterLaws.{WordByte, LetterByte, letter-byte}
 use Rattle.provenance.specs.Tests.{by-order}
-
--- ---- what a margin says
-
-min-both : (x y : ℕ) → 0 < min x y → (0 < x) × (0 < y)
-min-both x y h = (omega arith, omega arith)
-
-max-either : (x y : ℕ) → 0 < max x y → (0 < x) ⊎ ((x ≡ 0) × (0 < y))
-max-either x y h = by-order 0 x (λ lt. inl lt) (λ le. inr (omega arith, omega arith))
-
-apart : (a b : ℕ) → 0 < gap a b → a ≡ b → ⊥
-apart a b h e = omega arith
-
-over : (a b : ℕ) → 0 < a - b → b < a
-over a b h = omega arith
-
-equal : (a b : ℕ) → gap a b ≡ 0 → a ≡ b
-equal a b h = omega arith
 
 -- ---- no break
 
@@ -45,19 +29,18 @@ above-white b h n m = rw (lt-leb b 13 (omega arith), ne-eqb b 32 (λ e. omega ar
     no-part true = refl
     no-part false = refl
 
-not-white : (b : ℕ) → 0 < fromWhite b → isWhiteSpaceByte b ≡ false
-not-white b h =
-    let p = min-both (b - 32) (min (gap b 133) (gap b 160)) h in
-    let q = min-both (gap b 133) (gap b 160) (p .1) in
-    above-white b (over b 32 (p .0)) (apart b 133 (q .0)) (apart b 160 (q .1))
+not-white : (b : ℕ) → WordByte b → isWhiteSpaceByte b ≡ false
+not-white b w =
+    let l = w .above in
+    above-white b l (λ e. ⊎-elim (λ h. omega arith) (λ h. omega arith) (w .low)) (λ e. ⊎-elim (λ h. omega arith) (λ h. omega arith) (w .low))
 
 -- white space ends after a blank before a letter
-run-ends : (src : List ℕ) → 0 < fromWhite (getD src 0 0) → whiteRun src ≡ []
+run-ends : (src : List ℕ) → WordByte (getD src 0 0) → whiteRun src ≡ []
 unfolding whiteRun
-run-ends [] h = absurd (omega arith)
-run-ends (b ∷ src) h = rw (not-white b h)
+run-ends [] w = absurd (let h = w .above in omega arith)
+run-ends (b ∷ src) w = rw (not-white b w)
 
-no-newline : (a : ℕ) (src : List ℕ) → a ≡ 32 → 0 < fromWhite (getD src 0 0) → newlinesIn (whiteRun (a ∷ src)) ≡ 0
+no-newline : (a : ℕ) (src : List ℕ) → a ≡ 32 → WordByte (getD src 0 0) → newlinesIn (whiteRun (a ∷ src)) ≡ 0
 unfolding whiteRun newlinesIn
 no-newline a src e h = rw (e, run-ends src h)
 
@@ -66,13 +49,15 @@ no-opening : (block : Bool) (a : ℕ) → 32 < a → opensBreak block a a ≡ fa
 unfolding opensBreak
 no-opening block a h = rw (ne-eqb a 32 (λ e. omega arith), ne-eqb a 10 (λ e. omega arith), ne-eqb a 9 (λ e. omega arith))
 
-no-break : (r : Rules) (a : ℕ) (src val : List ℕ) → 31 < a → (0 < gap a 32) ⊎ ((gap a 32 ≡ 0) × (0 < fromWhite (getD src 0 0))) → breakStep r (a ∷ src) (a ∷ val) ≡ NoStep
+no-break : (r : Rules) (a : ℕ) (src val : List ℕ) → LetterByte a (getD src 0 0) → breakStep r (a ∷ src) (a ∷ val) ≡ NoStep
 unfolding breakStep
-no-break r a src val h (inl g) = let n = apart a 32 g in rw (no-opening (r .block) a (above n))
-  where
-    above : (a ≡ 32 → ⊥) → 32 < a
-    above n = by-order 32 a (λ lt. lt) (λ le. absurd (n (omega arith)))
-no-break r a src val h (inr (e, w)) = rw (no-newline a src (equal a 32 e) w) (either-way (opensBreak (r .block) a a))
+no-break r a src val l =
+    by-order 32 a
+    (λ lt. rw (no-opening (r .block) a lt))
+    (λ le.
+    let h = l .above in
+    let e : a ≡ 32 = omega arith in
+    rw (no-newline a src e (⊎-elim (λ n. absurd (n e)) (λ w. w) (l .blank))) (either-way (opensBreak (r .block) a a)))
   where
     either-way : (t : Bool) → pick t NoStep NoStep ≡ NoStep
     either-way true = refl
@@ -94,20 +79,18 @@ no-escape style a src q b = rw (ne-eqb a 39 q, ne-eqb a 92 b) (any (eqb style si
 letter-step : (style column a : ℕ) (src val : List ℕ) → 0 < margin a (getD src 0 0) → step (rulesOf style column) (a ∷ src) (a ∷ val) ≡ Verbatim 1
 unfolding step equalStep
 letter-step style column a src val h =
-    let p = min-both (min (a - 31) (gap a 39)) (min (gap a 92) (max (gap a 32) (fromWhite (getD src 0 0)))) h in
-    let q = min-both (a - 31) (gap a 39) (p .0) in
-    let r = min-both (gap a 92) (max (gap a 32) (fromWhite (getD src 0 0))) (p .1) in
-    rw (no-break (rulesOf style column) a src val (over a 31 (q .0)) (max-either (gap a 32) (fromWhite (getD src 0 0)) (r .1)), no-escape style a src (apart a 39 (q .1)) (apart a 92 (r .0)), eq-eqb a a refl)
+    let l = letter-byte a (getD src 0 0) h in
+    rw (no-break (rulesOf style column) a src val l, no-escape style a src (l .no-quote) (l .no-backslash), eq-eqb a a refl)
 
 -- at each of the letters that source and value go on with
 pub letters-steps :
     (style column : ℕ) (src val : List ℕ) (s v n : ℕ) → Letters (drop s src) (drop v val) n →
     (j : ℕ) → j < n → stepAt (rulesOf style column) src val (s + j) (v + j) ≡ Verbatim 1
 letters-steps style column src val s v n l j h =
-    let p = l .each j h in
+    let p = l .run .each j h in
     let a = getD (drop s src) j 0 in
-    let in-s = l .in-source in
-    let in-v = l .in-value in
+    let in-s = l .run .in-source in
+    let in-v = l .run .in-value in
     let ds : drop (s + j) src ≡ a ∷ drop (suc j) (drop s src) = sym (drop-drop j s src) ∙ drop-cons (drop s src) j 0 (omega arith) in
     let dv : drop (v + j) val ≡ getD (drop v val) j 0 ∷ drop (suc j) (drop v val) = sym (drop-drop j v val) ∙ drop-cons (drop v val) j 0 (omega arith) in
     let next : getD (drop (suc j) (drop s src)) 0 0 ≡ getD (drop s src) (j + 1) 0 = getD-drop (suc j) (drop s src) 0 0 ∙ ap (λ (k : ℕ). getD (drop s src) k 0) (omega arith) in

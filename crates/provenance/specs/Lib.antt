@@ -13,9 +13,7 @@ pub mod Layout
 pub mod Start
 -- runs, as the walk looks at them
 pub mod Looked
--- bytes that are passed over many at a time
-pub mod Letters
--- at them the step is one equal byte
+-- at a letter the step is one equal byte
 pub mod LetterLaws
 -- pieces, written one after the other
 pub mod Writing

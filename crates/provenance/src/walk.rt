@@ -5,7 +5,6 @@ ghost use lib.ListN.{length};
 ghost use Rattle.provenance.specs.Grammar.{rulesOf};
 ghost use Rattle.provenance.specs.Reading.{readingOf};
 ghost use Rattle.provenance.specs.Layout.{zeros, piecesIf, answerOf, bufferOf};
-use crate::letter::letters;
 use crate::step::Step;
 use crate::step::break_run;
 use crate::step::known_after;
@@ -15,6 +14,7 @@ use crate::write::put_open;
 use crate::write::put_replacement;
 use crate::write::room;
 use crate::write::written_len;
+use measure::letter::letters;
 
 // A list of so many pieces; a list that there is no room for; no list.
 pub enum Walked {

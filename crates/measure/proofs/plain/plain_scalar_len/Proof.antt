@@ -8,12 +8,13 @@ use mathlib.Core.List.{List}
 use Prim.Native.Nat.{ℕ, _+_, _-_, _≤_}
 use native.Mathlib.Omega.{arith}
 use borrow.Author.Tests.{not-true, not-false}
-use lib.ListN.{length, drop}
+use lib.ListN.{length, drop, length-drop}
 use Rattle.text.specs.Utf8.{Utf8, codes}
 use Rattle.text.specs.Utf8Laws.{Char-at}
 use Rattle.measure.specs.Run.{runOf}
-use Rattle.measure.proofs.Read.{char-read, part-utf8}
-use Rattle.measure.proofs.Matches.{Equal, equal-more, equal-all, equal-char, Matching, Comparing, run-read, run-fits, match-begins, match-at-end, match-run, compare-known, compare-other, compare-looked, match-equal, match-fails}
+use Rattle.measure.specs.Letters.{Letters}
+use Rattle.measure.proofs.Read.{char-read, part-is, part-utf8}
+use Rattle.measure.proofs.Matches.{Equal, equal-more, equal-all, equal-char, Matching, Comparing, run-read, run-fits, match-begins, match-at-end, match-run, compare-known, compare-other, compare-looked, match-equal, match-fails, match-letters}
 use Rattle.measure.proofs.plain.plain_scalar_len.Statement.{statement}
 use Rattle.measure.proofs.plain.plain_scalar_len.Tie as tie
 
@@ -89,6 +90,37 @@ module _ (c : tie.After-struct-known5 Inv-loop μ-loop Inv-characters μ-charact
   equal-here =
       let inner = c .before .before .before .loop in
       equal-all (rest-now at-equal) (at-now at-equal) (value-now at-equal) (v-now at-equal) (inner .inv .1) (inner .inv .0) (c .before .if4 .left)
+
+  equal-room : at-now at-equal + at-equal .first-char .result .len ≤ length (rest-now at-equal)
+  equal-room = equal-char (rest-utf8 at-equal) (at-equal .before .before .characters .inv .rest-place) (value-utf8 at-equal) (char-here at-equal) equal-here .room
+
+-- and the letters after it
+module _ (c : tie.After-letters Inv-loop μ-loop Inv-characters μ-characters) where
+  abbrev at-char-of : Read
+  at-char-of = c .before .before .before .before .before .before .before .before .before
+
+  abbrev at-joined : tie.Joined1 Inv-loop μ-loop Inv-characters μ-characters
+  at-joined = c .before .before .before .before .before .before .before .before
+
+  abbrev after-rest : ℕ
+  after-rest = at-now at-char-of + at-char-of .first-char .result .len
+
+  abbrev after-value : ℕ
+  after-value = v-now at-char-of + at-char-of .first-char .result .len
+
+  letters-here : Letters (drop after-rest (rest-now at-char-of)) (drop after-value (value-now at-char-of)) (c .letters .result)
+  letters-here = rw (part-is (rest-now at-char-of) after-rest, part-is (value-now at-char-of) after-value) at (c .letters .ensures)
+
+  letters-fit : (after-rest + c .letters .result ≤ length (rest-now at-char-of)) × (after-value + c .letters .result ≤ length (value-now at-char-of))
+  letters-fit =
+      let a = char-here at-char-of in
+      let e = equal-room (c .before .before .before .before) in
+      let l = letters-here in
+      let i = l .run .in-source in
+      let j = l .run .in-value in
+      let d = length-drop after-rest (rest-now at-char-of) in
+      let f = length-drop after-value (value-now at-char-of) in
+      (omega arith, omega arith)
 
 -- ---- the answers
 
@@ -181,13 +213,44 @@ add-at-2 c =
 add-v-2 : tie.Need-add-v-2 Inv-loop μ-loop Inv-characters μ-characters
 add-v-2 c = let a = char-here (c .before .before .before .before .before .before) in omega arith
 
+sub-letters : tie.Need-sub-letters Inv-loop μ-loop Inv-characters μ-characters
+sub-letters c = let b = equal-room (c .before) in omega arith
+
+part-letters-start : tie.Need-part-letters-start Inv-loop μ-loop Inv-characters μ-characters
+part-letters-start c = let b = equal-room (c .before) in omega arith
+
+part-letters-end : tie.Need-part-letters-end Inv-loop μ-loop Inv-characters μ-characters
+part-letters-end c = let b = equal-room (c .before) in omega arith
+
+sub-letters-2 : tie.Need-sub-letters-2 Inv-loop μ-loop Inv-characters μ-characters
+sub-letters-2 c = let a = char-here (c .before .before .before .before .before .before .before) in omega arith
+
+part-letters-start-2 : tie.Need-part-letters-start-2 Inv-loop μ-loop Inv-characters μ-characters
+part-letters-start-2 c = let a = char-here (c .before .before .before .before .before .before .before) in omega arith
+
+part-letters-end-2 : tie.Need-part-letters-end-2 Inv-loop μ-loop Inv-characters μ-characters
+part-letters-end-2 c = let a = char-here (c .before .before .before .before .before .before .before) in omega arith
+
+letters-requires : tie.Need-letters-requires Inv-loop μ-loop Inv-characters μ-characters
+letters-requires c κs = tt
+
+add-at-3 : tie.Need-add-at-3 Inv-loop μ-loop Inv-characters μ-characters
+add-at-3 c = let f = letters-fit c in omega arith
+
+add-v-3 : tie.Need-add-v-3 Inv-loop μ-loop Inv-characters μ-characters
+add-v-3 c = let f = letters-fit c in omega arith
+
 characters-less-2 : tie.Need-characters-less-2 Inv-loop μ-loop Inv-characters μ-characters
-characters-less-2 c = let a = char-here (c .before .before .before .before .before .before) in omega arith
+characters-less-2 c =
+    let a = char-here (at-char-of c) in
+    let f = letters-fit c in
+    omega arith
 
 characters-again-2 : tie.Need-characters-again-2 Inv-loop μ-loop Inv-characters μ-characters
 characters-again-2 c =
-    let at = c .before .before .before .before .before .before in
-    match-equal (rest-utf8 at) (value-utf8 at) (comparing (c .before .before .before .before .before)) (char-here at) (equal-here (c .before))
+    let at = at-char-of c in
+    let r = match-equal (rest-utf8 at) (value-utf8 at) (comparing (at-joined c)) (char-here at) (equal-here (c .before .before .before .before)) in
+    match-letters (rest-utf8 at) (value-utf8 at) r (letters-here c)
 
 returns : tie.Need-returns Inv-loop μ-loop Inv-characters μ-characters
 returns c = match-at-end (c .before .characters .inv) (c .characters-test .left)
@@ -228,6 +291,15 @@ plain-scalar-len-spec =
     loop-again
     add-at-2
     add-v-2
+    sub-letters
+    part-letters-start
+    part-letters-end
+    sub-letters-2
+    part-letters-start-2
+    part-letters-end-2
+    letters-requires
+    add-at-3
+    add-v-3
     characters-less-2
     characters-again-2
     returns

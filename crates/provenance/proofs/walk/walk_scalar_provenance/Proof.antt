@@ -11,7 +11,7 @@ use Rattle.provenance.specs.declared.step.Step.{Step}
 use Rattle.provenance.specs.declared.step.Step.the-variants.{Verbatim, Replacement}
 use Rattle.provenance.specs.Grammar.{isBlock, rulesOf, stepAt}
 use Rattle.provenance.specs.Writing.{writtenLen}
-use Rattle.provenance.specs.Letters.{Letters}
+use Rattle.measure.specs.Letters.{Letters}
 use Rattle.provenance.specs.LetterLaws.{letters-steps}
 use Rattle.provenance.specs.EscapeLaws.{style-fair}
 use Rattle.provenance.specs.StepLaws.{Fair, grammar-fair}
@@ -72,8 +72,8 @@ letters-bounds c =
     let a = c .before .before .before .before .before .before .before .before .before .before .before .before .before .before .args in
     let b = verbatim-bounds (c .before .before .before) in
     let l = letters-here c in
-    let s = l .in-source in
-    let v = l .in-value in
+    let s = l .run .in-source in
+    let v = l .run .in-value in
     let ds = length-drop (reached-s (c .before .before .before)) (a .src .now) in
     let dv = length-drop (reached-v (c .before .before .before)) (a .value .now) in
     (omega arith, omega arith)

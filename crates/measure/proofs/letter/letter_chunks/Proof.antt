@@ -1,17 +1,17 @@
--- `provenance::letter::letter_chunks` meets its contract. The loop's invariant: the bytes passed are letters. The measure is what is left. Assumes
+-- `measure::letter::letter_chunks` meets its contract. The loop's invariant: the bytes passed are letters. The measure is what is left. Assumes
 -- nothing.
 use mathlib.Core.Path.{_≡_, refl, sym, _∙_}
 use Prim.Native.Nat.{_+_, _-_}
 use native.Mathlib.Omega.{arith}
 use borrow.Author.Tests.{not-false}
 use lib.ListN.{length}
-use Rattle.provenance.specs.Letters.{Letters}
-use Rattle.provenance.proofs.Letters.{part-length, no-letters, chunk-more}
-use Rattle.provenance.proofs.letter.letter_chunks.Statement.{statement}
-use Rattle.provenance.proofs.letter.letter_chunks.Tie as tie
+use Rattle.measure.specs.Letters.{LetterRun}
+use Rattle.measure.proofs.Letters.{part-length, no-letters, chunk-more}
+use Rattle.measure.proofs.letter.letter_chunks.Statement.{statement}
+use Rattle.measure.proofs.letter.letter_chunks.Tie as tie
 
 abbrev Inv-loop : tie.InvT-loop
-Inv-loop src value i₀ i = Letters src value i
+Inv-loop src value i₀ i = LetterRun src value i
 
 abbrev μ-loop : tie.MeasureT-loop
 μ-loop src value i₀ i = length src - i

@@ -1,15 +1,17 @@
--- `provenance::letter::letters` meets its contract. The loop's invariant: the bytes passed are letters. The measure is what is left of the value.
+-- `measure::letter::letter_run` meets its contract. The loop's invariant: the bytes passed are letters. The measure is what is left of the value.
 -- Assumes nothing.
-use Prim.Native.Nat.{_-_}
+use mathlib.Core.Path.{subst}
+use Prim.Native.Nat.{ℕ, _-_, _<_}
 use native.Mathlib.Omega.{arith}
-use lib.ListN.{length}
-use Rattle.provenance.specs.Letters.{Letters}
-use Rattle.provenance.proofs.Letters.{above-zero, letter-more}
-use Rattle.provenance.proofs.letter.letters.Statement.{statement}
-use Rattle.provenance.proofs.letter.letters.Tie as tie
+use borrow.Author.Tests.{not-false}
+use lib.ListN.{length, getD}
+use Rattle.measure.specs.Letters.{margin, LetterRun}
+use Rattle.measure.proofs.Letters.{letter-more}
+use Rattle.measure.proofs.letter.letter_run.Statement.{statement}
+use Rattle.measure.proofs.letter.letter_run.Tie as tie
 
 abbrev Inv-loop : tie.InvT-loop
-Inv-loop src value i₀ i = Letters src value i
+Inv-loop src value i₀ i = LetterRun src value i
 
 abbrev μ-loop : tie.MeasureT-loop
 μ-loop src value i₀ i = length value - i
@@ -19,9 +21,6 @@ letter-chunks-requires c κs = tt
 
 loop-holds : tie.Need-loop-holds Inv-loop μ-loop
 loop-holds c = c .letter-chunks .ensures
-
-sub-if1 : tie.Need-sub-if1 Inv-loop μ-loop
-sub-if1 c = c .before .loop .inv .in-source
 
 returns : tie.Need-returns Inv-loop μ-loop
 returns c = c .before .before .loop .inv
@@ -35,14 +34,14 @@ shared-slice-read-if2 c = omega arith
 returns-2 : tie.Need-returns-2 Inv-loop μ-loop
 returns-2 c = c .before .before .before .before .before .loop .inv
 
-add-margin : tie.Need-add-margin Inv-loop μ-loop
-add-margin c = omega arith
+add-byte-at : tie.Need-add-byte-at Inv-loop μ-loop
+add-byte-at c = omega arith
 
-shared-slice-read-margin : tie.Need-shared-slice-read-margin Inv-loop μ-loop
-shared-slice-read-margin c = omega arith
+byte-at-requires : tie.Need-byte-at-requires Inv-loop μ-loop
+byte-at-requires c κs = tt
 
-margin-requires : tie.Need-margin-requires Inv-loop μ-loop
-margin-requires c κs = tt
+is-letter-requires : tie.Need-is-letter-requires Inv-loop μ-loop
+is-letter-requires c κs = tt
 
 returns-3 : tie.Need-returns-3 Inv-loop μ-loop
 returns-3 c = c .before .before .before .before .before .before .before .before .loop .inv
@@ -57,27 +56,27 @@ loop-again : tie.Need-loop-again Inv-loop μ-loop
 loop-again c =
     let a = c .before .before .before .before .before .before .before .before .before .before .before .before .args in
     let w = c .before .before .before .before .before .before .before .before .loop in
-    letter-more (a .src .now) (a .value .now) (w .i) (w .inv) (let h = c .before .before .before .before .before .before .if1 .left in omega arith) (let h = c .before .before .before .before .before .before .before .loop-test .taken in omega arith) (c .before .before .before .if2 .left, above-zero _ _ (c .before .margin .ensures) (c .if3 .left))
+    let m = subst (λ (b : ℕ). 0 < margin (getD (a .src .now) (w .i) 0) b) (c .before .before .byte-at .ensures) (c .before .is-letter .ensures (not-false _ (c .if3 .left))) in
+    letter-more (a .src .now) (a .value .now) (w .i) (w .inv) (omega arith) (omega arith) (c .before .before .before .if2 .left, m)
 
 returns-4 : tie.Need-returns-4 Inv-loop μ-loop
 returns-4 c = c .before .loop .inv
 
-pub letters-spec : {M : Type 1} → statement M
-letters-spec =
+pub letter-run-spec : {M : Type 1} → statement M
+letter-run-spec =
     tie.close
     (tie.spec
     Inv-loop
     μ-loop
     letter-chunks-requires
     loop-holds
-    sub-if1
     returns
     shared-slice-read-a
     shared-slice-read-if2
     returns-2
-    add-margin
-    shared-slice-read-margin
-    margin-requires
+    add-byte-at
+    byte-at-requires
+    is-letter-requires
     returns-3
     add-i
     loop-less

@@ -1,14 +1,14 @@
--- `provenance::letter::are_letters` meets its contract. The loop's invariant: of the bytes passed no margin is below `low` and no gap above
+-- `measure::letter::are_letters` meets its contract. The loop's invariant: of the bytes passed no margin is below `low` and no gap above
 -- `wide`. The measure is what is left. Assumes nothing.
 use mathlib.Core.Path.{sym, ap, _∙_}
 use Prim.Native.Nat.{_-_, _≤_, min, max}
 use native.Mathlib.Omega.{arith}
 use borrow.Author.Tests.{ltb-true}
 use lib.ListN.{length}
-use Rattle.provenance.specs.Tests.{clash}
-use Rattle.provenance.proofs.Letters.{Passed, passed-more, passed-all}
-use Rattle.provenance.proofs.letter.are_letters.Statement.{statement}
-use Rattle.provenance.proofs.letter.are_letters.Tie as tie
+use Rattle.measure.proofs.Tests.{clash}
+use Rattle.measure.proofs.Letters.{Passed, passed-more, passed-all}
+use Rattle.measure.proofs.letter.are_letters.Statement.{statement}
+use Rattle.measure.proofs.letter.are_letters.Tie as tie
 
 abbrev Inv-loop : tie.InvT-loop
 Inv-loop src next value low₀ wide₀ i₀ low wide i = (i ≤ length src) × Passed src next value low wide i

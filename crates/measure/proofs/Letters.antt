@@ -1,12 +1,16 @@
 -- Letters gathered one by one and by chunks. Assumes nothing.
 use mathlib.Core.Path.{_≡_, _∙_, subst}
+use mathlib.Core.Bool.{true, not, _&&_}
 use mathlib.Core.List.{List}
 use Prim.Native.Nat.{ℕ, _+_, _-_, _≤_, _<_, min, max}
 use native.Mathlib.Omega.{arith}
+use borrow.Author.Tests.{eqb-false, not-true}
+use lib.Dec.{eqb}
 use lib.ListN.{length, take, drop, getD, length-take, length-drop}
 use lib.Seq.{getD-drop, getD-take}
-use Rattle.provenance.specs.Tests.{by-order}
-use Rattle.provenance.specs.Letters.{gap, margin, Letter, AllLetters, Letters}
+use Rattle.text.specs.Class.{isContinuation}
+use Rattle.measure.proofs.Tests.{by-order, and-both}
+use Rattle.measure.specs.Letters.{gap, margin, Letter, AllLetters, LetterRun, Letters}
 
 -- ---- within a chunk
 
@@ -39,12 +43,13 @@ passed-more src next val low wide i low′ wide′ p e f j h =
 pub passed-all : (src next val : List ℕ) (low wide i : ℕ) → Passed src next val low wide i → length src ≤ i → wide ≤ 0 → 0 < low → AllLetters src next val
 passed-all src next val low wide i p l w h j k =
     let q = p j (omega arith) in
-    let a = q .0 in
-    let b = q .1 in
-    (no-gap (getD src j 0) (getD val j 0) (omega arith), omega arith)
+    (no-gap (getD src j 0) (getD val j 0) wide (q .1) w, positive low (margin (getD src j 0) (getD next j 0)) h (q .0))
   where
-    no-gap : (a c : ℕ) → gap a c ≤ 0 → a ≡ c
-    no-gap a c g = omega arith
+    no-gap : (a c wide : ℕ) → gap a c ≤ wide → wide ≤ 0 → a ≡ c
+    no-gap a c wide g w = omega arith
+
+    positive : (low m : ℕ) → 0 < low → low ≤ m → 0 < m
+    positive low m a b = omega arith
 
 -- ---- chunk by chunk, byte by byte
 
@@ -56,8 +61,8 @@ part-length l i n h = let a = length-take n (drop i l) in let b = length-drop i 
 
 -- a chunk of n letters after i
 pub chunk-more :
-    (src val : List ℕ) (i n m : ℕ) → Letters src val i → n < length src - i → n ≤ length val - i → m ≡ n →
-    AllLetters (take n (drop i src)) (take m (drop (i + 1) src)) (take n (drop i val)) → Letters src val (i + n)
+    (src val : List ℕ) (i n m : ℕ) → LetterRun src val i → n < length src - i → n ≤ length val - i → m ≡ n →
+    AllLetters (take n (drop i src)) (take m (drop (i + 1) src)) (take n (drop i val)) → LetterRun src val (i + n)
 chunk-more src val i n m l s v e all =
     record {
       in-source = omega arith;
@@ -72,11 +77,8 @@ chunk-more src val i n m l s v e all =
           rw (part-at src i n (j - i) (omega arith), part-at src (i + 1) m (j - i) (omega arith), part-at val i n (j - i) (omega arith), k, k′) at q);
     }
 
-pub above-zero : (r m : ℕ) → r ≡ m → (r ≡ 0 → ⊥) → 0 < m
-above-zero r m e n = by-order 0 m (λ lt. lt) (λ le. absurd (n (omega arith)))
-
 -- one letter more
-pub letter-more : (src val : List ℕ) (i : ℕ) → Letters src val i → i < length src → i < length val → Letter (getD src i 0) (getD src (i + 1) 0) (getD val i 0) → Letters src val (i + 1)
+pub letter-more : (src val : List ℕ) (i : ℕ) → LetterRun src val i → i < length src → i < length val → Letter (getD src i 0) (getD src (i + 1) 0) (getD val i 0) → LetterRun src val (i + 1)
 letter-more src val i l s v q =
     record {
       in-source = omega arith;
@@ -84,5 +86,38 @@ letter-more src val i l s v q =
       each = λ j h. by-order j i (λ lt. l .each j lt) (λ le. let here : i ≡ j = omega arith in subst (λ (k : ℕ). Letter (getD src k 0) (getD src (k + 1) 0) (getD val k 0)) here q);
     }
 
-pub no-letters : (src val : List ℕ) → Letters src val 0
+pub no-letters : (src val : List ℕ) → LetterRun src val 0
 no-letters src val = record { in-source = omega arith; in-value = omega arith; each = λ j h. absurd (omega arith) }
+
+-- ---- up to the end of a word
+
+pub run-less : (src val : List ℕ) (n : ℕ) → LetterRun src val n → LetterRun src val (n - 1)
+run-less src val n l =
+    let a = l .in-source in
+    let b = l .in-value in
+    record { in-source = omega arith; in-value = omega arith; each = λ j h. l .each j (omega arith) }
+
+pub word-ends : (src val : List ℕ) (n : ℕ) → LetterRun src val n → not (isContinuation (getD src n 0)) && not (eqb (getD src (n - 1) 0) 32) ≡ true → Letters src val n
+word-ends src val n l e =
+    let p = and-both (not (isContinuation (getD src n 0))) (not (eqb (getD src (n - 1) 0) 32)) e in
+    record { run = l; whole = λ h. not-true _ (p .0); last = λ h. eqb-false (getD src (n - 1) 0) 32 (not-true _ (p .1)) }
+
+pub no-word : (src val : List ℕ) → Letters src val 0
+no-word src val = record { run = no-letters src val; whole = λ h. absurd (omega arith); last = λ h. absurd (omega arith) }
+
+-- ---- margins
+
+pub min-pos : (x y : ℕ) → 0 < x → 0 < y → 0 < min x y
+min-pos x y a b = omega arith
+
+pub max-pos : (x y : ℕ) → 0 < x → 0 < max x y
+max-pos x y a = omega arith
+
+apart : (a b : ℕ) → (a ≡ b → ⊥) → 0 < gap a b
+apart a b n = by-order 0 (gap a b) (λ lt. lt) (λ le. absurd (n (omega arith)))
+
+-- an ASCII byte above a blank
+pub ascii-letter : (a b : ℕ) → 32 < a → a < 128 → (a ≡ 39 → ⊥) → (a ≡ 92 → ⊥) → 0 < margin a b
+ascii-letter a b l h q s =
+    min-pos _ _ (min-pos _ _ (omega arith) (min-pos _ _ (apart a 39 q) (apart a 92 s)))
+    (min-pos _ _ (min-pos _ _ (omega arith) (min-pos _ _ (omega arith) (omega arith))) (min-pos _ _ (max-pos _ _ (omega arith)) (max-pos _ _ (omega arith))))

@@ -1,0 +1,52 @@
+-- `measure::letter::letters` meets its contract. The loop's invariant: the bytes before `n` are letters. The measure is `n`. Assumes nothing.
+use mathlib.Core.Path.{sym, _∙_}
+use native.Mathlib.Omega.{arith}
+use Rattle.measure.specs.Letters.{LetterRun}
+use Rattle.measure.proofs.Letters.{run-less, word-ends, no-word}
+use Rattle.measure.proofs.letter.letters.Statement.{statement}
+use Rattle.measure.proofs.letter.letters.Tie as tie
+
+abbrev Inv-loop : tie.InvT-loop
+Inv-loop src value n₀ n = LetterRun src value n
+
+abbrev μ-loop : tie.MeasureT-loop
+μ-loop src value n₀ n = n
+
+letter-run-requires : tie.Need-letter-run-requires Inv-loop μ-loop
+letter-run-requires c κs = tt
+
+loop-holds : tie.Need-loop-holds Inv-loop μ-loop
+loop-holds c = c .letter-run .ensures
+
+ends-word-requires : tie.Need-ends-word-requires Inv-loop μ-loop
+ends-word-requires c κs = (c .loop-test .taken, c .before .loop .inv .in-source)
+
+returns : tie.Need-returns Inv-loop μ-loop
+returns c = word-ends _ _ _ (c .before .before .before .loop .inv) (sym (c .before .ends-word .ensures) ∙ c .if1 .taken)
+
+sub-n : tie.Need-sub-n Inv-loop μ-loop
+sub-n c = c .before .before .loop-test .taken
+
+loop-less : tie.Need-loop-less Inv-loop μ-loop
+loop-less c = let h = c .before .before .loop-test .taken in omega arith
+
+loop-again : tie.Need-loop-again Inv-loop μ-loop
+loop-again c = run-less _ _ _ (c .before .before .before .loop .inv)
+
+returns-2 : tie.Need-returns-2 Inv-loop μ-loop
+returns-2 c = no-word _ _
+
+pub letters-spec : {M : Type 1} → statement M
+letters-spec =
+    tie.close
+    (tie.spec
+    Inv-loop
+    μ-loop
+    letter-run-requires
+    loop-holds
+    ends-word-requires
+    returns
+    sub-n
+    loop-less
+    loop-again
+    returns-2)
