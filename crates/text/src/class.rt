@@ -1,5 +1,7 @@
 // The classes of a byte: white space, decimal digit, hexadecimal digit, UTF-8 continuation. (01: Reading rules; S15, F7.)
 ghost use mathlib.Core.Path.{_≡_};
+ghost use mathlib.Core.Logic.{_⊎_};
+ghost use Prim.Native.Nat.{_≤_};
 ghost use Rattle.text.specs.Class.{classOf, isWhiteSpaceByte, isDecimalDigit, isHexDigit, isContinuation};
 
 const WHITE_SPACE: u8 = 1;
@@ -331,4 +333,14 @@ pub fn is_continuation(b: u8) -> bool
         return false;
     }
     b < 0xc0
+}
+
+// The larger of two bytes. A loop that gathers it ends at no byte, so that the compiler takes many at once.
+pub fn larger(a: u8, b: u8) -> u8
+    ensures { λ r. ⌜ (a ≤ r) × (b ≤ r) × ((r ≡ a) ⊎ (r ≡ b)) ⌝ }
+{
+    if a < b {
+        return b;
+    }
+    a
 }

@@ -2,24 +2,13 @@
 // What passes is UTF-8; what does not pass is left to the reading of characters in `utf8`. (01: R2, R3.)
 ghost use mathlib.Core.Path.{_≡_};
 ghost use mathlib.Core.Bool.{true};
-ghost use mathlib.Core.Logic.{_⊎_};
-ghost use Prim.Native.Nat.{_≤_, _<_};
-ghost use Rattle.text.specs.Class.{isContinuation};
+ghost use Prim.Native.Nat.{_≤_};
 ghost use Rattle.text.specs.Utf8.{isUtf8};
 ghost use Rattle.text.specs.Offset.{isAscii};
 ghost use lib.ListN.{length};
 ghost use Rattle.text.specs.Window.{Starts, Follows, awaits, Fits, FirstFit};
 use crate::class::is_continuation;
-
-// The larger of two bytes.
-fn larger(a: u8, b: u8) -> u8
-    ensures { λ r. ⌜ (a ≤ r) × (b ≤ r) × ((r ≡ a) ⊎ (r ≡ b)) ⌝ }
-{
-    if a < b {
-        return b;
-    }
-    a
-}
+use crate::class::larger;
 
 // Whether every byte is ASCII: the largest of them is.
 pub fn is_ascii(s: &[u8]) -> bool

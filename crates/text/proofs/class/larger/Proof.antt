@@ -1,9 +1,9 @@
--- `text::window::larger` meets its contract. Assumes nothing.
+-- `text::class::larger` meets its contract. Assumes nothing.
 use mathlib.Core.Path.{refl}
 use mathlib.Core.Logic.{inl, inr}
 use native.Mathlib.Omega.{arith}
-use Rattle.text.proofs.window.larger.Statement.{statement}
-use Rattle.text.proofs.window.larger.Tie as tie
+use Rattle.text.proofs.class.larger.Statement.{statement}
+use Rattle.text.proofs.class.larger.Tie as tie
 
 returns : tie.Need-returns
 returns c = (omega arith, omega arith, inr refl)
