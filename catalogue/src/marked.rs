@@ -1,0 +1,185 @@
+//! The file itself with each scalar marked where it stands: by a line of marks below each line of the file, or in colours.
+//!
+//! Every byte has at most one mark: a piece's before a scalar's, a scalar's before a tag's. A scalar or a piece of no bytes is
+//! marked at its place, on a line of its own where that has a mark already.
+
+use crate::document::Document;
+use quarto_yaml::{PieceKind, Span};
+use std::collections::BTreeMap;
+use std::io::{self, Write};
+
+/// What a byte of the file is.
+#[derive(Clone, Copy, PartialEq)]
+enum Mark {
+    Nothing,
+    Tag,
+    /// In a scalar's span and in no piece, as a quote.
+    Scalar,
+    Verbatim,
+    Replaced,
+}
+
+impl Mark {
+    fn sign(self) -> char {
+        match self {
+            Mark::Nothing => ' ',
+            Mark::Tag => '!',
+            Mark::Scalar => '-',
+            Mark::Verbatim => '=',
+            Mark::Replaced => '~',
+        }
+    }
+
+    /// The colour, as a terminal is told it.
+    fn colour(self) -> &'static str {
+        match self {
+            Mark::Nothing => "0",
+            Mark::Tag => "35",
+            Mark::Scalar => "36",
+            Mark::Verbatim => "32",
+            Mark::Replaced => "30;43",
+        }
+    }
+}
+
+/// A scalar of no bytes.
+const EMPTY: char = '.';
+
+struct Marks {
+    /// One for each byte, and for the place after the last.
+    bytes: Vec<Mark>,
+    /// What stands at a place and has no bytes.
+    empty: BTreeMap<usize, char>,
+}
+
+impl Marks {
+    fn new(document: &Document) -> Marks {
+        let mut marks = Marks { bytes: vec![Mark::Nothing; document.text.len() + 1], empty: BTreeMap::new() };
+        for tag in document.catalogue.tree().nodes().filter_map(|node| node.tag()) {
+            marks.set(tag.span, Mark::Tag);
+        }
+        for node in document.scalars() {
+            marks.set(node.span(), Mark::Scalar);
+            if node.span().is_empty() {
+                marks.empty.insert(node.span().start as usize, EMPTY);
+            }
+        }
+        for piece in document.scalars().filter_map(|node| node.pieces()).flatten() {
+            let mark = if piece.kind == PieceKind::Verbatim { Mark::Verbatim } else { Mark::Replaced };
+            marks.set(piece.source, mark);
+            if piece.source.is_empty() {
+                marks.empty.insert(piece.source.start as usize, mark.sign());
+            }
+        }
+        marks
+    }
+
+    /// The end of a piece can lie past the text.
+    fn set(&mut self, span: Span, mark: Mark) {
+        let end = (span.end as usize).min(self.bytes.len());
+        if let Some(bytes) = self.bytes.get_mut(span.start as usize..end) {
+            bytes.fill(mark);
+        }
+    }
+}
+
+/// Lines of the file with the byte at which each starts; a last one of no characters, if anything stands there.
+fn lines<'a>(document: &Document<'a>, marks: &Marks) -> Vec<(usize, &'a str)> {
+    let mut start = 0;
+    let mut lines = Vec::new();
+    for line in document.text.split_inclusive('\n') {
+        lines.push((start, line));
+        start += line.len();
+    }
+    if marks.empty.contains_key(&start) && (document.text.is_empty() || document.text.ends_with('\n')) {
+        lines.push((start, ""));
+    }
+    lines
+}
+
+/// Writes the file with lines of marks.
+pub fn write_plain(document: &Document, out: &mut dyn Write) -> io::Result<()> {
+    let marks = Marks::new(document);
+    for (i, (start, line)) in lines(document, &marks).into_iter().enumerate() {
+        writeln!(out, "{}", format!("{:5} | {}", i + 1, line.trim_end_matches(['\n', '\r'])).trim_end())?;
+        for signs in signs(&marks, start, line) {
+            if !signs.trim_end().is_empty() {
+                writeln!(out, "      | {}", signs.trim_end())?;
+            }
+        }
+    }
+    writeln!(out)?;
+    writeln!(out, "= verbatim   ~ replaced   - in the scalar, in no piece   . scalar of no bytes   ! tag")
+}
+
+/// The marks below a line, and those of no bytes that have no room among them.
+fn signs(marks: &Marks, start: usize, line: &str) -> [String; 2] {
+    let mut below = [String::new(), String::new()];
+    let end = (start + line.len() == marks.bytes.len() - 1 && !line.ends_with('\n')).then_some((line.len(), ' '));
+    for (offset, c) in line.char_indices().chain(end) {
+        let mark = marks.bytes[start + offset];
+        let empty = marks.empty.get(&(start + offset)).copied();
+        let (first, second) = match (mark, empty) {
+            (Mark::Nothing, Some(sign)) => (sign, ' '),
+            (_, Some(sign)) => (mark.sign(), sign),
+            (_, None) => (mark.sign(), ' '),
+        };
+        let width = width(c, below[0].len());
+        below[0].extend(std::iter::repeat_n(first, width));
+        below[1].extend(std::iter::once(second).chain(std::iter::repeat(' ')).take(width));
+    }
+    below
+}
+
+/// How many columns a terminal gives a character that starts at this column.
+fn width(c: char, column: usize) -> usize {
+    match u32::from(c) {
+        0x9 => 8 - column % 8,
+        0x300..=0x36F | 0x200B..=0x200F | 0xFE00..=0xFE0F | 0xFEFF => 0,
+        0x1100..=0x115F | 0x2E80..=0xA4CF | 0xAC00..=0xD7A3 | 0xF900..=0xFAFF | 0xFE30..=0xFE6F => 2,
+        0xFF00..=0xFF60 | 0xFFE0..=0xFFE6 | 0x1F300..=0x1F64F | 0x1F900..=0x1F9FF | 0x20000..=0x3FFFD => 2,
+        _ => 1,
+    }
+}
+
+/// Writes the file in colours. A line break that is replaced shows as a blank, what has no bytes as a point.
+pub fn write_coloured(document: &Document, out: &mut dyn Write) -> io::Result<()> {
+    let marks = Marks::new(document);
+    for (i, (start, line)) in lines(document, &marks).into_iter().enumerate() {
+        write!(out, "\x1b[2m{:5} |\x1b[0m ", i + 1)?;
+        for (offset, c) in line.char_indices() {
+            write_point(&marks, start + offset, out)?;
+            match (c, marks.bytes[start + offset]) {
+                ('\n', Mark::Replaced) => coloured(' ', Mark::Replaced, out)?,
+                ('\n' | '\r', _) => {}
+                (c, Mark::Nothing) => write!(out, "{c}")?,
+                (c, mark) => coloured(c, mark, out)?,
+            }
+        }
+        if !line.ends_with('\n') {
+            write_point(&marks, start + line.len(), out)?;
+        }
+        writeln!(out)?;
+    }
+    writeln!(out)?;
+    for (mark, name) in [
+        (Mark::Verbatim, "verbatim"),
+        (Mark::Replaced, "replaced"),
+        (Mark::Scalar, "in the scalar, in no piece"),
+        (Mark::Tag, "tag"),
+    ] {
+        write!(out, "\x1b[{}m{name}\x1b[0m   ", mark.colour())?;
+    }
+    writeln!(out, "\x1b[7m{EMPTY}\x1b[0m scalar of no bytes")
+}
+
+fn coloured(c: char, mark: Mark, out: &mut dyn Write) -> io::Result<()> {
+    write!(out, "\x1b[{}m{c}\x1b[0m", mark.colour())
+}
+
+fn write_point(marks: &Marks, byte: usize, out: &mut dyn Write) -> io::Result<()> {
+    match marks.empty.get(&byte) {
+        Some(sign) => write!(out, "\x1b[7m{sign}\x1b[0m"),
+        None => Ok(()),
+    }
+}
