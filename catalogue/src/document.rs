@@ -16,6 +16,8 @@ pub struct Document<'a> {
     values: Vec<Option<&'a str>>,
     /// The byte after each newline.
     lines: Vec<usize>,
+    /// How many characters start before each byte.
+    chars: Vec<u32>,
 }
 
 /// A stretch of a scalar's value.
@@ -48,7 +50,7 @@ pub fn with_document<T>(bytes: &[u8], then: impl FnOnce(&Document) -> T) -> Resu
 impl<'a> Document<'a> {
     fn new(text: &'a str, catalogue: &'a Catalogue<'a>, events: &[Event<'a>]) -> Document<'a> {
         let lines = text.match_indices('\n').map(|(byte, _)| byte + 1).collect();
-        Document { text, catalogue, values: values(events), lines }
+        Document { text, catalogue, values: values(events), lines, chars: chars_before(text) }
     }
 
     /// The scalars in the order of the file.
@@ -76,19 +78,27 @@ impl<'a> Document<'a> {
 
     /// The line and the character of a byte.
     pub fn position(&self, byte: u32) -> Position {
-        let mut byte = byte as usize;
-        while !self.text.is_char_boundary(byte) {
-            byte -= 1;
-        }
+        let byte = byte as usize;
         let line = self.lines.partition_point(|start| *start <= byte);
         let start = if line == 0 { 0 } else { self.lines[line - 1] };
-        Position { line: line + 1, column: self.text[start..byte].chars().count() + 1 }
+        Position { line: line + 1, column: (self.chars[byte] - self.chars[start]) as usize + 1 }
     }
+}
+
+fn chars_before(text: &str) -> Vec<u32> {
+    let starts = (0..text.len()).map(|byte| u32::from(text.is_char_boundary(byte)));
+    let mut before = 0;
+    let counted = starts.map(|start| {
+        before += start;
+        before
+    });
+    std::iter::once(0).chain(counted).collect()
 }
 
 /// Every event but a start completes one record, in order.
 fn values<'a>(events: &[Event<'a>]) -> Vec<Option<&'a str>> {
-    let completing = events.iter().filter(|event| !matches!(event, Event::SequenceStart { .. } | Event::MappingStart { .. }));
+    let completing =
+        events.iter().filter(|event| !matches!(event, Event::SequenceStart { .. } | Event::MappingStart { .. }));
     let value = |event: &Event<'a>| match *event {
         Event::Scalar { value, .. } => Some(value),
         _ => None,

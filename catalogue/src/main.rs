@@ -51,7 +51,9 @@ fn request(arguments: impl Iterator<Item = OsString>) -> Result<Request, String>
                 options = false;
                 continue;
             }
-            Some(word) if options && word.starts_with('-') && word != "-" => return Err(format!("unknown option {word}")),
+            Some(word) if options && word.starts_with('-') && word != "-" => {
+                return Err(format!("unknown option {word}"));
+            }
             _ if file.is_some() => return Err("more than one file".to_string()),
             _ => {
                 file = Some(argument);

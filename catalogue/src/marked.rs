@@ -1,11 +1,11 @@
 //! The file itself with each scalar marked where it stands: by a line of marks below each line of the file, or in colours.
 //!
-//! Every byte has at most one mark: a piece's before a scalar's, a scalar's before a tag's. A scalar or a piece of no bytes is
-//! marked at its place, on a line of its own where that has a mark already.
+//! Every byte has at most one mark: a piece's before a scalar's, a scalar's before a tag's. A scalar of no bytes is marked at its
+//! place, on a line of its own where that has a mark already.
 
 use crate::document::Document;
 use quarto_yaml::{PieceKind, Span};
-use std::collections::BTreeMap;
+use std::collections::HashSet;
 use std::io::{self, Write};
 
 /// What a byte of the file is.
@@ -48,28 +48,24 @@ const EMPTY: char = '.';
 struct Marks {
     /// One for each byte, and for the place after the last.
     bytes: Vec<Mark>,
-    /// What stands at a place and has no bytes.
-    empty: BTreeMap<usize, char>,
+    /// Where scalars of no bytes stand.
+    empty: HashSet<usize>,
 }
 
 impl Marks {
     fn new(document: &Document) -> Marks {
-        let mut marks = Marks { bytes: vec![Mark::Nothing; document.text.len() + 1], empty: BTreeMap::new() };
+        let mut marks = Marks { bytes: vec![Mark::Nothing; document.text.len() + 1], empty: HashSet::new() };
         for tag in document.catalogue.tree().nodes().filter_map(|node| node.tag()) {
             marks.set(tag.span, Mark::Tag);
         }
         for node in document.scalars() {
             marks.set(node.span(), Mark::Scalar);
             if node.span().is_empty() {
-                marks.empty.insert(node.span().start as usize, EMPTY);
+                marks.empty.insert(node.span().start as usize);
             }
         }
         for piece in document.scalars().filter_map(|node| node.pieces()).flatten() {
-            let mark = if piece.kind == PieceKind::Verbatim { Mark::Verbatim } else { Mark::Replaced };
-            marks.set(piece.source, mark);
-            if piece.source.is_empty() {
-                marks.empty.insert(piece.source.start as usize, mark.sign());
-            }
+            marks.set(piece.source, if piece.kind == PieceKind::Verbatim { Mark::Verbatim } else { Mark::Replaced });
         }
         marks
     }
@@ -91,7 +87,7 @@ fn lines<'a>(document: &Document<'a>, marks: &Marks) -> Vec<(usize, &'a str)> {
         lines.push((start, line));
         start += line.len();
     }
-    if marks.empty.contains_key(&start) && (document.text.is_empty() || document.text.ends_with('\n')) {
+    if marks.empty.contains(&start) && (document.text.is_empty() || document.text.ends_with('\n')) {
         lines.push((start, ""));
     }
     lines
@@ -118,11 +114,10 @@ fn signs(marks: &Marks, start: usize, line: &str) -> [String; 2] {
     let end = (start + line.len() == marks.bytes.len() - 1 && !line.ends_with('\n')).then_some((line.len(), ' '));
     for (offset, c) in line.char_indices().chain(end) {
         let mark = marks.bytes[start + offset];
-        let empty = marks.empty.get(&(start + offset)).copied();
-        let (first, second) = match (mark, empty) {
-            (Mark::Nothing, Some(sign)) => (sign, ' '),
-            (_, Some(sign)) => (mark.sign(), sign),
-            (_, None) => (mark.sign(), ' '),
+        let (first, second) = match (mark, marks.empty.contains(&(start + offset))) {
+            (Mark::Nothing, true) => (EMPTY, ' '),
+            (_, true) => (mark.sign(), EMPTY),
+            (_, false) => (mark.sign(), ' '),
         };
         let width = width(c, below[0].len());
         below[0].extend(std::iter::repeat_n(first, width));
@@ -178,8 +173,8 @@ fn coloured(c: char, mark: Mark, out: &mut dyn Write) -> io::Result<()> {
 }
 
 fn write_point(marks: &Marks, byte: usize, out: &mut dyn Write) -> io::Result<()> {
-    match marks.empty.get(&byte) {
-        Some(sign) => write!(out, "\x1b[7m{sign}\x1b[0m"),
-        None => Ok(()),
+    match marks.empty.contains(&byte) {
+        true => write!(out, "\x1b[7m{EMPTY}\x1b[0m"),
+        false => Ok(()),
     }
 }

@@ -29,6 +29,9 @@ mod tests {
 
     #[test]
     fn what_json_wants_escaped() {
-        assert_eq!(quoted("a\"b\\c\n\r\t\u{0}\u{1b}\u{7f}\u{85}\u{2028}é€😀/"), r#""a\"b\\c\n\r\t\u0000\u001b\u007f\u0085\u2028é€😀/""#);
+        assert_eq!(
+            quoted("a\"b\\c\n\r\t\u{0}\u{1b}\u{7f}\u{85}\u{2028}é€😀/"),
+            r#""a\"b\\c\n\r\t\u0000\u001b\u007f\u0085\u2028é€😀/""#
+        );
     }
 }
