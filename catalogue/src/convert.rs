@@ -108,7 +108,7 @@ impl<'a> Conversion<'a> {
         }
     }
 
-    /// Texts are below 2^20 characters here: longer ones are refused before they are parsed.
+    /// A text has at most 2^20 bytes: longer ones are refused before they are parsed.
     fn index(&self, mark: Mark) -> u32 {
         (self.parsed.base + mark.index) as u32
     }

@@ -81,7 +81,7 @@ fn read(file: &OsString) -> io::Result<Vec<u8>> {
 
 fn write(bytes: &[u8], form: Form) -> Result<io::Result<()>, Failure> {
     let stdout = io::stdout();
-    let coloured = stdout.is_terminal() && env::var_os("NO_COLOR").is_none();
+    let coloured = stdout.is_terminal() && env::var_os("NO_COLOR").is_none_or(|value| value.is_empty());
     let mut out = BufWriter::new(stdout.lock());
     with_document(bytes, |document| {
         match form {
@@ -119,10 +119,10 @@ fn show(form: Form, file: Option<OsString>) -> Result<(), String> {
 
 fn main() -> ExitCode {
     match request(env::args_os().skip(1)) {
-        Ok(Request::Help) => {
-            print!("{USAGE}");
-            ExitCode::SUCCESS
-        }
+        Ok(Request::Help) => match io::stdout().write_all(USAGE.as_bytes()) {
+            Ok(()) => ExitCode::SUCCESS,
+            Err(_) => ExitCode::FAILURE,
+        },
         Ok(Request::Show { form, file }) => match show(form, file) {
             Ok(()) => ExitCode::SUCCESS,
             Err(line) => {

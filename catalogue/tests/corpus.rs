@@ -2,7 +2,7 @@
 //!
 //! `corpus-differences.txt` has every event that differs, each with the number of its reason in README.md.
 
-use catalogue::convert;
+use catalogue::{convert, libyaml};
 use quarto_yaml::build;
 use quarto_yaml::event::encode;
 use std::fmt::Write;
@@ -124,4 +124,13 @@ fn more_scalars_have_a_list_than_by_the_events_of_the_corpus() {
         here = (here.0 + ours.0, here.1 + ours.1);
     }
     assert_eq!((corpus, here), ((434, 402), (434, 430)));
+}
+
+/// The conversion looks tokens up by where they start.
+#[test]
+fn tokens_come_in_the_order_of_the_text() {
+    for (text, _) in documents() {
+        let tokens = libyaml::tokens(text, text.len()).unwrap_or_default();
+        assert!(tokens.is_sorted_by_key(|token| token.start.index), "{text}");
+    }
 }
