@@ -106,13 +106,14 @@ fn scalars(events: &[u8]) -> usize {
     numbers_of_events(events).filter(|number| *number == 5).count()
 }
 
-/// The first byte of each event, up to one whose header is cut off. Events past the limit are not looked at, since they are refused.
+/// The first byte of each event, up to one whose header is malformed. Events past the limit are not looked at, since they are refused.
 fn numbers_of_events(events: &[u8]) -> impl Iterator<Item = u8> {
     let mut rest = if events.len() <= EVENTS_LIMIT { events } else { &[] };
     std::iter::from_fn(move || {
-        let [number, high, low, ..] = *rest else { return None };
-        rest = rest.get(3 + usize::from(u16::from_be_bytes([high, low]))..).unwrap_or_default();
-        Some(number)
+        let [number @ 1..=6, high, low, ..] = *rest else { return None };
+        let body = usize::from(u16::from_be_bytes([high, low]));
+        rest = rest.get(3 + body..).unwrap_or_default();
+        (body >= 4).then_some(number)
     })
 }
 

@@ -150,6 +150,8 @@ fn the_room_that_is_always_enough() {
     assert_eq!(record_room(&events), 3 * 12);
     assert_eq!(piece_room(b"four", &events), 4 * (4 + 1));
     assert_eq!(record_room(&events[..events.len() - 6]), 2 * 12);
+    assert_eq!(record_room(&[&events[..], &[2, 0, 3, 0, 0, 0]].concat()), 3 * 12);
+    assert_eq!(record_room(&[&events[..], &[7, 0, 4, 0, 0, 0, 0]].concat()), 3 * 12);
 }
 
 /// A text in which every piece is one byte of a value.
