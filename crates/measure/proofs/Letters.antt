@@ -1,5 +1,6 @@
 -- Letters gathered one by one and by chunks. Assumes nothing.
 use mathlib.Core.Path.{_≡_, _∙_, subst}
+use mathlib.Core.Logic.{_⊎_, ⊎-elim}
 use mathlib.Core.Bool.{true, not, _&&_}
 use mathlib.Core.List.{List}
 use Prim.Native.Nat.{ℕ, _+_, _-_, _≤_, _<_, min, max}
@@ -10,7 +11,7 @@ use lib.ListN.{length, take, drop, getD, length-take, length-drop}
 use lib.Seq.{getD-drop, getD-take}
 use Rattle.text.specs.Class.{isContinuation}
 use Rattle.measure.proofs.Tests.{by-order, and-both}
-use Rattle.measure.specs.Letters.{gap, margin, Letter, AllLetters, LetterRun, Letters}
+use Rattle.measure.specs.Letters.{gap, wordMargin, margin, Letter, AllLetters, LetterRun, Letters}
 
 -- ---- within a chunk
 
@@ -116,8 +117,26 @@ max-pos x y a = omega arith
 apart : (a b : ℕ) → (a ≡ b → ⊥) → 0 < gap a b
 apart a b n = by-order 0 (gap a b) (λ lt. lt) (λ le. absurd (n (omega arith)))
 
--- an ASCII byte above a blank
-pub ascii-letter : (a b : ℕ) → 32 < a → a < 128 → (a ≡ 39 → ⊥) → (a ≡ 92 → ⊥) → 0 < margin a b
-ascii-letter a b l h q s =
-    min-pos _ _ (min-pos _ _ (omega arith) (min-pos _ _ (apart a 39 q) (apart a 92 s)))
-    (min-pos _ _ (min-pos _ _ (omega arith) (min-pos _ _ (omega arith) (omega arith))) (min-pos _ _ (max-pos _ _ (omega arith)) (max-pos _ _ (omega arith))))
+pub word-margin : (b : ℕ) → 32 < b → (b < 128) ⊎ (194 < b) → (b < 225) ⊎ (227 < b) → 0 < wordMargin b
+word-margin b a l h = min-pos _ _ (omega arith) (min-pos _ _ (⊎-elim (λ x. below b 161 33 (omega arith)) (λ x. past b 161 33 (omega arith)) l) (⊎-elim (λ x. below b 226 1 (omega arith)) (λ x. past b 226 1 (omega arith)) h))
+  where
+    below : (b m d : ℕ) → b + d < m → 0 < gap b m - d
+    below b m d x = omega arith
+
+    past : (b m d : ℕ) → m + d < b → 0 < gap b m - d
+    past b m d x = omega arith
+
+-- a byte above a blank, or a blank before a word
+pub letter-margin :
+    (a b : ℕ) → 31 < a → (a ≡ 39 → ⊥) → (a ≡ 92 → ⊥) → (a ≡ 194 → ⊥) → (a ≡ 225 → ⊥) → (a ≡ 226 → ⊥) → (a ≡ 227 → ⊥) ⊎ (b ≡ 128 → ⊥) → (a ≡ 32 → ⊥) ⊎ (0 < wordMargin b) →
+    0 < margin a b
+letter-margin a b l q s c d e w x =
+    min-pos _ _ (min-pos _ _ (over a 31 l) (min-pos _ _ (apart a 39 q) (apart a 92 s)))
+    (min-pos _ _ (min-pos _ _ (apart a 194 c) (min-pos _ _ (apart a 225 d) (apart a 226 e)))
+    (min-pos _ _ (⊎-elim (λ n. max-pos _ _ (apart a 227 n)) (λ n. max-right _ _ (apart b 128 n)) w) (⊎-elim (λ n. max-pos _ _ (apart a 32 n)) (λ n. max-right _ _ n) x)))
+  where
+    over : (a b : ℕ) → b < a → 0 < a - b
+    over a b h = omega arith
+
+    max-right : (x y : ℕ) → 0 < y → 0 < max x y
+    max-right x y h = omega arith

@@ -81,17 +81,51 @@ fn margin(a: u8, b: u8) -> u8
     least(plain, least(lead, least(wide, blank)))
 }
 
-// Whether `a`, before the byte `b`, is a letter; told at once of an ASCII byte above a blank.
+// Whether no white space can begin with `b`.
+fn begins_word(b: u8) -> bool
+    ensures { λ r. ⌜ (r ≡ true → 0 < Letters.wordMargin b) ⌝ }
+{
+    if b <= BLANK {
+        return false;
+    }
+    if b < CONTINUATION {
+        return true;
+    }
+    if b <= LEAD_C2 {
+        return false;
+    }
+    if b < LEAD_E1 {
+        return true;
+    }
+    LEAD_E3 < b
+}
+
+// The same as a margin above 0, by the tests that most bytes pass first.
 fn is_letter(a: u8, b: u8) -> bool
     ensures { λ r. ⌜ (r ≡ true → 0 < Letters.margin a b) ⌝ }
 {
-    if BLANK < a && a < CONTINUATION {
-        if a == QUOTE {
-            return false;
+    if a <= BLANK {
+        if a == BLANK {
+            return begins_word(b);
         }
-        return a != BACKSLASH;
+        return false;
     }
-    0 < margin(a, b)
+    if LEAD_E2 < a {
+        if a == LEAD_E3 {
+            return b != CONTINUATION;
+        }
+        return true;
+    }
+    if a == QUOTE {
+        return false;
+    }
+    if a == BACKSLASH {
+        return false;
+    }
+    if a == LEAD_C2 {
+        return false;
+    }
+    a < LEAD_E1
 }
 
 // Whether all bytes are letters: those of the source, those after them, those of the value.

@@ -13,3 +13,5 @@ pub mod Search
 pub mod Admit
 -- a cursor that is lent, and a contract of three facts
 pub mod Lent
+-- the length of a character by its first byte
+pub mod Leads

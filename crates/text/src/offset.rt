@@ -3,7 +3,7 @@ ghost use mathlib.Core.Path.{_≡_};
 ghost use Prim.Native.Nat.{_≤_};
 ghost use Rattle.text.specs.Utf8.{Utf8};
 ghost use Rattle.text.specs.Offset.{cursorAt, Stands, isAscii};
-use crate::utf8::first_char;
+use crate::utf8::char_len;
 use crate::utf8::last_char;
 
 // How many characters lie before a place of the text, and the place's byte offset.
@@ -31,8 +31,7 @@ fn forward(text: &[u8], cursor: Cursor, target: usize) -> Cursor
         if text.len() <= offset {
             return Cursor { chars, offset };
         }
-        let c = first_char(text, offset);
-        offset += c.len;
+        offset += char_len(text, offset);
         chars += 1;
     }
     Cursor { chars, offset }

@@ -1,7 +1,7 @@
 // UTF-8: the test of a text, and its characters forward and back.
 ghost use mathlib.Core.Path.{_≡_};
 ghost use Prim.Native.Nat.{_<_, _≤_};
-ghost use lib.ListN.{take, drop, getD};
+ghost use lib.ListN.{length, take, drop, getD};
 ghost use Rattle.text.specs.Utf8.{Utf8, twoBytes, threeBytes, fourBytes, multiByte, firstChar, lastChar, isUtf8};
 ghost use Rattle.text.specs.Boundary.{Boundary, isBoundary};
 use crate::class::is_continuation;
@@ -117,6 +117,26 @@ pub fn first_char(s: &[u8], i: usize) -> Char
         };
     }
     multi_byte(a, byte_at(s, i + 1), byte_at(s, i + 2), byte_at(s, i + 3))
+}
+
+// How many bytes the character has that begins at the boundary `i` of a text: its first byte says so.
+pub fn char_len(s: &[u8], i: usize) -> usize
+    requires { ⌜ Utf8 (now s) ⌝ }
+    requires { ⌜ Boundary (now s) i ⌝ }
+    requires { ⌜ i < length (now s) ⌝ }
+    ensures { λ r. ⌜ r ≡ firstChar (drop i (now (s .entry))) .len ⌝ }
+{
+    let lead = s[i];
+    if lead < 0x80 {
+        return 1;
+    }
+    if lead < 0xe0 {
+        return 2;
+    }
+    if lead < 0xf0 {
+        return 3;
+    }
+    4
 }
 
 // Whether `i` is the text's end or a character begins there.

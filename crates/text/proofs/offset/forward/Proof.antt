@@ -5,8 +5,7 @@ use Prim.Native.Nat.{ℕ, _-_, _≤_}
 use native.Mathlib.Omega.{arith}
 use Rattle.text.specs.Offset.{cursorAt, Stands}
 use Rattle.text.specs.Utf8Laws.{char-room}
-use Rattle.text.specs.OffsetLaws.{stands-next, stands-cursor, stands-end}
-use Rattle.text.specs.declared.utf8.Char.{Char}
+use Rattle.text.specs.OffsetLaws.{stands-boundary, stands-next, stands-cursor, stands-end}
 use Rattle.text.proofs.offset.forward.Statement.{statement}
 use Rattle.text.proofs.offset.forward.Tie as tie
 
@@ -22,11 +21,11 @@ loop-holds c = c .before .pre .1
 returns : tie.Need-returns Inv-loop μ-loop
 returns c = stands-end (c .before .before .before .before .pre .0) (c .before .before .loop .inv .0) (c .if1 .taken) (c .before .before .before .before .args .target) (omega arith)
 
-first-char-requires : tie.Need-first-char-requires Inv-loop μ-loop
-first-char-requires c κs = tt
+char-len-requires : tie.Need-char-len-requires Inv-loop μ-loop
+char-len-requires c κs = (c .before .before .before .before .pre .0, (stands-boundary (c .before .before .before .before .pre .0) (c .before .before .loop .inv .0), c .if1 .left))
 
 add-offset : tie.Need-add-offset Inv-loop μ-loop
-add-offset c = let room = char-room (c .before .before .before .before .before .before .args .text .now) (c .before .before .before .before .loop .offset) (c .before .before .if1 .left) in let len = ap (λ (k : Char). k .len) (c .before .first-char .ensures) in omega arith
+add-offset c = let room = char-room (c .before .before .before .before .before .args .text .now) (c .before .before .before .loop .offset) (c .before .if1 .left) in let len = c .char-len .ensures in omega arith
 
 add-chars : tie.Need-add-chars Inv-loop μ-loop
 add-chars c = omega arith
@@ -35,7 +34,7 @@ loop-less : tie.Need-loop-less Inv-loop μ-loop
 loop-less c = omega arith
 
 loop-again : tie.Need-loop-again Inv-loop μ-loop
-loop-again c = (rw (c .before .first-char .ensures) (stands-next (c .before .before .before .before .before .before .pre .0) (c .before .before .before .before .loop .inv .0) (c .before .before .if1 .left)), omega arith)
+loop-again c = (rw (c .char-len .ensures) (stands-next (c .before .before .before .before .before .pre .0) (c .before .before .before .loop .inv .0) (c .before .if1 .left)), omega arith)
 
 returns-2 : tie.Need-returns-2 Inv-loop μ-loop
 returns-2 c = stands-cursor (c .before .loop .inv .0) ∙ ap (λ (k : ℕ). cursorAt (c .before .before .before .args .text .now) k) (omega arith)
@@ -48,7 +47,7 @@ forward-spec =
     μ-loop
     loop-holds
     returns
-    first-char-requires
+    char-len-requires
     add-offset
     add-chars
     loop-less
