@@ -14,7 +14,7 @@ use text::class::is_continuation;
 use text::utf8::byte_at;
 
 // The bytes of a chunk.
-const CHUNK: usize = 32;
+const CHUNK: usize = 16;
 
 const CONTROL: u8 = 31;
 

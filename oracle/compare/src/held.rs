@@ -15,30 +15,30 @@ pub enum Memory {
 }
 
 /// What the buffers and the guards hold beforehand, and how many entries a guard has.
-const BEFORE: u32 = 0xA5A5_A5A5;
-const BEFORE_BYTE: u8 = 0xA5;
+pub const BEFORE: u32 = 0xA5A5_A5A5;
+pub const BEFORE_BYTE: u8 = 0xA5;
 const GUARD: usize = 16;
 
 /// Entries that are lent, between guards or alone.
-struct Lent<T> {
+pub struct Lent<T> {
     entries: Box<[T]>,
     guard: usize,
 }
 
 impl<T: Copy + PartialEq> Lent<T> {
-    fn new(content: &[T], guard: T, memory: Memory) -> Self {
+    pub fn new(content: &[T], guard: T, memory: Memory) -> Self {
         let size = if memory == Memory::Guarded { GUARD } else { 0 };
         let guards = vec![guard; size];
         Self { entries: [&guards, content, &guards].concat().into_boxed_slice(), guard: size }
     }
 
-    fn lent(&mut self) -> &mut [T] {
+    pub fn lent(&mut self) -> &mut [T] {
         let end = self.entries.len() - self.guard;
         &mut self.entries[self.guard..end]
     }
 
     /// Whether the guards are as before.
-    fn is_guarded(&self, guard: T) -> bool {
+    pub fn is_guarded(&self, guard: T) -> bool {
         let (before, rest) = self.entries.split_at(self.guard);
         let after = &rest[rest.len() - self.guard..];
         before.iter().chain(after).all(|entry| *entry == guard)
@@ -77,7 +77,7 @@ impl Outcome {
     }
 }
 
-fn holds(buffer: &[u32], expected: &[u32]) -> bool {
+pub fn holds(buffer: &[u32], expected: &[u32]) -> bool {
     buffer.starts_with(expected) && buffer[expected.len()..].iter().all(|number| *number == 0)
 }
 

@@ -5,6 +5,7 @@
 //! then CASES random ones. `--exact` puts each input and buffer into an allocation of its exact size, for a memory checker,
 //! and leaves out what is large. A case that differs is shrunk and printed; the exit status says whether there was one.
 
+mod calls;
 mod coverage;
 mod held;
 mod show;
@@ -42,6 +43,8 @@ struct Comparison {
     cases: u64,
     panicked: u64,
     different: u64,
+    /// Cases on which one of the two other calls differs.
+    other_calls: u64,
 }
 
 fn main() -> ExitCode {
@@ -82,7 +85,7 @@ fn options() -> Option<Options> {
 
 impl Comparison {
     fn new(build: Build, memory: Memory) -> Self {
-        Self { build, memory, coverage: Coverage::new(), cases: 0, panicked: 0, different: 0 }
+        Self { build, memory, coverage: Coverage::new(), cases: 0, panicked: 0, different: 0, other_calls: 0 }
     }
 
     fn families(&mut self, full: bool) {
@@ -132,6 +135,13 @@ impl Comparison {
         self.cases += 1;
         self.panicked += u64::from(answer.returned[0] == Answer::PANICKED);
         self.coverage.add(case, &answer);
+        if !calls::agree(case, &answer, self.memory) {
+            self.other_calls += 1;
+            if self.other_calls <= PRINTED {
+                println!("case {}: the call on one scalar, or scan_error, differs", self.cases);
+                show::print(case, &found, &answer);
+            }
+        }
         if !found.is(&answer) {
             self.different += 1;
             if self.different <= PRINTED {
@@ -155,8 +165,8 @@ impl Comparison {
             println!("{missing} RULES WERE NEVER MET");
         }
         println!("\n{} cases, {} of them not answered by the original", self.cases, self.panicked);
-        println!("{} different", self.different);
-        if self.different == 0 { ExitCode::SUCCESS } else { ExitCode::FAILURE }
+        println!("{} different", self.different + self.other_calls);
+        if self.different + self.other_calls == 0 { ExitCode::SUCCESS } else { ExitCode::FAILURE }
     }
 }
 

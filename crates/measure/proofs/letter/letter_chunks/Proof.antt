@@ -68,11 +68,11 @@ are-letters-requires : tie.Need-are-letters-requires Inv-loop μ-loop
 are-letters-requires c κs =
     let a = c .before .before .before .before .before .before .before .before .args in
     let i = c .before .before .before .before .before .loop .i in
-    let n : i + 32 - i ≡ 32 = omega arith in
-    let m : i + 32 + 1 - (i + 1) ≡ 32 = omega arith in
-    let src = part-length (a .src .now) i 32 (omega arith) in
-    let next = part-length (a .src .now) (i + 1) 32 (omega arith) in
-    let value = part-length (a .value .now) i 32 (omega arith) in
+    let n : i + 16 - i ≡ 16 = omega arith in
+    let m : i + 16 + 1 - (i + 1) ≡ 16 = omega arith in
+    let src = part-length (a .src .now) i 16 (omega arith) in
+    let next = part-length (a .src .now) (i + 1) 16 (omega arith) in
+    let value = part-length (a .value .now) i 16 (omega arith) in
     (rw (n, m) (next ∙ sym src), rw n (value ∙ sym src))
 
 returns-2 : tie.Need-returns-2 Inv-loop μ-loop
@@ -85,10 +85,10 @@ loop-again : tie.Need-loop-again Inv-loop μ-loop
 loop-again c =
     let a = c .before .before .before .before .before .before .before .before .before .before .args in
     let w = c .before .before .before .before .before .before .before .loop in
-    let n : w .i + 32 - w .i ≡ 32 = omega arith in
-    let m : w .i + 32 + 1 - (w .i + 1) ≡ 32 = omega arith in
+    let n : w .i + 16 - w .i ≡ 16 = omega arith in
+    let m : w .i + 16 + 1 - (w .i + 1) ≡ 16 = omega arith in
     let all = rw (n, m) at (c .before .are-letters .ensures (not-false _ (c .if2 .left))) in
-    chunk-more (a .src .now) (a .value .now) (w .i) 32 32 (w .inv) (omega arith) (omega arith) refl all
+    chunk-more (a .src .now) (a .value .now) (w .i) 16 16 (w .inv) (omega arith) (omega arith) refl all
 
 returns-3 : tie.Need-returns-3 Inv-loop μ-loop
 returns-3 c = c .before .loop .inv
