@@ -10,24 +10,26 @@ use lib.Dec.{eqb}
 use lib.ListN.{length, take, drop, getD, length-take, length-drop}
 use lib.Seq.{getD-drop, getD-take}
 use Rattle.text.specs.Class.{isContinuation}
+use Rattle.measure.specs.LetterLaws.{WordByte, LetterByte}
 use Rattle.measure.proofs.Tests.{by-order, and-both}
 use Rattle.measure.specs.Letters.{gap, wordMargin, margin, Letter, AllLetters, LetterRun, Letters}
 
 -- ---- within a chunk
 
 -- of the first i bytes no margin is below `low` and no gap above `wide`
-abbrev pub Passed : List ℕ → List ℕ → List ℕ → ℕ → ℕ → ℕ → Type 0
-Passed src next val low wide i = (j : ℕ) → j < i → (low ≤ margin (getD src j 0) (getD next j 0)) × (gap (getD src j 0) (getD val j 0) ≤ wide)
+abbrev pub Passed : List ℕ → List ℕ → List ℕ → List ℕ → ℕ → ℕ → ℕ → Type 0
+Passed src next after val low wide i =
+    (j : ℕ) → j < i → (low ≤ margin (getD src j 0) (getD next j 0) (getD after j 0)) × (gap (getD src j 0) (getD val j 0) ≤ wide)
 
 pub passed-more :
-    (src next val : List ℕ) (low wide i low′ wide′ : ℕ) → Passed src next val low wide i → low′ ≡ min low (margin (getD src i 0) (getD next i 0)) → wide′ ≡ max wide (gap (getD src i 0) (getD val i 0)) →
-    Passed src next val low′ wide′ (i + 1)
-passed-more src next val low wide i low′ wide′ p e f j h =
+    (src next after val : List ℕ) (low wide i low′ wide′ : ℕ) → Passed src next after val low wide i → low′ ≡ min low (margin (getD src i 0) (getD next i 0) (getD after i 0)) → wide′ ≡ max wide (gap (getD src i 0) (getD val i 0)) →
+    Passed src next after val low′ wide′ (i + 1)
+passed-more src next after val low wide i low′ wide′ p e f j h =
     by-order j i
     (λ lt. let q = p j lt in let a = q .0 in let b = q .1 in (least-is low _ low′ _ e a, most-is wide _ wide′ _ f b))
     (λ le.
     let here : i ≡ j = omega arith in
-    subst (λ (k : ℕ). (low′ ≤ margin (getD src k 0) (getD next k 0)) × (gap (getD src k 0) (getD val k 0) ≤ wide′)) here (last-least low _ low′ e, last-most wide _ wide′ f))
+    subst (λ (k : ℕ). (low′ ≤ margin (getD src k 0) (getD next k 0) (getD after k 0)) × (gap (getD src k 0) (getD val k 0) ≤ wide′)) here (last-least low _ low′ e, last-most wide _ wide′ f))
   where
     least-is : (a b c d : ℕ) → c ≡ min a b → a ≤ d → c ≤ d
     least-is a b c d q l = omega arith
@@ -41,10 +43,10 @@ passed-more src next val low wide i low′ wide′ p e f j h =
     last-most : (a b c : ℕ) → c ≡ max a b → b ≤ c
     last-most a b c q = omega arith
 
-pub passed-all : (src next val : List ℕ) (low wide i : ℕ) → Passed src next val low wide i → length src ≤ i → wide ≤ 0 → 0 < low → AllLetters src next val
-passed-all src next val low wide i p l w h j k =
+pub passed-all : (src next after val : List ℕ) (low wide i : ℕ) → Passed src next after val low wide i → length src ≤ i → wide ≤ 0 → 0 < low → AllLetters src next after val
+passed-all src next after val low wide i p l w h j k =
     let q = p j (omega arith) in
-    (no-gap (getD src j 0) (getD val j 0) wide (q .1) w, positive low (margin (getD src j 0) (getD next j 0)) h (q .0))
+    (no-gap (getD src j 0) (getD val j 0) wide (q .1) w, positive low (margin (getD src j 0) (getD next j 0) (getD after j 0)) h (q .0))
   where
     no-gap : (a c wide : ℕ) → gap a c ≤ wide → wide ≤ 0 → a ≡ c
     no-gap a c wide g w = omega arith
@@ -62,29 +64,30 @@ part-length l i n h = let a = length-take n (drop i l) in let b = length-drop i 
 
 -- a chunk of n letters after i
 pub chunk-more :
-    (src val : List ℕ) (i n m : ℕ) → LetterRun src val i → n < length src - i → n ≤ length val - i → m ≡ n →
-    AllLetters (take n (drop i src)) (take m (drop (i + 1) src)) (take n (drop i val)) → LetterRun src val (i + n)
-chunk-more src val i n m l s v e all =
+    (src val : List ℕ) (i n m k : ℕ) → LetterRun src val i → n + 1 < length src - i → n ≤ length val - i → m ≡ n → k ≡ n →
+    AllLetters (take n (drop i src)) (take m (drop (i + 1) src)) (take k (drop (i + 2) src)) (take n (drop i val)) → LetterRun src val (i + n)
+chunk-more src val i n m k l s v e f all =
     record {
       in-source = omega arith;
       in-value = omega arith;
       each = λ j h. by-order j i
           (λ lt. l .each j lt)
           (λ le.
-          let k : i + (j - i) ≡ j = omega arith in
-          let k′ : i + 1 + (j - i) ≡ j + 1 = omega arith in
+          let j₀ : i + (j - i) ≡ j = omega arith in
+          let j₁ : i + 1 + (j - i) ≡ j + 1 = omega arith in
+          let j₂ : i + 2 + (j - i) ≡ j + 2 = omega arith in
           let w = part-length src i n (omega arith) in
           let q = all (j - i) (omega arith) in
-          rw (part-at src i n (j - i) (omega arith), part-at src (i + 1) m (j - i) (omega arith), part-at val i n (j - i) (omega arith), k, k′) at q);
+          rw (part-at src i n (j - i) (omega arith), part-at src (i + 1) m (j - i) (omega arith), part-at src (i + 2) k (j - i) (omega arith), part-at val i n (j - i) (omega arith), j₀, j₁, j₂) at q);
     }
 
 -- one letter more
-pub letter-more : (src val : List ℕ) (i : ℕ) → LetterRun src val i → i < length src → i < length val → Letter (getD src i 0) (getD src (i + 1) 0) (getD val i 0) → LetterRun src val (i + 1)
+pub letter-more : (src val : List ℕ) (i : ℕ) → LetterRun src val i → i < length src → i < length val → Letter (getD src i 0) (getD src (i + 1) 0) (getD src (i + 2) 0) (getD val i 0) → LetterRun src val (i + 1)
 letter-more src val i l s v q =
     record {
       in-source = omega arith;
       in-value = omega arith;
-      each = λ j h. by-order j i (λ lt. l .each j lt) (λ le. let here : i ≡ j = omega arith in subst (λ (k : ℕ). Letter (getD src k 0) (getD src (k + 1) 0) (getD val k 0)) here q);
+      each = λ j h. by-order j i (λ lt. l .each j lt) (λ le. let here : i ≡ j = omega arith in subst (λ (k : ℕ). Letter (getD src k 0) (getD src (k + 1) 0) (getD src (k + 2) 0) (getD val k 0)) here q);
     }
 
 pub no-letters : (src val : List ℕ) → LetterRun src val 0
@@ -117,8 +120,22 @@ max-pos x y a = omega arith
 apart : (a b : ℕ) → (a ≡ b → ⊥) → 0 < gap a b
 apart a b n = by-order 0 (gap a b) (λ lt. lt) (λ le. absurd (n (omega arith)))
 
-pub word-margin : (b : ℕ) → 32 < b → (b < 128) ⊎ (194 < b) → (b < 225) ⊎ (227 < b) → 0 < wordMargin b
-word-margin b a l h = min-pos _ _ (omega arith) (min-pos _ _ (⊎-elim (λ x. below b 161 33 (omega arith)) (λ x. past b 161 33 (omega arith)) l) (⊎-elim (λ x. below b 226 1 (omega arith)) (λ x. past b 226 1 (omega arith)) h))
+max-right : (x y : ℕ) → 0 < y → 0 < max x y
+max-right x y h = omega arith
+
+over : (a b : ℕ) → b < a → 0 < a - b
+over a b h = omega arith
+
+-- above 0 on either ground
+either-pos : {A B : Type 0} (x y : ℕ) → (A → 0 < x) → (B → 0 < y) → A ⊎ B → 0 < max x y
+either-pos x y f g = ⊎-elim (λ a. max-pos x y (f a)) (λ b. max-right x y (g b))
+
+pub word-margin : (b c : ℕ) → WordByte b c → 0 < wordMargin b c
+word-margin b c w =
+    min-pos _ _ (over b 32 (w .above))
+    (min-pos _ _ (⊎-elim (λ x. below b 161 33 (omega arith)) (λ x. past b 161 33 (omega arith)) (w .low))
+    (min-pos _ _ (apart b 225 (w .no-e1))
+    (min-pos _ _ (either-pos _ _ (apart b 226) (over c 129) (w .no-e2)) (either-pos _ _ (apart b 227) (apart c 128) (w .no-e3)))))
   where
     below : (b m d : ℕ) → b + d < m → 0 < gap b m - d
     below b m d x = omega arith
@@ -126,17 +143,13 @@ word-margin b a l h = min-pos _ _ (omega arith) (min-pos _ _ (⊎-elim (λ x. be
     past : (b m d : ℕ) → m + d < b → 0 < gap b m - d
     past b m d x = omega arith
 
--- a byte above a blank, or a blank before a word
-pub letter-margin :
-    (a b : ℕ) → 31 < a → (a ≡ 39 → ⊥) → (a ≡ 92 → ⊥) → (a ≡ 194 → ⊥) → (a ≡ 225 → ⊥) → (a ≡ 226 → ⊥) → (a ≡ 227 → ⊥) ⊎ (b ≡ 128 → ⊥) → (a ≡ 32 → ⊥) ⊎ (0 < wordMargin b) →
-    0 < margin a b
-letter-margin a b l q s c d e w x =
-    min-pos _ _ (min-pos _ _ (over a 31 l) (min-pos _ _ (apart a 39 q) (apart a 92 s)))
-    (min-pos _ _ (min-pos _ _ (apart a 194 c) (min-pos _ _ (apart a 225 d) (apart a 226 e)))
-    (min-pos _ _ (⊎-elim (λ n. max-pos _ _ (apart a 227 n)) (λ n. max-right _ _ (apart b 128 n)) w) (⊎-elim (λ n. max-pos _ _ (apart a 32 n)) (λ n. max-right _ _ n) x)))
+-- a letter has a margin
+pub letter-margin : (a b c : ℕ) → LetterByte a b c → 0 < margin a b c
+letter-margin a b c l =
+    min-pos _ _ (min-pos _ _ (over a 31 (l .above)) (min-pos _ _ (apart a 39 (l .no-quote)) (apart a 92 (l .no-backslash))))
+    (min-pos _ _ (min-pos _ _ (apart a 194 (l .no-c2)) (apart a 225 (l .no-e1)))
+    (min-pos _ _ (either-pos _ _ (apart a 226) (either-pos _ _ (over b 129) (λ x. min-pos _ _ (apart b 129 (x .0)) (near c (x .1) (x .2)))) (l .e2))
+    (min-pos _ _ (either-pos _ _ (apart a 227) (either-pos _ _ (apart b 128) (apart c 128)) (l .e3)) (either-pos _ _ (apart a 32) (word-margin b c) (l .blank)))))
   where
-    over : (a b : ℕ) → b < a → 0 < a - b
-    over a b h = omega arith
-
-    max-right : (x y : ℕ) → 0 < y → 0 < max x y
-    max-right x y h = omega arith
+    near : (c : ℕ) → 138 < c → c < 168 → 0 < 15 - gap c 153
+    near c x y = omega arith

@@ -205,7 +205,7 @@ over-letters (suc m) s val lead trimmed len n u b h t r l =
         (λ lt. subst (λ (x : ℕ). Counting s lead x x) (same (k .len) f) (rest (len + k .len) (k .len) (omega arith) (omega arith) (λ z. omega arith) g (rest-of s val len n l h (k .len) f)))
         (λ le. let e : k .len ≡ n = omega arith in subst (λ (x : ℕ). Counting s lead (len + x) (len + x)) e g)
 
-    by : Dark (k .code) ⊎ ((getD s len 0 ≡ 32) × (k ≡ character 32 1) × WordByte (getD s (len + 1) 0)) → Rest → Counting s lead (len + n) (len + n)
+    by : Dark (k .code) ⊎ ((getD s len 0 ≡ 32) × (k ≡ character 32 1) × WordByte (getD s (len + 1) 0) (getD s (len + 2) 0)) → Rest → Counting s lead (len + n) (len + n)
     by (inl d) rest = solid d rest (fits s val len n l h a) (a .some)
     by (inr (z, e, w)) rest =
         let more = after-blank s val len n l h z in

@@ -294,7 +294,7 @@ unfolding isFold
 dark-compares {k = k} r d = let h = above-blank (k .code) d in compare-other r (rw (ne-eqb (k .code) 32 (λ e. omega arith), ne-eqb (k .code) 10 (λ e. omega arith)))
 
 -- and a blank none before a word
-blank-run : {rest : List ℕ} {at : ℕ} {k : Char} → Utf8 rest → Char-at rest at k → k ≡ character 32 1 → WordByte (getD rest (at + 1) 0) → holdsNewline (whiteSpaceRun (codes (drop at rest))) ≡ false
+blank-run : {rest : List ℕ} {at : ℕ} {k : Char} → Utf8 rest → Char-at rest at k → k ≡ character 32 1 → WordByte (getD rest (at + 1) 0) (getD rest (at + 2) 0) → holdsNewline (whiteSpaceRun (codes (drop at rest))) ≡ false
 unfolding holdsNewline isWhiteSpace isIn whiteSpace
 blank-run {rest} {at} {k} u a e w =
     let n : k .len ≡ 1 = ap (λ (x : Char). x .len) e in
@@ -303,21 +303,25 @@ blank-run {rest} {at} {k} u a e w =
     let b : Boundary rest (at + 1) = subst (λ (m : ℕ). Boundary rest m) place (a .next) in
     let o = w .above in
     let next = char-at u b (byte-inside rest (at + 1) (omega arith)) in
-    let none = run-stops _ (codes (drop (at + 1 + firstChar (drop (at + 1) rest) .len) rest)) (dark _ (solid-at next (word-solid _ _ w))) in
+    let word : WordByte (getD rest (at + 1) 0) (getD rest (at + 1 + 1) 0) = subst (λ (m : ℕ). WordByte (getD rest (at + 1) 0) (getD rest m 0)) (further at) w in
+    let none = run-stops _ (codes (drop (at + 1 + firstChar (drop (at + 1) rest) .len) rest)) (dark _ (solid-at next (word-solid _ _ _ word))) in
     let f : codes (drop at rest) ≡ 32 ∷ codes (drop (at + 1) rest) = a .forward ∙ ap (λ (x : ℕ). x ∷ codes (drop (at + k .len) rest)) c ∙ ap (λ (m : ℕ). 32 ∷ codes (drop m rest)) place in
     let g : whiteSpaceRun (codes (drop at rest)) ≡ 32 ∷ [] = ap whiteSpaceRun f ∙ run-goes-on 32 (codes (drop (at + 1) rest)) refl ∙ ap (λ (l : List ℕ). 32 ∷ l) (ap whiteSpaceRun (next .forward) ∙ none) in
     ap holdsNewline g
   where
+    further : (m : ℕ) → m + 2 ≡ m + 1 + 1
+    further m = omega arith
+
     byte-inside : (l : List ℕ) (i : ℕ) → 0 < getD l i 0 → i < length l
     byte-inside [] i h = absurd (omega arith)
     byte-inside (x ∷ l) zero h = omega arith
     byte-inside (x ∷ l) (suc i) h = let r = byte-inside l i h in omega arith
 
-blank-compares : {rest value : List ℕ} {at end known v : ℕ} {k : Char} → Utf8 rest → Matching rest value at end known v → Char-at rest at k → k ≡ character 32 1 → WordByte (getD rest (at + 1) 0) → Comparing rest value at end known v k
+blank-compares : {rest value : List ℕ} {at end known v : ℕ} {k : Char} → Utf8 rest → Matching rest value at end known v → Char-at rest at k → k ≡ character 32 1 → WordByte (getD rest (at + 1) 0) (getD rest (at + 2) 0) → Comparing rest value at end known v k
 unfolding takesRun
 blank-compares {k = k} u r a e w = record { matching = r; no-run = rw (blank-run u a e w) (and-false (isFold (k .code))) }
 
-letter-compares : {rest value : List ℕ} {at end known v : ℕ} {k : Char} → Utf8 rest → Matching rest value at end known v → Char-at rest at k → LetterByte (getD rest at 0) (getD rest (at + 1) 0) → Comparing rest value at end known v k
+letter-compares : {rest value : List ℕ} {at end known v : ℕ} {k : Char} → Utf8 rest → Matching rest value at end known v → Char-at rest at k → LetterByte (getD rest at 0) (getD rest (at + 1) 0) (getD rest (at + 2) 0) → Comparing rest value at end known v k
 letter-compares u r a l = ⊎-elim (λ d. dark-compares r d) (λ x. blank-compares u r a (x .1) (x .2)) (letter-at a l)
 
 match-some :

@@ -24,50 +24,83 @@ apart a b h e = omega arith
 over : (a b : ℕ) → 0 < a - b → b < a
 over a b h = omega arith
 
--- a byte that begins a word
-pub record WordByte (b : ℕ) : Type 0 where
+-- a byte before c that begins a word
+pub record WordByte (b c : ℕ) : Type 0 where
   pub above : 32 < b
   pub low : (b < 128) ⊎ (194 < b)
-  pub high : (b < 225) ⊎ (227 < b)
+  pub no-e1 : b ≡ 225 → ⊥
+  pub no-e2 : (b ≡ 226 → ⊥) ⊎ (129 < c)
+  pub no-e3 : (b ≡ 227 → ⊥) ⊎ (c ≡ 128 → ⊥)
 
 either-side : (b m d : ℕ) → 0 < gap b m - d → (b < m - d) ⊎ (m + d < b)
 either-side b m d h = elim (decLe b (m + d)) [ yes a ↦ inl (omega arith) | no a ↦ inr (lt-of-not-le a) ]
 
-pub word-byte : (b : ℕ) → 0 < wordMargin b → WordByte b
-word-byte b h =
-    let p = min-both (b - 32) (min (gap b 161 - 33) (gap b 226 - 1)) h in
-    let q = min-both (gap b 161 - 33) (gap b 226 - 1) (p .1) in
-    record { above = over b 32 (p .0); low = either-side b 161 33 (q .0); high = either-side b 226 1 (q .1) }
+pub word-byte : (b c : ℕ) → 0 < wordMargin b c → WordByte b c
+word-byte b c h =
+    let p = min-both (b - 32) (min (gap b 161 - 33) (min (gap b 225) (min (max (gap b 226) (c - 129)) (max (gap b 227) (gap c 128))))) h in
+    let q = min-both (gap b 161 - 33) (min (gap b 225) (min (max (gap b 226) (c - 129)) (max (gap b 227) (gap c 128)))) (p .1) in
+    let r = min-both (gap b 225) (min (max (gap b 226) (c - 129)) (max (gap b 227) (gap c 128))) (q .1) in
+    let s = min-both (max (gap b 226) (c - 129)) (max (gap b 227) (gap c 128)) (r .1) in
+    record {
+      above = over b 32 (p .0);
+      low = either-side b 161 33 (q .0);
+      no-e1 = apart b 225 (r .0);
+      no-e2 = elim (max-either (gap b 226) (c - 129) (s .0)) [ inl x ↦ inl (apart b 226 x) | inr x ↦ inr (over c 129 x) ];
+      no-e3 = elim (max-either (gap b 227) (gap c 128) (s .1)) [ inl x ↦ inl (apart b 227 x) | inr x ↦ inr (apart c 128 x) ];
+    }
 
--- a byte a before b that is a letter
-pub record LetterByte (a b : ℕ) : Type 0 where
+-- what may stand after E2
+abbrev pub AfterE2 : ℕ → ℕ → Type 0
+AfterE2 b c = (129 < b) ⊎ ((b ≡ 129 → ⊥) × (138 < c) × (c < 168))
+
+-- a byte a before b and c that is a letter
+pub record LetterByte (a b c : ℕ) : Type 0 where
   pub above : 31 < a
   pub no-quote : a ≡ 39 → ⊥
   pub no-backslash : a ≡ 92 → ⊥
   pub no-c2 : a ≡ 194 → ⊥
   pub no-e1 : a ≡ 225 → ⊥
-  pub no-e2 : a ≡ 226 → ⊥
-  pub no-e3 : (a ≡ 227 → ⊥) ⊎ (b ≡ 128 → ⊥)
-  pub blank : (a ≡ 32 → ⊥) ⊎ WordByte b
+  pub e2 : (a ≡ 226 → ⊥) ⊎ AfterE2 b c
+  pub e3 : (a ≡ 227 → ⊥) ⊎ ((b ≡ 128 → ⊥) ⊎ (c ≡ 128 → ⊥))
+  pub blank : (a ≡ 32 → ⊥) ⊎ WordByte b c
 
-pub letter-byte : (a b : ℕ) → 0 < margin a b → LetterByte a b
-letter-byte a b h =
-    let p = min-both (min (a - 31) (min (gap a 39) (gap a 92))) (min (min (gap a 194) (min (gap a 225) (gap a 226))) (min (max (gap a 227) (gap b 128)) (max (gap a 32) (wordMargin b)))) h in
+after-e2 : (b c : ℕ) → 0 < max (b - 129) (min (gap b 129) (15 - gap c 153)) → AfterE2 b c
+after-e2 b c h =
+    elim (max-either (b - 129) (min (gap b 129) (15 - gap c 153)) h) [
+      | inl x ↦ inl (over b 129 x)
+      | inr x ↦ (let p = min-both (gap b 129) (15 - gap c 153) x in inr (apart b 129 (p .0), near c (p .1) .0, near c (p .1) .1))
+    ]
+  where
+    near : (c : ℕ) → 0 < 15 - gap c 153 → (138 < c) × (c < 168)
+    near c x = (omega arith, omega arith)
+
+pub letter-byte : (a b c : ℕ) → 0 < margin a b c → LetterByte a b c
+letter-byte a b c h =
+    let low = min (a - 31) (min (gap a 39) (gap a 92)) in
+    let lead = min (gap a 194) (gap a 225) in
+    let e2 = max (gap a 226) (max (b - 129) (min (gap b 129) (15 - gap c 153))) in
+    let e3 = max (gap a 227) (max (gap b 128) (gap c 128)) in
+    let word = max (gap a 32) (wordMargin b c) in
+    let p = min-both low (min lead (min e2 (min e3 word))) h in
     let q = min-both (a - 31) (min (gap a 39) (gap a 92)) (p .0) in
     let r = min-both (gap a 39) (gap a 92) (q .1) in
-    let s = min-both (min (gap a 194) (min (gap a 225) (gap a 226))) (min (max (gap a 227) (gap b 128)) (max (gap a 32) (wordMargin b))) (p .1) in
-    let t = min-both (gap a 194) (min (gap a 225) (gap a 226)) (s .0) in
-    let u = min-both (gap a 225) (gap a 226) (t .1) in
-    let v = min-both (max (gap a 227) (gap b 128)) (max (gap a 32) (wordMargin b)) (s .1) in
+    let s = min-both lead (min e2 (min e3 word)) (p .1) in
+    let t = min-both (gap a 194) (gap a 225) (s .0) in
+    let u = min-both e2 (min e3 word) (s .1) in
+    let v = min-both e3 word (u .1) in
     record {
       above = over a 31 (q .0);
       no-quote = apart a 39 (r .0);
       no-backslash = apart a 92 (r .1);
       no-c2 = apart a 194 (t .0);
-      no-e1 = apart a 225 (u .0);
-      no-e2 = apart a 226 (u .1);
-      no-e3 = elim (max-either (gap a 227) (gap b 128) (v .0)) [ inl x ↦ inl (apart a 227 x) | inr x ↦ inr (apart b 128 x) ];
-      blank = elim (max-either (gap a 32) (wordMargin b) (v .1)) [ inl x ↦ inl (apart a 32 x) | inr x ↦ inr (word-byte b x) ];
+      no-e1 = apart a 225 (t .1);
+      e2 = elim (max-either (gap a 226) (max (b - 129) (min (gap b 129) (15 - gap c 153))) (u .0)) [ inl x ↦ inl (apart a 226 x) | inr x ↦ inr (after-e2 b c x) ];
+      e3 =
+          elim (max-either (gap a 227) (max (gap b 128) (gap c 128)) (v .0)) [
+            | inl x ↦ inl (apart a 227 x)
+            | inr x ↦ inr (elim (max-either (gap b 128) (gap c 128) x) [ inl y ↦ inl (apart b 128 y) | inr y ↦ inr (apart c 128 y) ])
+          ];
+      blank = elim (max-either (gap a 32) (wordMargin b c) (v .1)) [ inl x ↦ inl (apart a 32 x) | inr x ↦ inr (word-byte b c x) ];
     }
 
 -- ---- letters without the first k
@@ -84,7 +117,8 @@ letters-less src val n k l h =
         in-value = omega arith;
         each = λ j g.
             let e : k + (j + 1) ≡ k + j + 1 = omega arith in
-            rw (getD-drop k src j 0, getD-drop k src (j + 1) 0, getD-drop k val j 0, e) (l .run .each (k + j) (omega arith));
+            let f : k + (j + 2) ≡ k + j + 2 = omega arith in
+            rw (getD-drop k src j 0, getD-drop k src (j + 1) 0, getD-drop k src (j + 2) 0, getD-drop k val j 0, e, f) (l .run .each (k + j) (omega arith));
       };
       whole = λ g. let e : k + (n - k) ≡ n = omega arith in rw (getD-drop k src (n - k) 0, e) (l .whole (omega arith));
       last = λ g. let e : k + (n - k - 1) ≡ n - 1 = omega arith in rw (getD-drop k src (n - k - 1) 0, e) (l .last (omega arith));

@@ -24,7 +24,10 @@ const QUOTE: u8 = 39;
 
 const BACKSLASH: u8 = 92;
 
-// White space in two and three bytes begins with C2, E1, E2, or E3 and 80.
+// The middle of 80 to C2: bytes that continue a character, or that begin no or a Latin one.
+const MIDDLE: u8 = 161;
+
+// White space in two and three bytes begins with C2, with E1, with E2 and 80 or 81, or with E3 80 80.
 const LEAD_C2: u8 = 0xc2;
 
 const LEAD_E1: u8 = 0xe1;
@@ -61,29 +64,44 @@ fn gap(a: u8, b: u8) -> u8
     if a < b { b - a } else { a - b }
 }
 
-// How far a byte is from those that white space may begin with: it is above a blank, not 80 to C2 and not E1 to E3.
-fn word_margin(b: u8) -> u8
-    ensures { λ r. ⌜ r ≡ Letters.wordMargin b ⌝ }
+// How far the byte `b`, before the byte `c`, is from those that white space may begin with.
+fn word_margin(b: u8, c: u8) -> u8
+    ensures { λ r. ⌜ r ≡ Letters.wordMargin b c ⌝ }
 {
-    let low = above(gap(b, 161), 33);
-    let high = above(gap(b, LEAD_E2), 1);
-    least(above(b, BLANK), least(low, high))
+    let low = above(gap(b, MIDDLE), 33);
+    let e2 = most(gap(b, LEAD_E2), above(c, 129));
+    let e3 = most(gap(b, LEAD_E3), gap(c, CONTINUATION));
+    least(
+        above(b, BLANK),
+        least(low, least(gap(b, LEAD_E1), least(e2, e3))),
+    )
 }
 
-// How far the byte `a`, before the byte `b`, is from those that are no letters.
-fn margin(a: u8, b: u8) -> u8
-    ensures { λ r. ⌜ r ≡ Letters.margin a b ⌝ }
+// How far the bytes after E2 are from those of white space.
+fn margin_after_e2(b: u8, c: u8) -> u8
+    ensures { λ r. ⌜ r ≡ max (b - 129) (min (Letters.gap b 129) (15 - Letters.gap c 153)) ⌝ }
+{
+    most(above(b, 129), least(gap(b, 129), above(15, gap(c, 153))))
+}
+
+// How far the byte `a`, before the bytes `b` and `c`, is from those that are no letters.
+fn margin(a: u8, b: u8, c: u8) -> u8
+    ensures { λ r. ⌜ r ≡ Letters.margin a b c ⌝ }
 {
     let plain = least(above(a, CONTROL), least(gap(a, QUOTE), gap(a, BACKSLASH)));
-    let lead = least(gap(a, LEAD_C2), least(gap(a, LEAD_E1), gap(a, LEAD_E2)));
-    let wide = most(gap(a, LEAD_E3), gap(b, CONTINUATION));
-    let blank = most(gap(a, BLANK), word_margin(b));
-    least(plain, least(lead, least(wide, blank)))
+    let lead = least(gap(a, LEAD_C2), gap(a, LEAD_E1));
+    let e2 = most(gap(a, LEAD_E2), margin_after_e2(b, c));
+    let e3 = most(
+        gap(a, LEAD_E3),
+        most(gap(b, CONTINUATION), gap(c, CONTINUATION)),
+    );
+    let blank = most(gap(a, BLANK), word_margin(b, c));
+    least(plain, least(lead, least(e2, least(e3, blank))))
 }
 
-// Whether no white space can begin with `b`.
-fn begins_word(b: u8) -> bool
-    ensures { λ r. ⌜ (r ≡ true → 0 < Letters.wordMargin b) ⌝ }
+// Whether no white space can begin with `b`, before `c`.
+fn begins_word(b: u8, c: u8) -> bool
+    ensures { λ r. ⌜ (r ≡ true → 0 < Letters.wordMargin b c) ⌝ }
 {
     if b <= BLANK {
         return false;
@@ -97,24 +115,30 @@ fn begins_word(b: u8) -> bool
     if b < LEAD_E1 {
         return true;
     }
+    if b == LEAD_E2 {
+        return 129 < c;
+    }
+    if b == LEAD_E3 {
+        return c != CONTINUATION;
+    }
     LEAD_E3 < b
 }
 
-// The same as a margin above 0, by the tests that most bytes pass first.
-fn is_letter(a: u8, b: u8) -> bool
-    ensures { λ r. ⌜ (r ≡ true → 0 < Letters.margin a b) ⌝ }
+// Whether `a`, before the bytes `b` and `c`, is a letter, by the tests that most bytes pass first.
+fn is_letter(a: u8, b: u8, c: u8) -> bool
+    ensures { λ r. ⌜ (r ≡ true → 0 < Letters.margin a b c) ⌝ }
 {
     if a <= BLANK {
         if a == BLANK {
-            return begins_word(b);
+            return begins_word(b, c);
         }
         return false;
     }
-    if LEAD_E2 < a {
-        if a == LEAD_E3 {
-            return b != CONTINUATION;
-        }
+    if LEAD_E3 < a {
         return true;
+    }
+    if LEAD_E1 <= a {
+        return 0 < margin(a, b, c);
     }
     if a == QUOTE {
         return false;
@@ -122,23 +146,20 @@ fn is_letter(a: u8, b: u8) -> bool
     if a == BACKSLASH {
         return false;
     }
-    if a == LEAD_C2 {
-        return false;
-    }
-    a < LEAD_E1
+    a != LEAD_C2
 }
 
-// Whether all bytes are letters: those of the source, those after them, those of the value.
-fn are_letters(src: &[u8], next: &[u8], value: &[u8]) -> bool
-    requires { ⌜ (length (now next) ≡ length (now src)) × (length (now value) ≡ length (now src)) ⌝ }
-    ensures { λ r. ⌜ (r ≡ true → Letters.AllLetters (now (src .entry)) (now (next .entry)) (now (value .entry))) ⌝ }
+// Whether all bytes are letters: those of the source, those one and two after them, those of the value.
+fn are_letters(src: &[u8], next: &[u8], after: &[u8], value: &[u8]) -> bool
+    requires { ⌜ (length (now next) ≡ length (now src)) × (length (now after) ≡ length (now src)) × (length (now value) ≡ length (now src)) ⌝ }
+    ensures { λ r. ⌜ (r ≡ true → Letters.AllLetters (now (src .entry)) (now (next .entry)) (now (after .entry)) (now (value .entry))) ⌝ }
 {
     let mut low = 255;
     let mut wide = 0;
     let mut i = 0;
     while i < src.len() {
         let a = src[i];
-        low = least(low, margin(a, next[i]));
+        low = least(low, margin(a, next[i], after[i]));
         wide = most(wide, gap(a, value[i]));
         i += 1;
     }
@@ -153,12 +174,14 @@ fn letter_chunks(src: &[u8], value: &[u8]) -> usize
     ensures { λ r. ⌜ Letters.LetterRun (now (src .entry)) (now (value .entry)) r ⌝ }
 {
     let mut i = 0;
-    while CHUNK < src.len() - i {
+    while CHUNK + 1 < src.len() - i {
         if value.len() - i < CHUNK {
             return i;
         }
         let end = i + CHUNK;
-        if !are_letters(&src[i..end], &src[i + 1..end + 1], &value[i..end]) {
+        let next = &src[i + 1..end + 1];
+        let after = &src[i + 2..end + 2];
+        if !are_letters(&src[i..end], next, after, &value[i..end]) {
             return i;
         }
         i = end;
@@ -179,7 +202,7 @@ fn letter_run(src: &[u8], value: &[u8]) -> usize
         if a != value[i] {
             return i;
         }
-        if !is_letter(a, byte_at(src, i + 1)) {
+        if !is_letter(a, byte_at(src, i + 1), byte_at(src, i + 2)) {
             return i;
         }
         i += 1;

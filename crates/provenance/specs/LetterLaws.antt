@@ -29,18 +29,18 @@ above-white b h n m = rw (lt-leb b 13 (omega arith), ne-eqb b 32 (λ e. omega ar
     no-part true = refl
     no-part false = refl
 
-not-white : (b : ℕ) → WordByte b → isWhiteSpaceByte b ≡ false
-not-white b w =
+not-white : (b c : ℕ) → WordByte b c → isWhiteSpaceByte b ≡ false
+not-white b c w =
     let l = w .above in
     above-white b l (λ e. ⊎-elim (λ h. omega arith) (λ h. omega arith) (w .low)) (λ e. ⊎-elim (λ h. omega arith) (λ h. omega arith) (w .low))
 
 -- white space ends after a blank before a letter
-run-ends : (src : List ℕ) → WordByte (getD src 0 0) → whiteRun src ≡ []
+run-ends : (src : List ℕ) → WordByte (getD src 0 0) (getD src 1 0) → whiteRun src ≡ []
 unfolding whiteRun
 run-ends [] w = absurd (let h = w .above in omega arith)
-run-ends (b ∷ src) w = rw (not-white b w)
+run-ends (b ∷ src) w = rw (not-white b (getD src 0 0) w)
 
-no-newline : (a : ℕ) (src : List ℕ) → a ≡ 32 → WordByte (getD src 0 0) → newlinesIn (whiteRun (a ∷ src)) ≡ 0
+no-newline : (a : ℕ) (src : List ℕ) → a ≡ 32 → WordByte (getD src 0 0) (getD src 1 0) → newlinesIn (whiteRun (a ∷ src)) ≡ 0
 unfolding whiteRun newlinesIn
 no-newline a src e h = rw (e, run-ends src h)
 
@@ -49,7 +49,7 @@ no-opening : (block : Bool) (a : ℕ) → 32 < a → opensBreak block a a ≡ fa
 unfolding opensBreak
 no-opening block a h = rw (ne-eqb a 32 (λ e. omega arith), ne-eqb a 10 (λ e. omega arith), ne-eqb a 9 (λ e. omega arith))
 
-no-break : (r : Rules) (a : ℕ) (src val : List ℕ) → LetterByte a (getD src 0 0) → breakStep r (a ∷ src) (a ∷ val) ≡ NoStep
+no-break : (r : Rules) (a : ℕ) (src val : List ℕ) → LetterByte a (getD src 0 0) (getD src 1 0) → breakStep r (a ∷ src) (a ∷ val) ≡ NoStep
 unfolding breakStep
 no-break r a src val l =
     by-order 32 a
@@ -76,10 +76,10 @@ no-escape style a src q b = rw (ne-eqb a 39 q, ne-eqb a 92 b) (any (eqb style si
 
 -- ---- the step
 
-letter-step : (style column a : ℕ) (src val : List ℕ) → 0 < margin a (getD src 0 0) → step (rulesOf style column) (a ∷ src) (a ∷ val) ≡ Verbatim 1
+letter-step : (style column a : ℕ) (src val : List ℕ) → 0 < margin a (getD src 0 0) (getD src 1 0) → step (rulesOf style column) (a ∷ src) (a ∷ val) ≡ Verbatim 1
 unfolding step equalStep
 letter-step style column a src val h =
-    let l = letter-byte a (getD src 0 0) h in
+    let l = letter-byte a (getD src 0 0) (getD src 1 0) h in
     rw (no-break (rulesOf style column) a src val l, no-escape style a src (l .no-quote) (l .no-backslash), eq-eqb a a refl)
 
 -- at each of the letters that source and value go on with
@@ -94,4 +94,5 @@ letters-steps style column src val s v n l j h =
     let ds : drop (s + j) src ≡ a ∷ drop (suc j) (drop s src) = sym (drop-drop j s src) ∙ drop-cons (drop s src) j 0 (omega arith) in
     let dv : drop (v + j) val ≡ getD (drop v val) j 0 ∷ drop (suc j) (drop v val) = sym (drop-drop j v val) ∙ drop-cons (drop v val) j 0 (omega arith) in
     let next : getD (drop (suc j) (drop s src)) 0 0 ≡ getD (drop s src) (j + 1) 0 = getD-drop (suc j) (drop s src) 0 0 ∙ ap (λ (k : ℕ). getD (drop s src) k 0) (omega arith) in
-    rw (ds, dv, sym (p .0)) (letter-step style column a (drop (suc j) (drop s src)) (drop (suc j) (drop v val)) (rw next (p .1)))
+    let after : getD (drop (suc j) (drop s src)) 1 0 ≡ getD (drop s src) (j + 2) 0 = getD-drop (suc j) (drop s src) 1 0 ∙ ap (λ (k : ℕ). getD (drop s src) k 0) (omega arith) in
+    rw (ds, dv, sym (p .0)) (letter-step style column a (drop (suc j) (drop s src)) (drop (suc j) (drop v val)) (rw (next, after) (p .1)))

@@ -20,7 +20,8 @@ pub fn agree(case: &Case, answer: &Answer, memory: Memory) -> bool {
         Body::Scalar(scalar) if scalar.tag.is_none() && end == case.events.len() => Some(scalar),
         _ => None,
     };
-    scan_error_agrees(case, event.index) && single.is_none_or(|scalar| scalar_agrees(case, &event, scalar, answer, memory))
+    scan_error_agrees(case, event.index)
+        && single.is_none_or(|scalar| scalar_agrees(case, &event, scalar, answer, memory))
 }
 
 /// What the call on one scalar has to answer follows from what `build` answers: the value's place is 0, and so is that of a refusal.

@@ -1,7 +1,7 @@
 -- `measure::letter::letter_run` meets its contract. The loop's invariant: the bytes passed are letters. The measure is what is left of the value.
 -- Assumes nothing.
 use mathlib.Core.Path.{subst}
-use Prim.Native.Nat.{ℕ, _-_, _<_}
+use Prim.Native.Nat.{ℕ, _+_, _-_, _<_}
 use native.Mathlib.Omega.{arith}
 use borrow.Author.Tests.{not-false}
 use lib.ListN.{length, getD}
@@ -40,11 +40,17 @@ add-byte-at c = omega arith
 byte-at-requires : tie.Need-byte-at-requires Inv-loop μ-loop
 byte-at-requires c κs = tt
 
+add-byte-at-2 : tie.Need-add-byte-at-2 Inv-loop μ-loop
+add-byte-at-2 c = omega arith
+
+byte-at-requires-2 : tie.Need-byte-at-requires-2 Inv-loop μ-loop
+byte-at-requires-2 c κs = tt
+
 is-letter-requires : tie.Need-is-letter-requires Inv-loop μ-loop
 is-letter-requires c κs = tt
 
 returns-3 : tie.Need-returns-3 Inv-loop μ-loop
-returns-3 c = c .before .before .before .before .before .before .before .before .loop .inv
+returns-3 c = c .before .before .before .before .before .before .before .before .before .loop .inv
 
 add-i : tie.Need-add-i Inv-loop μ-loop
 add-i c = omega arith
@@ -54,10 +60,11 @@ loop-less c = omega arith
 
 loop-again : tie.Need-loop-again Inv-loop μ-loop
 loop-again c =
-    let a = c .before .before .before .before .before .before .before .before .before .before .before .before .args in
-    let w = c .before .before .before .before .before .before .before .before .loop in
-    let m = subst (λ (b : ℕ). 0 < margin (getD (a .src .now) (w .i) 0) b) (c .before .before .byte-at .ensures) (c .before .is-letter .ensures (not-false _ (c .if3 .left))) in
-    letter-more (a .src .now) (a .value .now) (w .i) (w .inv) (omega arith) (omega arith) (c .before .before .before .if2 .left, m)
+    let w = c .before .before .before .before .before .before .before .before .before .loop in
+    let a = c .before .before .before .before .before .before .before .before .before .before .before .before .before .args in
+    let l = c .before .is-letter .ensures (not-false _ (c .if3 .left)) in
+    let m = subst (λ (b : ℕ). 0 < margin (getD (a .src .now) (w .i) 0) b (getD (a .src .now) (w .i + 2) 0)) (c .before .before .before .byte-at .ensures) (subst (λ (b : ℕ). 0 < margin (getD (a .src .now) (w .i) 0) (c .before .before .before .byte-at .result) b) (c .before .before .byte-at2 .ensures) l) in
+    letter-more (a .src .now) (a .value .now) (w .i) (w .inv) (omega arith) (omega arith) (c .before .before .before .before .if2 .left, m)
 
 returns-4 : tie.Need-returns-4 Inv-loop μ-loop
 returns-4 c = c .before .loop .inv
@@ -76,6 +83,8 @@ letter-run-spec =
     returns-2
     add-byte-at
     byte-at-requires
+    add-byte-at-2
+    byte-at-requires-2
     is-letter-requires
     returns-3
     add-i
