@@ -47,6 +47,30 @@ fn spans_and_pieces_of_one_scalar() {
     assert_eq!(read("", 0, 0, Style::Plain, ""), (span(0, 0), Some(vec![])));
 }
 
+/// Escapes of YAML 1.2.2 that document 01's grammar does not have, or has otherwise: the span is found, a list is not.
+#[test]
+fn escapes_that_the_grammar_does_not_have() {
+    let escapes = [
+        ("\\e", "\u{1b}"),
+        ("\\v", "\u{b}"),
+        ("\\f", "\u{c}"),
+        ("\\_", "\u{a0}"),
+        ("\\N", "\u{85}"),
+        ("\\L", "\u{2028}"),
+        ("\\P", "\u{2029}"),
+        ("\\U0001F600", "\u{1f600}"),
+        ("a\\ b", "a b"),
+        ("\\xe9", "\u{e9}"),
+    ];
+    for (written, value) in escapes {
+        let text = format!("\"{written}\"");
+        let (found, pieces) = read(&text, 0, 0, Style::DoubleQuoted, value);
+        assert_eq!((found, pieces), (span(0, text.len() as u32), None), "{text}");
+    }
+    let (_, pieces) = read("\"\\x41\"", 0, 0, Style::DoubleQuoted, "A");
+    assert_eq!(pieces.map(|pieces| pieces.len()), Some(1));
+}
+
 #[test]
 fn the_record_of_one_scalar() {
     let of = |value: &'static str| {
