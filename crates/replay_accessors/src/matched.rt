@@ -1,7 +1,15 @@
 // Answers matched with the numbers of a list, one after another: 0 for none; 1 for no and 2 for yes; one more than a record's number;
 // otherwise 1 and the numbers.
 ghost use mathlib.Core.Path.{_≡_};
-ghost use Rattle.replay_accessors.specs.Matched.{matchAt, matchNumber, matchedWhole};
+ghost use mathlib.Core.List.{[], _∷_};
+ghost use mathlib.Core.Option.{some};
+ghost use Rattle.parser.specs.Record.{nodeNumbers};
+ghost use Rattle.node.specs.Kind.{flagIn, countIn};
+ghost use Rattle.node.specs.Source.{spanIn, tagIn, pieceListIn};
+ghost use Rattle.node.specs.Child.{placeIn};
+ghost use Rattle.node.specs.Entry.{entryIn};
+ghost use Rattle.node.specs.Record.{recordIn};
+ghost use Rattle.replay_accessors.specs.Matched.{matchAt, matchNumber, matchedWhole, matchAll, flagNumbers, countNumbers, spanNumbers, tagNumbers, pieceNumbers, recordNumbers, matchRecord, matchPlace, matchEntry};
 use node::child::Place;
 use node::entry::Entry;
 use node::entry::YamlHashEntry;
@@ -71,7 +79,9 @@ pub fn is_whole(list: &[u8], m: Matched) -> bool
     false
 }
 
-pub fn flag(list: &[u8], m: Matched, answer: Flag) -> Matched {
+pub fn flag(list: &[u8], m: Matched, answer: Flag) -> Matched
+    ensures { λ r. ⌜ r ≡ matchAll (now (list .entry)) m (flagNumbers (flagIn answer)) ⌝ }
+{
     match answer {
         Flag::Is(yes) => {
             if yes {
@@ -83,62 +93,82 @@ pub fn flag(list: &[u8], m: Matched, answer: Flag) -> Matched {
     }
 }
 
-pub fn count(list: &[u8], m: Matched, answer: Count) -> Matched {
+pub fn count(list: &[u8], m: Matched, answer: Count) -> Matched
+    ensures { λ r. ⌜ r ≡ matchAll (now (list .entry)) m (countNumbers (countIn answer)) ⌝ }
+{
     match answer {
         Count::Is(k) => number(list, number(list, m, SOME), k),
         Count::Missing => number(list, m, NONE),
     }
 }
 
-fn place_number(list: &[u8], m: Matched, n: usize) -> Matched {
+fn place_number(list: &[u8], m: Matched, n: usize) -> Matched
+    ensures { λ r. ⌜ r ≡ matchRecord (now (list .entry)) m n ⌝ }
+{
     if n < 0xffff_ffff {
         return number(list, m, n as u32 + 1);
     }
     DIFFERENT
 }
 
-pub fn place(list: &[u8], m: Matched, answer: Place) -> Matched {
+pub fn place(list: &[u8], m: Matched, answer: Place) -> Matched
+    ensures { λ r. ⌜ r ≡ matchPlace (now (list .entry)) m (placeIn answer) ⌝ }
+{
     match answer {
         Place::At(n) => place_number(list, m, n),
         Place::Missing => number(list, m, NONE),
     }
 }
 
-fn extent(list: &[u8], m: Matched, x: Extent) -> Matched {
+fn extent(list: &[u8], m: Matched, x: Extent) -> Matched
+    ensures { λ r. ⌜ r ≡ matchAll (now (list .entry)) m (x .start ∷ x .end ∷ []) ⌝ }
+{
     number(list, number(list, m, x.start), x.end)
 }
 
-pub fn span(list: &[u8], m: Matched, answer: Span) -> Matched {
+pub fn span(list: &[u8], m: Matched, answer: Span) -> Matched
+    ensures { λ r. ⌜ r ≡ matchAll (now (list .entry)) m (spanNumbers (spanIn answer)) ⌝ }
+{
     match answer {
         Span::Of(x) => extent(list, number(list, m, SOME), x),
         Span::Missing => number(list, m, NONE),
     }
 }
 
-fn tag_numbers(list: &[u8], m: Matched, tag: TagInfo) -> Matched {
+fn tag_numbers(list: &[u8], m: Matched, tag: TagInfo) -> Matched
+    ensures { λ r. ⌜ r ≡ matchAll (now (list .entry)) m (tag .start ∷ tag .end ∷ tag .suffix ∷ tag .len ∷ []) ⌝ }
+{
     let m = number(list, number(list, m, tag.start), tag.end);
     number(list, number(list, m, tag.suffix), tag.len)
 }
 
-fn piece_numbers(list: &[u8], m: Matched, pieces: PieceList) -> Matched {
+fn piece_numbers(list: &[u8], m: Matched, pieces: PieceList) -> Matched
+    ensures { λ r. ⌜ r ≡ matchAll (now (list .entry)) m (pieces .first ∷ pieces .count ∷ []) ⌝ }
+{
     number(list, number(list, m, pieces.first), pieces.count)
 }
 
-pub fn tagged(list: &[u8], m: Matched, answer: Tagged) -> Matched {
+pub fn tagged(list: &[u8], m: Matched, answer: Tagged) -> Matched
+    ensures { λ r. ⌜ r ≡ matchAll (now (list .entry)) m (tagNumbers (tagIn answer)) ⌝ }
+{
     match answer {
         Tagged::With(tag) => tag_numbers(list, number(list, m, SOME), tag),
         Tagged::Missing => number(list, m, NONE),
     }
 }
 
-pub fn pieces(list: &[u8], m: Matched, answer: Pieces) -> Matched {
+pub fn pieces(list: &[u8], m: Matched, answer: Pieces) -> Matched
+    ensures { λ r. ⌜ r ≡ matchAll (now (list .entry)) m (pieceNumbers (pieceListIn answer)) ⌝ }
+{
     match answer {
         Pieces::Listed(pieces) => piece_numbers(list, number(list, m, SOME), pieces),
         Pieces::Missing => number(list, m, NONE),
     }
 }
 
-fn pair(list: &[u8], m: Matched, x: YamlHashEntry) -> Matched {
+fn pair(list: &[u8], m: Matched, x: YamlHashEntry) -> Matched
+    ensures { λ r. ⌜ r ≡ matchEntry (now (list .entry)) m (some x) ⌝ }
+{
     let key_span = x.key_span;
     let value_span = x.value_span;
     let entry_span = x.entry_span;
@@ -148,7 +178,9 @@ fn pair(list: &[u8], m: Matched, x: YamlHashEntry) -> Matched {
     extent(list, m, entry_span)
 }
 
-pub fn entry(list: &[u8], m: Matched, answer: Entry) -> Matched {
+pub fn entry(list: &[u8], m: Matched, answer: Entry) -> Matched
+    ensures { λ r. ⌜ r ≡ matchEntry (now (list .entry)) m (entryIn answer) ⌝ }
+{
     match answer {
         Entry::Pair(x) => pair(list, m, x),
         Entry::Missing => number(list, m, NONE),
@@ -156,7 +188,9 @@ pub fn entry(list: &[u8], m: Matched, answer: Entry) -> Matched {
 }
 
 // The twelve numbers of a record.
-fn node_numbers(list: &[u8], m: Matched, x: Node) -> Matched {
+fn node_numbers(list: &[u8], m: Matched, x: Node) -> Matched
+    ensures { λ r. ⌜ r ≡ matchAll (now (list .entry)) m (nodeNumbers x) ⌝ }
+{
     let span = x.extent;
     let tag = x.tag;
     let pieces = x.list;
@@ -166,7 +200,9 @@ fn node_numbers(list: &[u8], m: Matched, x: Node) -> Matched {
     number(list, number(list, m, x.payload.first), x.payload.second)
 }
 
-pub fn lookup(list: &[u8], m: Matched, answer: Lookup) -> Matched {
+pub fn lookup(list: &[u8], m: Matched, answer: Lookup) -> Matched
+    ensures { λ r. ⌜ r ≡ matchAll (now (list .entry)) m (recordNumbers (recordIn answer)) ⌝ }
+{
     match answer {
         Lookup::Record(x) => node_numbers(list, number(list, m, SOME), x),
         Lookup::Missing => number(list, m, NONE),

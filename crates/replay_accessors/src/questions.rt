@@ -1,4 +1,9 @@
 // All that is asked about one record, in the order of the oracle.
+ghost use mathlib.Core.Path.{_≡_};
+ghost use Rattle.node.specs.Kind.{lenAt, isHashAt};
+ghost use Rattle.node.specs.Child.{arrayItem};
+ghost use Rattle.node.specs.Entry.{hashEntry};
+ghost use Rattle.replay_accessors.specs.Matched.{orZero, isYes, matchPlace, matchEntry};
 use crate::matched::DIFFERENT;
 use crate::matched::Matched;
 use crate::matched::count;
@@ -56,7 +61,9 @@ fn about_itself(records: &[u32], n: usize, list: &[u8], m: Matched) -> Matched {
 }
 
 // How many children or pairs a record says it has; 0 for a missing one.
-pub fn len_or_zero(records: &[u32], n: usize) -> usize {
+pub fn len_or_zero(records: &[u32], n: usize) -> usize
+    ensures { λ r. ⌜ r ≡ orZero (lenAt (now (records .entry)) n) ⌝ }
+{
     let Count::Is(k) = len(records, n) else {
         return 0;
     };
@@ -64,7 +71,9 @@ pub fn len_or_zero(records: &[u32], n: usize) -> usize {
 }
 
 // Whether a record is there and is a hash.
-pub fn is_hash_there(records: &[u32], n: usize) -> bool {
+pub fn is_hash_there(records: &[u32], n: usize) -> bool
+    ensures { λ r. ⌜ r ≡ isYes (isHashAt (now (records .entry)) n) ⌝ }
+{
     let Flag::Is(yes) = is_hash(records, n) else {
         return false;
     };
@@ -72,7 +81,9 @@ pub fn is_hash_there(records: &[u32], n: usize) -> bool {
 }
 
 // The item and the pair at an index.
-pub fn at_index(records: &[u32], n: usize, i: usize, list: &[u8], m: Matched) -> Matched {
+pub fn at_index(records: &[u32], n: usize, i: usize, list: &[u8], m: Matched) -> Matched
+    ensures { λ r. ⌜ r ≡ matchEntry (now (list .entry)) (matchPlace (now (list .entry)) m (arrayItem (now (records .entry)) n i)) (hashEntry (now (records .entry)) n i) ⌝ }
+{
     let m = place(list, m, get_array_item(records, n, i));
     entry(list, m, hash_entry(records, n, i))
 }

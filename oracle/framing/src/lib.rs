@@ -70,19 +70,6 @@ impl Answer {
     /// Returned where the original panics.
     pub const PANICKED: u32 = 255;
 
-    /// The next answered case, or none at the end of the file.
-    pub fn read(file: &mut impl BufRead) -> io::Result<Option<(Case, Answer)>> {
-        if file.fill_buf()?.is_empty() {
-            return Ok(None);
-        }
-        read_number(file)?;
-        let Some(case) = Case::read(file)? else {
-            return Err(io::ErrorKind::UnexpectedEof.into());
-        };
-        let returned = [read_number(file)?, read_number(file)?, read_number(file)?];
-        Ok(Some((case, Answer { returned, records: read_numbers(file)?, pieces: read_numbers(file)? })))
-    }
-
     /// Writes the answered case.
     pub fn write(&self, case: &Case, file: &mut impl Write) -> io::Result<()> {
         let mut bytes = case.bytes();
@@ -94,11 +81,6 @@ impl Answer {
         file.write_all(&(bytes.len() as u32).to_be_bytes())?;
         file.write_all(&bytes)
     }
-}
-
-fn read_numbers(file: &mut impl Read) -> io::Result<Vec<u32>> {
-    let count = read_number(file)?;
-    (0..count).map(|_| read_number(file)).collect()
 }
 
 fn read_number(file: &mut impl Read) -> io::Result<u32> {

@@ -1,0 +1,26 @@
+-- `replay_accessors::questions::is_hash_there` meets its contract: case by case. Assumes nothing.
+use mathlib.Core.Path.{sym, ap, _∙_}
+use Rattle.node.specs.Kind.{flagIn}
+use Rattle.replay_accessors.specs.Matched.{isYes}
+use borrow.Author.Needs.{needs}
+use Rattle.replay_accessors.proofs.questions.is_hash_there.Statement.{statement}
+use Rattle.replay_accessors.proofs.questions.is_hash_there.Tie as tie
+
+is-hash-requires : tie.Need-is-hash-requires
+is-hash-requires c κs = search needs
+
+enum-known-yes : tie.Need-enum-known-yes
+enum-known-yes c = search needs
+
+enum-told : tie.Need-enum-told
+enum-told c = search needs
+
+returns : tie.Need-returns
+returns c = ap (λ x. isYes (flagIn x)) (sym (c .enum-told .given .1)) ∙ ap isYes (c .before .before .is-hash .ensures)
+
+returns-2 : tie.Need-returns-2
+returns-2 c = ap (λ x. isYes (flagIn x)) (sym (c .before .yes .given .1)) ∙ ap isYes (c .before .before .before .is-hash .ensures)
+
+pub is-hash-there-spec : {M : Type 1} → statement M
+is-hash-there-spec =
+    tie.close (tie.spec is-hash-requires enum-known-yes enum-told returns returns-2)

@@ -1,0 +1,29 @@
+-- `replay_accessors::questions::len_or_zero` meets its contract: case by case. Assumes nothing.
+use mathlib.Core.Path.{sym, ap, _∙_}
+use Rattle.node.specs.Kind.{countIn}
+use Rattle.replay_accessors.specs.Matched.{orZero}
+use borrow.Author.Needs.{needs}
+use Rattle.replay_accessors.proofs.questions.len_or_zero.Statement.{statement}
+use Rattle.replay_accessors.proofs.questions.len_or_zero.Tie as tie
+
+len-requires : tie.Need-len-requires
+len-requires c κs = search needs
+
+enum-known-k : tie.Need-enum-known-k
+enum-known-k c = search needs
+
+enum-told : tie.Need-enum-told
+enum-told c = search needs
+
+returns : tie.Need-returns
+returns c = ap (λ x. orZero (countIn x)) (sym (c .enum-told .given .1)) ∙ ap orZero (c .before .before .len .ensures)
+
+cast-result : tie.Need-cast-result
+cast-result c = search needs
+
+returns-2 : tie.Need-returns-2
+returns-2 c = ap (λ x. orZero (countIn x)) (sym (c .before .k .given .1)) ∙ ap orZero (c .before .before .before .len .ensures)
+
+pub len-or-zero-spec : {M : Type 1} → statement M
+len-or-zero-spec =
+    tie.close (tie.spec len-requires enum-known-k enum-told returns cast-result returns-2)
