@@ -264,6 +264,25 @@ start-kept text mapping index tag (growing fs) st n k e =
     })
     (passes (leb 64 (length (st .opens))) 6 (go a) n (passes (rootDone st) 5 _ n e .1) .1)
 
+-- ---- where the events end
+
+nested-root : (fs : List Forest) (os : List Open) (xs : List Node) → Nested fs os xs → length os ≡ 0 → length xs ≡ 0
+nested-root [] [] xs n e = ap length n
+nested-root [] (o ∷ os) xs n e = absurd n
+nested-root (f ∷ fs) [] xs n e = absurd n
+nested-root (f ∷ fs) (o ∷ os) xs n e = absurd (omega arith)
+
+pub both-true : (a b : Bool) → (a && b) ≡ true → (a ≡ true) × (b ≡ true)
+both-true true b e = (refl, e)
+both-true false b e = absurd (true-not-false (sym e))
+
+refused-not-built : (m k : ℕ) (xs : List Node) (ps : List Piece) → refused m k ≡ built xs ps → ⊥
+refused-not-built m k xs ps e = let z : _≡_ {A = ℕ} 0 1 = cc in omega arith
+
+built-at : (t : Bool) (xs ys : List Node) (ps qs : List Piece) (k : ℕ) → pick t (built xs ps) (refused 9 k) ≡ built ys qs → (t ≡ true) × (xs ≡ ys)
+built-at true xs ys ps qs k e = (refl, cc)
+built-at false xs ys ps qs k e = absurd (refused-not-built 9 k ys qs e)
+
 -- ---- every step
 
 module _ (text events : List ℕ) (room pieceRoom : ℕ) where
@@ -285,20 +304,6 @@ module _ (text events : List ℕ) (room pieceRoom : ℕ) where
   step-kept Malformed g st n k e = absurd (stop-not-go 3 n e)
 
   -- ---- the ending
-
-  nested-root : (fs : List Forest) (os : List Open) (xs : List Node) → Nested fs os xs → length os ≡ 0 → length xs ≡ 0
-  nested-root [] [] xs n e = ap length n
-  nested-root [] (o ∷ os) xs n e = absurd n
-  nested-root (f ∷ fs) [] xs n e = absurd n
-  nested-root (f ∷ fs) (o ∷ os) xs n e = absurd (omega arith)
-
-  both-true : (a b : Bool) → (a && b) ≡ true → (a ≡ true) × (b ≡ true)
-  both-true true b e = (refl, e)
-  both-true false b e = absurd (true-not-false (sym e))
-
-  built-at : (t : Bool) (xs ys : List Node) (ps qs : List Piece) (k : ℕ) → pick t (built xs ps) (refused 9 k) ≡ built ys qs → (t ≡ true) × (xs ≡ ys)
-  built-at true xs ys ps qs k e = (refl, cc)
-  built-at false xs ys ps qs k e = absurd (let z : _≡_ {A = ℕ} 0 1 = cc in omega arith)
 
   -- what the rest of the events make of a growth
   record Made (ms : List Move) (g : Growth) (before xs : List Node) : Type 0 where
@@ -353,7 +358,7 @@ module _ (text events : List ℕ) (room pieceRoom : ℕ) where
           Made (movesFrom events f (nextPlace (readEvent events i))) (n .0) (n .1 .nodes) xs
 
       onward : i < length events → Rest → (n : Next) → step text events room pieceRoom (readEvent events i) st ≡ n → Made (movesFrom events (suc f) i) g (st .nodes) xs
-      onward l rest (stop m) q = absurd (let z : refused m k ≡ built xs ps = sym (run-stopped text events room pieceRoom (suc f) i k m st (omega arith) l q) ∙ e in let y : _≡_ {A = ℕ} 0 1 = cc in omega arith)
+      onward l rest (stop m) q = absurd (refused-not-built m k xs ps (sym (run-stopped text events room pieceRoom (suc f) i k m st (omega arith) l q) ∙ e))
       onward l rest (go n) q =
           let v = step-kept (readEvent events i) g st n h q in
           let p : suc f - 1 ≡ f = omega arith in
@@ -365,9 +370,6 @@ module _ (text events : List ℕ) (room pieceRoom : ℕ) where
       by (no l) rest = rw (le-ltb i (length events) (omega arith)) (ending-made k g st xs ps h (sym (run-ended text events room pieceRoom (suc f) i k st (omega arith)) ∙ e))
 
 -- ---- the call
-
-refused-not-built : (m k : ℕ) (xs : List Node) (ps : List Piece) → refused m k ≡ built xs ps → ⊥
-refused-not-built m k xs ps e = let z : _≡_ {A = ℕ} 0 1 = cc in omega arith
 
 admitted-built : (a : Admission) (o : Outcome) (xs : List Node) (ps : List Piece) → admitted a o ≡ built xs ps → o ≡ built xs ps
 admitted-built (Admitted ascii) o xs ps e = e

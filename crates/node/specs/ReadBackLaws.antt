@@ -29,7 +29,7 @@ use Rattle.node.specs.ForestLaws as forest
 use Rattle.node.specs.SearchLaws as search
 use Rattle.node.specs.Parents.{Parent, parents, parents-length, at-last, child-parent, parent-child}
 use Rattle.node.specs.Growth.{grown, treeOf}
-use Rattle.node.specs.GrowthLaws.{Whole, built-tree}
+use Rattle.node.specs.GrowthLaws.{both-true, Whole, built-tree}
 use Rattle.node.specs.ReadBack.{IsChild, ReadBack}
 
 -- ---- a tree's place among the nodes
@@ -159,11 +159,7 @@ let-through true t o a e = refl
 let-through false t o a e = absurd (none-not-some a e)
 
 kind-at-most : (k : ℕ) → isKind k ≡ true → k ≤ 8
-kind-at-most k e = leb-true k 8 (second (leb 1 k) (leb k 8) e)
-  where
-    second : (a b : Bool) → (a && b) ≡ true → b ≡ true
-    second true b q = q
-    second false b q = absurd (let z : _≡_ {A = ℕ} 0 1 = cc in omega arith)
+kind-at-most k e = leb-true k 8 (both-true (leb 1 k) (leb k 8) e .1)
 
 only-array : (b : List ℕ) (n i c : ℕ) → arrayItem b n i ≡ some c → (y : Node) × (recordAt b n ≡ some y) × (y .kind ≡ 7)
 unfolding arrayItem
