@@ -1,4 +1,5 @@
-//! The port, linked as a static library: the one place that calls it.
+//! The port, linked as a static library: the one place here that calls it. Apart from the Rust package in `bindings`, which turns the numbers
+//! into types: what is compared are the numbers themselves, those of refusals too.
 
 #[repr(C)]
 struct Answered {
