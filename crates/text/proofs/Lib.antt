@@ -15,3 +15,5 @@ pub mod Admit
 pub mod Lent
 -- the length of a character by its first byte
 pub mod Leads
+-- characters counted by the bytes they begin with
+pub mod Starts

@@ -9,6 +9,8 @@ pub mod Boundary
 pub mod WhiteSpace
 -- marker offsets and the cursor
 pub mod Offset
+-- how many characters begin among some bytes
+pub mod Starts
 -- what a byte may be after the three before it
 pub mod Window
 -- the first two rows of the table

@@ -32,7 +32,7 @@ index-place {s} u k =
       offset = refl;
     }
 
-index-front : {s : List ℕ} → Utf8 s → (k : ℕ) → take (byteOffset s k) s ≡ encodeAll (take k (codes s))
+pub index-front : {s : List ℕ} → Utf8 s → (k : ℕ) → take (byteOffset s k) s ≡ encodeAll (take k (codes s))
 unfolding index-place
 index-front u k = place-front (index-place u k)
 

@@ -1,8 +1,13 @@
 // Marker offsets: from a character index to a byte offset. (01: `byte_offset_of_char`; P1, K1.)
 ghost use mathlib.Core.Path.{_≡_};
 ghost use Prim.Native.Nat.{_≤_};
+ghost use lib.ListN.{length, take};
 ghost use Rattle.text.specs.Utf8.{Utf8};
+ghost use Rattle.text.specs.Boundary.{Boundary};
 ghost use Rattle.text.specs.Offset.{cursorAt, Stands, isAscii};
+ghost use Rattle.text.specs.Starts;
+use crate::class::is_continuation;
+use crate::utf8::byte_at;
 use crate::utf8::char_len;
 use crate::utf8::last_char;
 
@@ -18,6 +23,63 @@ pub const START: Cursor = Cursor {
     offset: 0,
 };
 
+// Bytes whose characters are counted together. No more characters than bytes begin among them.
+const CHUNK: usize = 32;
+
+// 1 where a character begins with `b`, 0 where one goes on.
+fn begun(b: u8) -> u8
+    ensures { λ r. ⌜ r ≡ Starts.begun b ⌝ }
+{
+    if is_continuation(b) { 0 } else { 1 }
+}
+
+// How many characters begin among the bytes. No byte ends the loop, so that the compiler takes many at once.
+fn starts(s: &[u8]) -> u8
+    requires { ⌜ length (now s) ≤ 255 ⌝ }
+    ensures { λ r. ⌜ r ≡ Starts.starts (now (s .entry)) ⌝ }
+{
+    let mut n = 0;
+    let mut i = 0;
+    while i < s.len() {
+        n += begun(s[i]);
+        i += 1;
+    }
+    n
+}
+
+// The next place between two characters, from `i` on.
+fn next_boundary(s: &[u8], i: usize) -> usize
+    requires { ⌜ i ≤ length (now s) ⌝ }
+    ensures { λ r. ⌜ Boundary (now (s .entry)) r × (Starts.starts (take r (now (s .entry))) ≡ Starts.starts (take i (now (s .entry)))) ⌝ }
+{
+    let mut end = i;
+    while is_continuation(byte_at(s, end)) {
+        end += 1;
+    }
+    end
+}
+
+// The cursor moved on over whole chunks, as long as they end before the character index `target`.
+fn over_chunks(text: &[u8], cursor: Cursor, target: usize) -> Cursor
+    requires { ⌜ Utf8 (now text) ⌝ }
+    requires { ⌜ Stands (now text) (cursor .chars) (cursor .offset) ⌝ }
+    requires { ⌜ cursor .chars ≤ target ⌝ }
+    ensures { λ r. ⌜ Stands (now (text .entry)) (r .chars) (r .offset) × (r .chars ≤ target) ⌝ }
+{
+    let mut chars = cursor.chars;
+    let mut offset = cursor.offset;
+    while CHUNK <= target - chars {
+        if text.len() - offset < CHUNK {
+            break;
+        }
+        let end = offset + CHUNK;
+        chars += starts(&text[offset..end]) as usize;
+        offset = end;
+    }
+    let offset = next_boundary(text, offset);
+    Cursor { chars, offset }
+}
+
 // The cursor moved on to the character index `target`, or to the text's end where that comes first.
 fn forward(text: &[u8], cursor: Cursor, target: usize) -> Cursor
     requires { ⌜ Utf8 (now text) ⌝ }
@@ -25,8 +87,9 @@ fn forward(text: &[u8], cursor: Cursor, target: usize) -> Cursor
     requires { ⌜ cursor .chars ≤ target ⌝ }
     ensures { λ r. ⌜ r ≡ cursorAt (now (text .entry)) target ⌝ }
 {
-    let mut chars = cursor.chars;
-    let mut offset = cursor.offset;
+    let near = over_chunks(text, cursor, target);
+    let mut chars = near.chars;
+    let mut offset = near.offset;
     while chars < target {
         if text.len() <= offset {
             return Cursor { chars, offset };
@@ -54,8 +117,8 @@ fn backward(text: &[u8], cursor: Cursor, target: usize) -> Cursor
     Cursor { chars, offset }
 }
 
-// The cursor at the character index `target`, or at the text's end where that comes first, from wherever it stood. It moves by one
-// character a step, in either direction; an ASCII text needs no step.
+// The cursor at the character index `target`, or at the text's end where that comes first, from wherever it stood. It moves by chunks and
+// then by one character a step; an ASCII text needs no step.
 fn moved_to(text: &[u8], ascii: bool, cursor: Cursor, target: usize) -> Cursor
     requires { ⌜ Utf8 (now text) ⌝ }
     requires { ⌜ ascii ≡ isAscii (now text) ⌝ }
