@@ -18,8 +18,7 @@ use Rattle.measure.specs.Run.{pickLength, newline, bytesOf, whiteSpaceRu
 use Rattle.measure.specs.Block.{before, lines, firstOf, isBlank, trimmedLen, lineOf}
 use Rattle.measure.specs.Places.{bytes-cons, encode-takes}
 use Rattle.measure.specs.declared.block.Line.{Line}
-use Rattle.measure.specs.Letters.{Letters}
-use Rattle.measure.specs.LetterLaws.{WordByte}
+use Rattle.measure.specs.Letters.{WordByte, Letters}
 use Rattle.measure.proofs.Tests.{by-order}
 use Rattle.measure.proofs.Words.{Dark, dark, above-blank, letter-at, letter-here, fits, after-blank, rest-of}
 use Rattle.measure.proofs.Read.{codes-end}

@@ -23,8 +23,7 @@ use Rattle.measure.specs.Plain.{isFold, hasByte, Reach, unmatched, reach
 use Rattle.measure.specs.Places.{onward, bytes-cons}
 use Rattle.measure.specs.declared.run.Run.{Run}
 use Rattle.measure.proofs.Read.{char-read, codes-end, part-is}
-use Rattle.measure.specs.Letters.{Letters}
-use Rattle.measure.specs.LetterLaws.{WordByte, LetterByte}
+use Rattle.measure.specs.Letters.{WordByte, LetterByte, Letters}
 use Rattle.measure.proofs.Words.{Dark, dark, above-blank, letter-at, solid-at, word-solid, letter-here, fits, rest-of}
 use Rattle.measure.proofs.Tests.{clash, by-order}
 use Rattle.measure.proofs.Reached.{reached, reached-start, reached-more, reached-on}

@@ -14,8 +14,8 @@ use Rattle.text.specs.WhiteSpace.{whiteSpace, isIn, isWhiteSpace}
 use Rattle.text.specs.Utf8.{pickChar, character, noChar, codeOf2, codeOf3, codeOf4, twoBytes, threeBytes, fourBytes, multiByte, charOf, firstChar}
 use Rattle.text.specs.Utf8Laws.{Char-at}
 use Rattle.text.specs.declared.utf8.Char.{Char}
-use Rattle.measure.specs.Letters.{Letters}
-use Rattle.measure.specs.LetterLaws.{WordByte, AfterE2, LetterByte, letter-byte, letters-less}
+use Rattle.measure.specs.Letters.{WordByte, AfterE2, LetterByte, Letters}
+use Rattle.measure.specs.LetterLaws.{letters-less}
 use Rattle.measure.proofs.Tests.{by-order, clash, and-both}
 
 -- ---- code points that are no white space
@@ -204,7 +204,7 @@ module _ (s val : List ℕ) (i n : ℕ) (l : Letters (drop i s) val n) (more : 0
       let e : i + 0 ≡ i = omega arith in
       let f : getD (drop i s) (0 + 1) 0 ≡ getD s (i + 1) 0 = getD-drop i s (0 + 1) 0 in
       let g : getD (drop i s) (0 + 2) 0 ≡ getD s (i + 2) 0 = getD-drop i s (0 + 2) 0 in
-      letter-byte _ _ _ (rw (getD-drop i s 0 0, e, f, g) at (l .run .each 0 more .1))
+      rw (getD-drop i s 0 0, e, f, g) at (l .run .each 0 more .1)
 
   -- the first character lies within them
   pub fits : {k : Char} → Char-at s i k → k .len ≤ n

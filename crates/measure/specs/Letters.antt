@@ -1,37 +1,44 @@
 -- Bytes that are passed over many at a time, by the measures and by the walk. This is no part of what they answer: that a letter is no white
 -- space, that it stands for no other character and that no step but the third fits there is shown where it is used.
-use Prim.Native.Nat.{ℕ, _+_, _-_, _≤_, _<_, min, max}
+use Prim.Native.Nat.{ℕ, _+_, _-_, _≤_, _<_}
 use mathlib.Core.Path.{_≡_}
 use mathlib.Core.Bool.{false}
+use mathlib.Core.Logic.{_⊎_}
 use mathlib.Core.List.{List}
 use lib.ListN.{length, getD}
 use Rattle.text.specs.Class.{isContinuation}
 
--- how far two bytes are apart
-abbrev pub gap : ℕ → ℕ → ℕ
-gap a b = (a - b) + (b - a)
+-- a byte before c that no white space begins with: not up to the blank, not 80 to C2, not E1, not E2 before 80 and 81, not E3 before 80
+pub record WordByte (b c : ℕ) : Type 0 where
+  pub above : 32 < b
+  pub low : (b < 128) ⊎ (194 < b)
+  pub no-e1 : b ≡ 225 → ⊥
+  pub no-e2 : (b ≡ 226 → ⊥) ⊎ (129 < c)
+  pub no-e3 : (b ≡ 227 → ⊥) ⊎ (c ≡ 128 → ⊥)
 
--- how far a byte, with the one after it, is from those that white space may begin with: up to the blank, 80 to C2, E1, E2 before 80 and 81,
--- E3 before 80
-abbrev pub wordMargin : ℕ → ℕ → ℕ
-wordMargin b c = min (b - 32) (min (gap b 161 - 33) (min (gap b 225) (min (max (gap b 226) (c - 129)) (max (gap b 227) (gap c 128)))))
+-- what may stand after E2: not 81, and 80 only before 8B to A7
+abbrev pub AfterE2 : ℕ → ℕ → Type 0
+AfterE2 b c = (129 < b) ⊎ ((b ≡ 129 → ⊥) × (138 < c) × (c < 168))
 
--- how far a byte, with the two after it, is from those that are no letters: control bytes, the quote, the backslash, C2, E1, E2 before 81 and
--- before 80 unless 8B to A7 follow, E3 before 80 80, and a blank before what white space may begin with
-abbrev pub margin : ℕ → ℕ → ℕ → ℕ
-margin a b c =
-    min (min (a - 31) (min (gap a 39) (gap a 92)))
-    (min (min (gap a 194) (gap a 225))
-    (min (max (gap a 226) (max (b - 129) (min (gap b 129) (15 - gap c 153))))
-    (min (max (gap a 227) (max (gap b 128) (gap c 128))) (max (gap a 32) (wordMargin b c)))))
+-- a byte before b and c that is a letter: no control byte, quote or backslash, no white space, and a blank only before a word
+pub record LetterByte (a b c : ℕ) : Type 0 where
+  pub above : 31 < a
+  pub no-quote : a ≡ 39 → ⊥
+  pub no-backslash : a ≡ 92 → ⊥
+  pub no-c2 : a ≡ 194 → ⊥
+  pub no-e1 : a ≡ 225 → ⊥
+  pub e2 : (a ≡ 226 → ⊥) ⊎ AfterE2 b c
+  pub e3 : (a ≡ 227 → ⊥) ⊎ ((b ≡ 128 → ⊥) ⊎ (c ≡ 128 → ⊥))
+  pub blank : (a ≡ 32 → ⊥) ⊎ WordByte b c
 
 -- a source byte, the two after it and a value byte
 abbrev pub Letter : ℕ → ℕ → ℕ → ℕ → Type 0
-Letter a b c d = (a ≡ d) × (0 < margin a b c)
+Letter a b c d = (a ≡ d) × LetterByte a b c
 
--- all of a chunk: source bytes, those one and two after them, value bytes
-abbrev pub AllLetters : List ℕ → List ℕ → List ℕ → List ℕ → Type 0
-AllLetters src next after val = (j : ℕ) → j < length src → Letter (getD src j 0) (getD next j 0) (getD after j 0) (getD val j 0)
+-- the first n of a chunk: source bytes, those one and two after them, value bytes
+pub record FirstLetters (src next after val : List ℕ) (n : ℕ) : Type 0 where
+  pub within : n ≤ length src
+  pub each : (j : ℕ) → j < n → Letter (getD src j 0) (getD next j 0) (getD after j 0) (getD val j 0)
 
 -- the source and the value go on with n equal letters
 pub record LetterRun (src val : List ℕ) (n : ℕ) : Type 0 where

@@ -1,20 +1,23 @@
 // Bytes that are passed over many at a time. (01: Reading rules; Piece grammar, step 3.)
 //
 // Most text is letters: bytes that are equal in the text and in the value, that are no white space but for a blank before a word, and that
-// mean nothing else in any style. Over a chunk no test turns aside: the least margin and the widest gap are kept, which a processor does
-// for many bytes at once.
+// mean nothing else in any style. Over a chunk no test turns aside: each answers 0 or 1, and the place of the first 1 is kept, which a
+// processor does for many bytes at once.
 ghost use mathlib.Core.Path.{_≡_};
 ghost use Prim.Native.Nat.{_-_, _≤_, _<_, min, max};
 ghost use mathlib.Core.Bool.{true, not, _&&_};
-ghost use lib.Dec.{eqb};
+ghost use lib.Dec.{eqb, leb};
 ghost use lib.ListN.{length, getD};
-ghost use Rattle.text.specs.Class.{isContinuation};
+ghost use Rattle.text.specs.Class.{isContinuation, counts};
 ghost use Rattle.measure.specs.Letters;
 use text::class::is_continuation;
 use text::utf8::byte_at;
 
 // The bytes of a chunk.
 const CHUNK: usize = 16;
+
+// A place past those of every chunk.
+const NOWHERE: u8 = 255;
 
 const CONTROL: u8 = 31;
 
@@ -23,9 +26,6 @@ const BLANK: u8 = 32;
 const QUOTE: u8 = 39;
 
 const BACKSLASH: u8 = 92;
-
-// The middle of 80 to C2: bytes that continue a character, or that begin no or a Latin one.
-const MIDDLE: u8 = 161;
 
 // White space in two and three bytes begins with C2, with E1, with E2 and 80 or 81, or with E3 80 80.
 const LEAD_C2: u8 = 0xc2;
@@ -50,58 +50,66 @@ fn most(a: u8, b: u8) -> u8
     if a < b { b } else { a }
 }
 
-// How far `a` is above `b`.
-fn above(a: u8, b: u8) -> u8
-    ensures { λ r. ⌜ r ≡ a - b ⌝ }
+// 1 where `a` is `b`.
+fn same(a: u8, b: u8) -> u8
+    ensures { λ r. ⌜ r ≡ counts (eqb a b) 1 ⌝ }
 {
-    if b < a { a - b } else { 0 }
+    if a == b { 1 } else { 0 }
 }
 
-// How far two bytes are apart.
-fn gap(a: u8, b: u8) -> u8
-    ensures { λ r. ⌜ r ≡ Letters.gap a b ⌝ }
+// 1 where `a` is not `b`.
+fn differ(a: u8, b: u8) -> u8
+    ensures { λ r. ⌜ r ≡ counts (not (eqb a b)) 1 ⌝ }
 {
-    if a < b { b - a } else { a - b }
+    if a == b { 0 } else { 1 }
 }
 
-// How far the byte `b`, before the byte `c`, is from those that white space may begin with.
-fn word_margin(b: u8, c: u8) -> u8
-    ensures { λ r. ⌜ r ≡ Letters.wordMargin b c ⌝ }
+// 1 where `a` is at most `b`.
+fn up_to(a: u8, b: u8) -> u8
+    ensures { λ r. ⌜ r ≡ counts (leb a b) 1 ⌝ }
 {
-    let low = above(gap(b, MIDDLE), 33);
-    let e2 = most(gap(b, LEAD_E2), above(c, 129));
-    let e3 = most(gap(b, LEAD_E3), gap(c, CONTINUATION));
-    least(
-        above(b, BLANK),
-        least(low, least(gap(b, LEAD_E1), least(e2, e3))),
+    if a <= b { 1 } else { 0 }
+}
+
+// 0 only where no white space begins with `b`, before `c`.
+fn no_word(b: u8, c: u8) -> u8
+    ensures { λ r. ⌜ (r ≡ 0 → Letters.WordByte b c) ⌝ }
+{
+    let low = least(up_to(CONTINUATION, b), up_to(b, LEAD_C2));
+    let e2 = least(same(b, LEAD_E2), up_to(c, 129));
+    let e3 = least(same(b, LEAD_E3), same(c, CONTINUATION));
+    most(
+        up_to(b, BLANK),
+        most(low, most(same(b, LEAD_E1), most(e2, e3))),
     )
 }
 
-// How far the bytes after E2 are from those of white space.
-fn margin_after_e2(b: u8, c: u8) -> u8
-    ensures { λ r. ⌜ r ≡ max (b - 129) (min (Letters.gap b 129) (15 - Letters.gap c 153)) ⌝ }
+// 0 only where E2, before `b` and `c`, is a letter.
+fn no_letter_after_e2(b: u8, c: u8) -> u8
+    ensures { λ r. ⌜ (r ≡ 0 → Letters.AfterE2 b c) ⌝ }
 {
-    most(above(b, 129), least(gap(b, 129), above(15, gap(c, 153))))
+    let far = most(up_to(c, 138), up_to(168, c));
+    least(up_to(b, 129), most(same(b, 129), far))
 }
 
-// How far the byte `a`, before the bytes `b` and `c`, is from those that are no letters.
-fn margin(a: u8, b: u8, c: u8) -> u8
-    ensures { λ r. ⌜ r ≡ Letters.margin a b c ⌝ }
+// 0 only where `a`, before `b` and `c`, is a letter.
+fn no_letter(a: u8, b: u8, c: u8) -> u8
+    ensures { λ r. ⌜ (r ≡ 0 → Letters.LetterByte a b c) ⌝ }
 {
-    let plain = least(above(a, CONTROL), least(gap(a, QUOTE), gap(a, BACKSLASH)));
-    let lead = least(gap(a, LEAD_C2), gap(a, LEAD_E1));
-    let e2 = most(gap(a, LEAD_E2), margin_after_e2(b, c));
-    let e3 = most(
-        gap(a, LEAD_E3),
-        most(gap(b, CONTINUATION), gap(c, CONTINUATION)),
+    let plain = most(up_to(a, CONTROL), most(same(a, QUOTE), same(a, BACKSLASH)));
+    let lead = most(same(a, LEAD_C2), same(a, LEAD_E1));
+    let e2 = least(same(a, LEAD_E2), no_letter_after_e2(b, c));
+    let e3 = least(
+        same(a, LEAD_E3),
+        least(same(b, CONTINUATION), same(c, CONTINUATION)),
     );
-    let blank = most(gap(a, BLANK), word_margin(b, c));
-    least(plain, least(lead, least(e2, least(e3, blank))))
+    let blank = least(same(a, BLANK), no_word(b, c));
+    most(plain, most(lead, most(e2, most(e3, blank))))
 }
 
 // Whether no white space can begin with `b`, before `c`.
 fn begins_word(b: u8, c: u8) -> bool
-    ensures { λ r. ⌜ (r ≡ true → 0 < Letters.wordMargin b c) ⌝ }
+    ensures { λ r. ⌜ (r ≡ true → Letters.WordByte b c) ⌝ }
 {
     if b <= BLANK {
         return false;
@@ -126,7 +134,7 @@ fn begins_word(b: u8, c: u8) -> bool
 
 // Whether `a`, before the bytes `b` and `c`, is a letter, by the tests that most bytes pass first.
 fn is_letter(a: u8, b: u8, c: u8) -> bool
-    ensures { λ r. ⌜ (r ≡ true → 0 < Letters.margin a b c) ⌝ }
+    ensures { λ r. ⌜ (r ≡ true → Letters.LetterByte a b c) ⌝ }
 {
     if a <= BLANK {
         if a == BLANK {
@@ -138,7 +146,7 @@ fn is_letter(a: u8, b: u8, c: u8) -> bool
         return true;
     }
     if LEAD_E1 <= a {
-        return 0 < margin(a, b, c);
+        return no_letter(a, b, c) == 0;
     }
     if a == QUOTE {
         return false;
@@ -149,27 +157,30 @@ fn is_letter(a: u8, b: u8, c: u8) -> bool
     a != LEAD_C2
 }
 
-// Whether all bytes are letters: those of the source, those one and two after them, those of the value.
-fn are_letters(src: &[u8], next: &[u8], after: &[u8], value: &[u8]) -> bool
-    requires { ⌜ (length (now next) ≡ length (now src)) × (length (now after) ≡ length (now src)) × (length (now value) ≡ length (now src)) ⌝ }
-    ensures { λ r. ⌜ (r ≡ true → Letters.AllLetters (now (src .entry)) (now (next .entry)) (now (after .entry)) (now (value .entry))) ⌝ }
+// The place `i`, or none where `other` is 0.
+fn place_of(i: u8, other: u8) -> u8
+    ensures { λ r. ⌜ (i < r → other ≡ 0) ⌝ }
 {
-    let mut low = 255;
-    let mut wide = 0;
+    if other == 0 { NOWHERE } else { i }
+}
+
+// How many letters a chunk begins with: bytes of the source, those one and two after them, bytes of the value.
+fn first_letters(src: &[u8], next: &[u8], after: &[u8], value: &[u8]) -> usize
+    requires { ⌜ (length (now next) ≡ length (now src)) × (length (now after) ≡ length (now src)) × (length (now value) ≡ length (now src)) × (length (now src) ≤ 255) ⌝ }
+    ensures { λ r. ⌜ Letters.FirstLetters (now (src .entry)) (now (next .entry)) (now (after .entry)) (now (value .entry)) r ⌝ }
+{
+    let mut first = src.len() as u8;
     let mut i = 0;
     while i < src.len() {
         let a = src[i];
-        low = least(low, margin(a, next[i], after[i]));
-        wide = most(wide, gap(a, value[i]));
+        let other = most(no_letter(a, next[i], after[i]), differ(a, value[i]));
+        first = least(first, place_of(i as u8, other));
         i += 1;
     }
-    if 0 < wide {
-        return false;
-    }
-    0 < low
+    first as usize
 }
 
-// How many bytes the whole chunks of letters have that both begin with.
+// How many equal letters the source and the value begin with, as far as whole chunks go.
 fn letter_chunks(src: &[u8], value: &[u8]) -> usize
     ensures { λ r. ⌜ Letters.LetterRun (now (src .entry)) (now (value .entry)) r ⌝ }
 {
@@ -181,10 +192,11 @@ fn letter_chunks(src: &[u8], value: &[u8]) -> usize
         let end = i + CHUNK;
         let next = &src[i + 1..end + 1];
         let after = &src[i + 2..end + 2];
-        if !are_letters(&src[i..end], next, after, &value[i..end]) {
+        let n = first_letters(&src[i..end], next, after, &value[i..end]);
+        i += n;
+        if n < CHUNK {
             return i;
         }
-        i = end;
     }
     i
 }

@@ -16,8 +16,7 @@ use Rattle.provenance.specs.declared.step.Step.the-variants.{Verbatim, N
 use Rattle.provenance.specs.Run.{pick, whiteRun, newlinesIn}
 use Rattle.provenance.specs.Escape.{singleQuoteEscapes, doubleQuoteEscapes, escapesOf}
 use Rattle.provenance.specs.Grammar.{Rules, opensBreak, breakStep, equalStep, step, stepAt, rulesOf}
-use Rattle.measure.specs.Letters.{margin, Letters}
-use Rattle.measure.specs.LetterLaws.{WordByte, LetterByte, letter-byte}
+use Rattle.measure.specs.Letters.{WordByte, LetterByte, Letters}
 use Rattle.provenance.specs.Tests.{by-order}
 
 -- ---- no break
@@ -76,10 +75,9 @@ no-escape style a src q b = rw (ne-eqb a 39 q, ne-eqb a 92 b) (any (eqb style si
 
 -- ---- the step
 
-letter-step : (style column a : ℕ) (src val : List ℕ) → 0 < margin a (getD src 0 0) (getD src 1 0) → step (rulesOf style column) (a ∷ src) (a ∷ val) ≡ Verbatim 1
+letter-step : (style column a : ℕ) (src val : List ℕ) → LetterByte a (getD src 0 0) (getD src 1 0) → step (rulesOf style column) (a ∷ src) (a ∷ val) ≡ Verbatim 1
 unfolding step equalStep
-letter-step style column a src val h =
-    let l = letter-byte a (getD src 0 0) (getD src 1 0) h in
+letter-step style column a src val l =
     rw (no-break (rulesOf style column) a src val l, no-escape style a src (l .no-quote) (l .no-backslash), eq-eqb a a refl)
 
 -- at each of the letters that source and value go on with

@@ -1,13 +1,10 @@
 -- `measure::letter::is_letter` meets its contract. Assumes nothing.
-use mathlib.Core.Path.{sym, subst}
+use mathlib.Core.Path.{sym}
 use mathlib.Core.Logic.{inl, inr}
-use Prim.Native.Nat.{ℕ, _<_}
 use native.Mathlib.Omega.{arith}
 use borrow.Author.Needs.{needs}
-use borrow.Author.Tests.{ltb-true, eqb-false, not-true}
-use Rattle.measure.specs.LetterLaws.{word-byte}
+use borrow.Author.Tests.{eqb-true, eqb-false, not-true}
 use Rattle.measure.proofs.Tests.{clash}
-use Rattle.measure.proofs.Letters.{letter-margin}
 use Rattle.measure.proofs.letter.is_letter.Statement.{statement}
 use Rattle.measure.proofs.letter.is_letter.Tie as tie
 
@@ -15,19 +12,19 @@ begins-word-requires : tie.Need-begins-word-requires
 begins-word-requires c κs = search needs
 
 returns : tie.Need-returns
-returns c = λ e. let z = c .before .if2 .taken in letter-margin _ _ _ (record { above = omega arith; no-quote = λ x. omega arith; no-backslash = λ x. omega arith; no-c2 = λ x. omega arith; no-e1 = λ x. omega arith; e2 = inl (λ x. omega arith); e3 = inl (λ x. omega arith); blank = inr (word-byte _ _ (c .begins-word .ensures e)) })
+returns c = λ e. let z = c .before .if2 .taken in (record { above = omega arith; no-quote = λ x. omega arith; no-backslash = λ x. omega arith; no-c2 = λ x. omega arith; no-e1 = λ x. omega arith; e2 = inl (λ x. omega arith); e3 = inl (λ x. omega arith); blank = inr (c .begins-word .ensures e) })
 
 returns-2 : tie.Need-returns-2
 returns-2 c = λ e. absurd (clash (sym e))
 
 returns-3 : tie.Need-returns-3
-returns-3 c = λ e. let z = c .if3 .taken in letter-margin _ _ _ (record { above = omega arith; no-quote = λ x. omega arith; no-backslash = λ x. omega arith; no-c2 = λ x. omega arith; no-e1 = λ x. omega arith; e2 = inl (λ x. omega arith); e3 = inl (λ x. omega arith); blank = inl (λ x. omega arith) })
+returns-3 c = λ e. let z = c .if3 .taken in (record { above = omega arith; no-quote = λ x. omega arith; no-backslash = λ x. omega arith; no-c2 = λ x. omega arith; no-e1 = λ x. omega arith; e2 = inl (λ x. omega arith); e3 = inl (λ x. omega arith); blank = inl (λ x. omega arith) })
 
-margin-requires : tie.Need-margin-requires
-margin-requires c κs = search needs
+no-letter-requires : tie.Need-no-letter-requires
+no-letter-requires c κs = search needs
 
 returns-4 : tie.Need-returns-4
-returns-4 c = λ e. subst (λ (m : ℕ). 0 < m) (c .margin .ensures) (ltb-true 0 (c .margin .result) e)
+returns-4 c = λ e. c .no-letter .ensures (eqb-true (c .no-letter .result) 0 e)
 
 returns-5 : tie.Need-returns-5
 returns-5 c = λ e. absurd (clash (sym e))
@@ -39,7 +36,7 @@ returns-7 : tie.Need-returns-7
 returns-7 c = λ e.
     let l = c .before .before .before .before .if1 .left in
     let h = c .before .before .if4 .left in
-    letter-margin _ _ _ (record { above = omega arith; no-quote = c .before .if5 .left; no-backslash = c .if6 .left; no-c2 = eqb-false _ 194 (not-true _ e); no-e1 = λ x. omega arith; e2 = inl (λ x. omega arith); e3 = inl (λ x. omega arith); blank = inl (λ x. omega arith) })
+    (record { above = omega arith; no-quote = c .before .if5 .left; no-backslash = c .if6 .left; no-c2 = eqb-false _ 194 (not-true _ e); no-e1 = λ x. omega arith; e2 = inl (λ x. omega arith); e3 = inl (λ x. omega arith); blank = inl (λ x. omega arith) })
 
 pub is-letter-spec : {M : Type 1} → statement M
 is-letter-spec =
@@ -49,7 +46,7 @@ is-letter-spec =
     returns
     returns-2
     returns-3
-    margin-requires
+    no-letter-requires
     returns-4
     returns-5
     returns-6

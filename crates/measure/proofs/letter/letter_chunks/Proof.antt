@@ -1,11 +1,11 @@
 -- `measure::letter::letter_chunks` meets its contract. The loop's invariant: the bytes passed are letters. The measure is what is left. Assumes
 -- nothing.
-use mathlib.Core.Path.{_≡_, refl, sym, _∙_}
-use Prim.Native.Nat.{_+_, _-_}
+use mathlib.Core.Path.{_≡_, sym, _∙_}
+use mathlib.Core.List.{List}
+use Prim.Native.Nat.{ℕ, _+_, _-_, _≤_, _<_}
 use native.Mathlib.Omega.{arith}
-use borrow.Author.Tests.{not-false}
-use lib.ListN.{length}
-use Rattle.measure.specs.Letters.{LetterRun}
+use lib.ListN.{length, take, drop}
+use Rattle.measure.specs.Letters.{FirstLetters, LetterRun}
 use Rattle.measure.proofs.Letters.{part-length, no-letters, chunk-more}
 use Rattle.measure.proofs.letter.letter_chunks.Statement.{statement}
 use Rattle.measure.proofs.letter.letter_chunks.Tie as tie
@@ -15,6 +15,17 @@ Inv-loop src value i₀ i = LetterRun src value i
 
 abbrev μ-loop : tie.MeasureT-loop
 μ-loop src value i₀ i = length src - i
+
+-- the letters of a chunk of sixteen
+more :
+    (src val : List ℕ) (i n : ℕ) → LetterRun src val i → 17 < length src - i → 16 ≤ length val - i →
+    FirstLetters (take (i + 16 - i) (drop i src)) (take (i + 16 + 1 - (i + 1)) (drop (i + 1) src)) (take (i + 16 + 2 - (i + 2)) (drop (i + 2) src)) (take (i + 16 - i) (drop i val)) n →
+    (n ≤ 16) × LetterRun src val (i + n)
+more src val i n l s v f =
+    let p : i + 16 - i ≡ 16 = omega arith in
+    let q : i + 16 + 1 - (i + 1) ≡ 16 = omega arith in
+    let r : i + 16 + 2 - (i + 2) ≡ 16 = omega arith in
+    chunk-more src val i n 16 l (omega arith) v (rw (p, q, r) at f)
 
 loop-holds : tie.Need-loop-holds Inv-loop μ-loop
 loop-holds c = no-letters _ _
@@ -64,26 +75,26 @@ part-after-start c = omega arith
 part-after-end : tie.Need-part-after-end Inv-loop μ-loop
 part-after-end c = omega arith
 
-sub-are-letters : tie.Need-sub-are-letters Inv-loop μ-loop
-sub-are-letters c = omega arith
+sub-first-letters : tie.Need-sub-first-letters Inv-loop μ-loop
+sub-first-letters c = omega arith
 
-part-are-letters-start : tie.Need-part-are-letters-start Inv-loop μ-loop
-part-are-letters-start c = omega arith
+part-first-letters-start : tie.Need-part-first-letters-start Inv-loop μ-loop
+part-first-letters-start c = omega arith
 
-part-are-letters-end : tie.Need-part-are-letters-end Inv-loop μ-loop
-part-are-letters-end c = omega arith
+part-first-letters-end : tie.Need-part-first-letters-end Inv-loop μ-loop
+part-first-letters-end c = omega arith
 
-sub-are-letters-2 : tie.Need-sub-are-letters-2 Inv-loop μ-loop
-sub-are-letters-2 c = omega arith
+sub-first-letters-2 : tie.Need-sub-first-letters-2 Inv-loop μ-loop
+sub-first-letters-2 c = omega arith
 
-part-are-letters-start-2 : tie.Need-part-are-letters-start-2 Inv-loop μ-loop
-part-are-letters-start-2 c = omega arith
+part-first-letters-start-2 : tie.Need-part-first-letters-start-2 Inv-loop μ-loop
+part-first-letters-start-2 c = omega arith
 
-part-are-letters-end-2 : tie.Need-part-are-letters-end-2 Inv-loop μ-loop
-part-are-letters-end-2 c = omega arith
+part-first-letters-end-2 : tie.Need-part-first-letters-end-2 Inv-loop μ-loop
+part-first-letters-end-2 c = omega arith
 
-are-letters-requires : tie.Need-are-letters-requires Inv-loop μ-loop
-are-letters-requires c κs =
+first-letters-requires : tie.Need-first-letters-requires Inv-loop μ-loop
+first-letters-requires c κs =
     let a = c .before .before .before .before .before .before .before .before .before .args in
     let i = c .before .before .before .before .before .before .loop .i in
     let n : i + 16 - i ≡ 16 = omega arith in
@@ -93,10 +104,20 @@ are-letters-requires c κs =
     let next = part-length (a .src .now) (i + 1) 16 (omega arith) in
     let after = part-length (a .src .now) (i + 2) 16 (omega arith) in
     let value = part-length (a .value .now) i 16 (omega arith) in
-    (rw (n, m) (next ∙ sym src), rw (n, k) (after ∙ sym src), rw n (value ∙ sym src))
+    (rw (n, m) (next ∙ sym src), rw (n, k) (after ∙ sym src), rw n (value ∙ sym src), rw n (omega arith))
+
+add-i : tie.Need-add-i Inv-loop μ-loop
+add-i c =
+    let a = c .before .before .before .before .before .before .before .before .before .before .args in
+    let w = c .before .before .before .before .before .before .before .loop in
+    let h = more (a .src .now) (a .value .now) (w .i) _ (w .inv) (omega arith) (omega arith) (c .first-letters .ensures) .0 in
+    omega arith
 
 returns-2 : tie.Need-returns-2 Inv-loop μ-loop
-returns-2 c = c .before .before .before .before .before .before .before .before .loop .inv
+returns-2 c =
+    let a = c .before .before .before .before .before .before .before .before .before .before .before .args in
+    let w = c .before .before .before .before .before .before .before .before .loop in
+    more (a .src .now) (a .value .now) (w .i) _ (w .inv) (omega arith) (omega arith) (c .before .first-letters .ensures) .1
 
 loop-less : tie.Need-loop-less Inv-loop μ-loop
 loop-less c = omega arith
@@ -105,11 +126,7 @@ loop-again : tie.Need-loop-again Inv-loop μ-loop
 loop-again c =
     let a = c .before .before .before .before .before .before .before .before .before .before .before .args in
     let w = c .before .before .before .before .before .before .before .before .loop in
-    let n : w .i + 16 - w .i ≡ 16 = omega arith in
-    let m : w .i + 16 + 1 - (w .i + 1) ≡ 16 = omega arith in
-    let k : w .i + 16 + 2 - (w .i + 2) ≡ 16 = omega arith in
-    let all = rw (n, m, k) at (c .before .are-letters .ensures (not-false _ (c .if2 .left))) in
-    chunk-more (a .src .now) (a .value .now) (w .i) 16 16 16 (w .inv) (omega arith) (omega arith) refl refl all
+    more (a .src .now) (a .value .now) (w .i) _ (w .inv) (omega arith) (omega arith) (c .before .first-letters .ensures) .1
 
 returns-3 : tie.Need-returns-3 Inv-loop μ-loop
 returns-3 c = c .before .loop .inv
@@ -136,13 +153,14 @@ letter-chunks-spec =
     sub-after
     part-after-start
     part-after-end
-    sub-are-letters
-    part-are-letters-start
-    part-are-letters-end
-    sub-are-letters-2
-    part-are-letters-start-2
-    part-are-letters-end-2
-    are-letters-requires
+    sub-first-letters
+    part-first-letters-start
+    part-first-letters-end
+    sub-first-letters-2
+    part-first-letters-start-2
+    part-first-letters-end-2
+    first-letters-requires
+    add-i
     returns-2
     loop-less
     loop-again

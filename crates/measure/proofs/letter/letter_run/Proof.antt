@@ -1,11 +1,11 @@
 -- `measure::letter::letter_run` meets its contract. The loop's invariant: the bytes passed are letters. The measure is what is left of the value.
 -- Assumes nothing.
 use mathlib.Core.Path.{subst}
-use Prim.Native.Nat.{ℕ, _+_, _-_, _<_}
+use Prim.Native.Nat.{ℕ, _+_, _-_}
 use native.Mathlib.Omega.{arith}
 use borrow.Author.Tests.{not-false}
 use lib.ListN.{length, getD}
-use Rattle.measure.specs.Letters.{margin, LetterRun}
+use Rattle.measure.specs.Letters.{LetterByte, LetterRun}
 use Rattle.measure.proofs.Letters.{letter-more}
 use Rattle.measure.proofs.letter.letter_run.Statement.{statement}
 use Rattle.measure.proofs.letter.letter_run.Tie as tie
@@ -63,7 +63,7 @@ loop-again c =
     let w = c .before .before .before .before .before .before .before .before .before .loop in
     let a = c .before .before .before .before .before .before .before .before .before .before .before .before .before .args in
     let l = c .before .is-letter .ensures (not-false _ (c .if3 .left)) in
-    let m = subst (λ (b : ℕ). 0 < margin (getD (a .src .now) (w .i) 0) b (getD (a .src .now) (w .i + 2) 0)) (c .before .before .before .byte-at .ensures) (subst (λ (b : ℕ). 0 < margin (getD (a .src .now) (w .i) 0) (c .before .before .before .byte-at .result) b) (c .before .before .byte-at2 .ensures) l) in
+    let m = subst (λ (b : ℕ). LetterByte (getD (a .src .now) (w .i) 0) b (getD (a .src .now) (w .i + 2) 0)) (c .before .before .before .byte-at .ensures) (subst (λ (b : ℕ). LetterByte (getD (a .src .now) (w .i) 0) (c .before .before .before .byte-at .result) b) (c .before .before .byte-at2 .ensures) l) in
     letter-more (a .src .now) (a .value .now) (w .i) (w .inv) (omega arith) (omega arith) (c .before .before .before .before .if2 .left, m)
 
 returns-4 : tie.Need-returns-4 Inv-loop μ-loop
