@@ -180,7 +180,8 @@ fn first_letters(src: &[u8], next: &[u8], after: &[u8], value: &[u8]) -> usize
     first as usize
 }
 
-// How many equal letters the source and the value begin with, as far as whole chunks go.
+// How many equal letters the source and the value begin with, as far as whole chunks go. The next chunk does not hang on how many this one
+// has, so that a processor need not wait for it.
 fn letter_chunks(src: &[u8], value: &[u8]) -> usize
     ensures { λ r. ⌜ Letters.LetterRun (now (src .entry)) (now (value .entry)) r ⌝ }
 {
@@ -193,10 +194,10 @@ fn letter_chunks(src: &[u8], value: &[u8]) -> usize
         let next = &src[i + 1..end + 1];
         let after = &src[i + 2..end + 2];
         let n = first_letters(&src[i..end], next, after, &value[i..end]);
-        i += n;
         if n < CHUNK {
-            return i;
+            return i + n;
         }
+        i = end;
     }
     i
 }

@@ -1,6 +1,6 @@
 -- `measure::letter::letter_chunks` meets its contract. The loop's invariant: the bytes passed are letters. The measure is what is left. Assumes
 -- nothing.
-use mathlib.Core.Path.{_≡_, sym, _∙_}
+use mathlib.Core.Path.{_≡_, sym, _∙_, subst}
 use mathlib.Core.List.{List}
 use Prim.Native.Nat.{ℕ, _+_, _-_, _≤_, _<_}
 use native.Mathlib.Omega.{arith}
@@ -106,11 +106,8 @@ first-letters-requires c κs =
     let value = part-length (a .value .now) i 16 (omega arith) in
     (rw (n, m) (next ∙ sym src), rw (n, k) (after ∙ sym src), rw n (value ∙ sym src), rw n (omega arith))
 
-add-i : tie.Need-add-i Inv-loop μ-loop
-add-i c =
-    let a = c .before .before .before .before .before .before .before .before .before .before .args in
-    let w = c .before .before .before .before .before .before .before .loop in
-    let h = more (a .src .now) (a .value .now) (w .i) _ (w .inv) (omega arith) (omega arith) (c .first-letters .ensures) .0 in
+add-result : tie.Need-add-result Inv-loop μ-loop
+add-result c =
     omega arith
 
 returns-2 : tie.Need-returns-2 Inv-loop μ-loop
@@ -126,7 +123,10 @@ loop-again : tie.Need-loop-again Inv-loop μ-loop
 loop-again c =
     let a = c .before .before .before .before .before .before .before .before .before .before .before .args in
     let w = c .before .before .before .before .before .before .before .before .loop in
-    more (a .src .now) (a .value .now) (w .i) _ (w .inv) (omega arith) (omega arith) (c .before .first-letters .ensures) .1
+    let h = more (a .src .now) (a .value .now) (w .i) _ (w .inv) (omega arith) (omega arith) (c .before .first-letters .ensures) in
+    let l = h .0 in
+    let n : c .before .first-letters .result ≡ 16 = omega arith in
+    subst (λ (k : ℕ). LetterRun (a .src .now) (a .value .now) (w .i + k)) n (h .1)
 
 returns-3 : tie.Need-returns-3 Inv-loop μ-loop
 returns-3 c = c .before .loop .inv
@@ -160,7 +160,7 @@ letter-chunks-spec =
     part-first-letters-start-2
     part-first-letters-end-2
     first-letters-requires
-    add-i
+    add-result
     returns-2
     loop-less
     loop-again
