@@ -2,17 +2,18 @@
 use mathlib.Core.Path.{_≡_, refl, sym, _∙_, ap}
 use mathlib.Core.Bool.{Bool, true, false, _&&_, _||_}
 use mathlib.Core.List.{List, [], _∷_}
-use Prim.Native.Nat.{ℕ, _+_, _≤_, _<_}
+use Prim.Native.Nat.{ℕ, zero, suc, _+_, _-_, _≤_, _<_}
 use native.Mathlib.Nat.{add-zero, add-assoc}
 use native.Mathlib.Omega.{arith}
 use borrow.Author.Tests.{eq-eqb, ne-eqb, eqb-true}
 use lib.Dec.{eqb}
-use lib.ListN.{length, drop, getD, length-drop, drop-of-length-le}
+use lib.ListN.{length, take, drop, getD, length-drop, drop-of-length-le}
 use lib.Seq.{getD-drop, drop-drop}
-use Rattle.measure.specs.Quoted.{singleQuote, doubleQuote, backslash, further, passedTogether, toClosing, quotedLen}
+use Rattle.measure.specs.Quoted.{singleQuote, doubleQuote, backslash, further, passedTogether, toClosing, quotedLen, Ordinary, Unmarked}
 use Rattle.measure.specs.declared.quoted.Quoted.{Quoted}
 use Rattle.measure.specs.declared.quoted.Quoted.the-variants.{Found, Missing}
-use Rattle.measure.proofs.Tests.{clash}
+use Rattle.measure.proofs.Tests.{by-order, clash}
+use Rattle.measure.proofs.Chunks.{part-at, part-length}
 
 -- ---- the opening mark
 
@@ -101,3 +102,45 @@ module _ (s : List ℕ) (quote i : ℕ) where
   pub never-closes : length s ≤ i → Missing ≡ further i (toClosing quote (drop i s))
   unfolding toClosing
   never-closes h = ap (λ (l : List ℕ). further i (toClosing quote l)) (sym (drop-of-length-le s h))
+
+-- ---- ordinary bytes, many at a time
+
+alone : (quote a b : ℕ) → Ordinary quote a → passedTogether quote a b ≡ false
+unfolding passedTogether
+alone quote a b o = rw (ne-eqb a backslash (o .1), ne-eqb a quote (o .0)) (none (eqb quote doubleQuote) (eqb quote singleQuote))
+  where
+    none : (x y : Bool) → (x && false) || (y && false) ≡ false
+    none true true = refl
+    none true false = refl
+    none false true = refl
+    none false false = refl
+
+pub unmarked-start : (quote : ℕ) (s : List ℕ) → Unmarked quote s 0
+unmarked-start quote s = record { within = omega arith; each = λ j h. absurd (omega arith) }
+
+-- n more, of a chunk of m
+pub unmarked-more : (quote : ℕ) (s : List ℕ) (i n m : ℕ) → m ≤ length s - i → Unmarked quote s i → Unmarked quote (take m (drop i s)) n → (n ≤ m) × Unmarked quote s (i + n)
+unmarked-more quote s i n m h u f =
+    let w = part-length s i m h in
+    let k = f .within in
+    let l = u .within in (
+      omega arith,
+      record {
+        within = omega arith;
+        each = λ j g. by-order j i
+            (λ lt. u .each j lt)
+            (λ le.
+            let e : i + (j - i) ≡ j = omega arith in
+            rw (part-at s i m (j - i) (omega arith), e) at (f .each (j - i) (omega arith)));
+      },
+    )
+
+pub passes-many : (s : List ℕ) (quote i n : ℕ) → Unmarked quote (drop i s) n → further (i + n) (toClosing quote (drop (i + n) s)) ≡ further i (toClosing quote (drop i s))
+passes-many s quote i zero u = ap (λ (k : ℕ). further k (toClosing quote (drop k s))) (add-zero i)
+passes-many s quote i (suc n) u =
+    let w : suc n ≤ length s - i = rw length-drop at (u .within) in
+    let e : i + suc n ≡ i + n + 1 = omega arith in
+    let o : Ordinary quote (getD s (i + n) 0) = rw (getD-drop i s n 0) at (u .each n (omega arith)) in
+    ap (λ (k : ℕ). further k (toClosing quote (drop k s))) e
+    ∙ passes-one s quote (i + n) (omega arith) (alone quote _ _ o) (o .0)
+    ∙ passes-many s quote i n (record { within = rw length-drop (omega arith); each = λ j h. u .each j (omega arith) })

@@ -7,6 +7,8 @@ pub mod Read
 pub mod Runs
 -- how far something reaches, told from further on
 pub mod Reached
+-- chunks of bytes
+pub mod Chunks
 -- letters, one by one and by chunks
 pub mod Letters
 -- letters as characters

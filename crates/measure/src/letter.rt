@@ -1,23 +1,23 @@
 // Bytes that are passed over many at a time. (01: Reading rules; Piece grammar, step 3.)
 //
 // Most text is letters: bytes that are equal in the text and in the value, that are no white space but for a blank before a word, and that
-// mean nothing else in any style. Over a chunk no test turns aside: each answers 0 or 1, and the place of the first 1 is kept, which a
-// processor does for many bytes at once.
+// mean nothing else in any style. They are told chunk by chunk.
 ghost use mathlib.Core.Path.{_≡_};
-ghost use Prim.Native.Nat.{_-_, _≤_, _<_, min, max};
+ghost use Prim.Native.Nat.{_-_, _≤_, _<_};
 ghost use mathlib.Core.Bool.{true, not, _&&_};
-ghost use lib.Dec.{eqb, leb};
+ghost use lib.Dec.{eqb};
 ghost use lib.ListN.{length, getD};
-ghost use Rattle.text.specs.Class.{isContinuation, counts};
+ghost use Rattle.text.specs.Class.{isContinuation};
 ghost use Rattle.measure.specs.Letters;
+use crate::chunk::CHUNK;
+use crate::chunk::differ;
+use crate::chunk::least;
+use crate::chunk::place_of;
+use crate::chunk::same;
+use crate::chunk::up_to;
 use text::class::is_continuation;
+use text::class::most;
 use text::utf8::byte_at;
-
-// The bytes of a chunk.
-const CHUNK: usize = 16;
-
-// A place past those of every chunk.
-const NOWHERE: u8 = 255;
 
 const CONTROL: u8 = 31;
 
@@ -37,39 +37,6 @@ const LEAD_E2: u8 = 0xe2;
 const LEAD_E3: u8 = 0xe3;
 
 const CONTINUATION: u8 = 0x80;
-
-fn least(a: u8, b: u8) -> u8
-    ensures { λ r. ⌜ r ≡ min a b ⌝ }
-{
-    if a < b { a } else { b }
-}
-
-fn most(a: u8, b: u8) -> u8
-    ensures { λ r. ⌜ r ≡ max a b ⌝ }
-{
-    if a < b { b } else { a }
-}
-
-// 1 where `a` is `b`.
-fn same(a: u8, b: u8) -> u8
-    ensures { λ r. ⌜ r ≡ counts (eqb a b) 1 ⌝ }
-{
-    if a == b { 1 } else { 0 }
-}
-
-// 1 where `a` is not `b`.
-fn differ(a: u8, b: u8) -> u8
-    ensures { λ r. ⌜ r ≡ counts (not (eqb a b)) 1 ⌝ }
-{
-    if a == b { 0 } else { 1 }
-}
-
-// 1 where `a` is at most `b`.
-fn up_to(a: u8, b: u8) -> u8
-    ensures { λ r. ⌜ r ≡ counts (leb a b) 1 ⌝ }
-{
-    if a <= b { 1 } else { 0 }
-}
 
 // 0 only where no white space begins with `b`, before `c`.
 fn no_word(b: u8, c: u8) -> u8
@@ -155,13 +122,6 @@ fn is_letter(a: u8, b: u8, c: u8) -> bool
         return false;
     }
     a != LEAD_C2
-}
-
-// The place `i`, or none where `other` is 0.
-fn place_of(i: u8, other: u8) -> u8
-    ensures { λ r. ⌜ (i < r → other ≡ 0) ⌝ }
-{
-    if other == 0 { NOWHERE } else { i }
 }
 
 // How many letters a chunk begins with: bytes of the source, those one and two after them, bytes of the value.

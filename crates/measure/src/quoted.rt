@@ -1,6 +1,13 @@
 // The quoted measure. (01: Reading rules, Quoted; `quoted_scalar_len`; P4, S6, S8, F4.)
 ghost use mathlib.Core.Path.{_≡_};
-ghost use Rattle.measure.specs.Quoted.{passedTogether, quotedLen, quotedOrValueLen};
+ghost use Prim.Native.Nat.{_≤_};
+ghost use lib.ListN.{length};
+ghost use Rattle.measure.specs.Quoted.{passedTogether, quotedLen, quotedOrValueLen, Unmarked};
+use crate::chunk::CHUNK;
+use crate::chunk::least;
+use crate::chunk::place_of;
+use crate::chunk::same;
+use text::class::most;
 use text::utf8::byte_at;
 
 pub const SINGLE_QUOTE: u8 = b'\'';
@@ -31,8 +38,40 @@ fn passed_together(quote: u8, a: u8, b: u8) -> bool
     false
 }
 
+// How many bytes a chunk begins with that are neither the mark nor a backslash.
+fn first_mark(s: &[u8], quote: u8) -> usize
+    requires { ⌜ length (now s) ≤ 255 ⌝ }
+    ensures { λ r. ⌜ Unmarked quote (now (s .entry)) r ⌝ }
+{
+    let mut first = s.len() as u8;
+    let mut i = 0;
+    while i < s.len() {
+        let b = s[i];
+        let mark = most(same(b, quote), same(b, BACKSLASH));
+        first = least(first, place_of(i as u8, mark));
+        i += 1;
+    }
+    first as usize
+}
+
+// The same of a text, as far as whole chunks go.
+fn unmarked(s: &[u8], quote: u8) -> usize
+    ensures { λ r. ⌜ Unmarked quote (now (s .entry)) r ⌝ }
+{
+    let mut i = 0;
+    while CHUNK <= s.len() - i {
+        let end = i + CHUNK;
+        let n = first_mark(&s[i..end], quote);
+        if n < CHUNK {
+            return i + n;
+        }
+        i = end;
+    }
+    i
+}
+
 // The length in bytes of a quoted scalar that stands at the start of `rest`, or Missing where `rest` does not start with `quote`
-// or has no closing one.
+// or has no closing one. After an ordinary byte come mostly more, which are passed over at once.
 pub fn quoted_scalar_len(rest: &[u8], quote: u8) -> Quoted
     ensures { λ r. ⌜ r ≡ quotedLen (now (rest .entry)) quote ⌝ }
 {
@@ -52,6 +91,7 @@ pub fn quoted_scalar_len(rest: &[u8], quote: u8) -> Quoted
                 return Quoted::Found(i + 1);
             }
             i += 1;
+            i += unmarked(&rest[i..], quote);
         }
     }
     Quoted::Missing

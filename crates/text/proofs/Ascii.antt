@@ -2,8 +2,7 @@
 use mathlib.Core.Path.{_≡_, refl, sym, _∙_, ap}
 use mathlib.Core.Bool.{true, false}
 use mathlib.Core.List.{List}
-use mathlib.Core.Logic.{_⊎_, inl, inr}
-use Prim.Native.Nat.{ℕ, _+_, _≤_, _<_}
+use Prim.Native.Nat.{ℕ, _+_, _≤_, _<_, max}
 use native.Mathlib.Numerals.{add-one}
 use native.Mathlib.Decide.{decLt}
 use native.Mathlib.Omega.{arith}
@@ -33,17 +32,16 @@ pub record Met (s : List ℕ) (i largest : ℕ) : Type 0 where
 pub met-start : (s : List ℕ) → Met s 0 0
 met-start s = record { below = λ h. refl; above = λ h. absurd (omega arith) }
 
-pub met-on : (s : List ℕ) (i m n : ℕ) → i < length s → Met s i m → m ≤ n → getD s i 0 ≤ n → (n ≡ m) ⊎ (n ≡ getD s i 0) → Met s (i + 1) n
-met-on s i m n h w l k o =
+pub met-on : (s : List ℕ) (i m n : ℕ) → i < length s → Met s i m → n ≡ max m (getD s i 0) → Met s (i + 1) n
+met-on s i m n h w e =
     record {
       below = λ b. w .below (omega arith) ∙ ascii-on s i h (omega arith);
-      above = λ a. go (decLt m 0x80) a o;
+      above = λ a. go (decLt m 0x80) a;
     }
   where
-    go : Dec (m < 0x80) → 0x80 ≤ n → (n ≡ m) ⊎ (n ≡ getD s i 0) → isAscii s ≡ false
-    go (no p) a o = w .above (omega arith)
-    go (yes p) a (inl e) = absurd (omega arith)
-    go (yes p) a (inr e) = w .below p ∙ ascii-stops s i h (omega arith)
+    go : Dec (m < 0x80) → 0x80 ≤ n → isAscii s ≡ false
+    go (no p) a = w .above (omega arith)
+    go (yes p) a = w .below p ∙ ascii-stops s i h (omega arith)
 
 pub met-end : (s : List ℕ) (i m : ℕ) → length s ≤ i → Met s i m → ltb m 0x80 ≡ isAscii s
 met-end s i m h w = go (decLt m 0x80)

@@ -1,7 +1,6 @@
 // The classes of a byte: white space, decimal digit, hexadecimal digit, UTF-8 continuation. (01: Reading rules; S15, F7.)
 ghost use mathlib.Core.Path.{_≡_};
-ghost use mathlib.Core.Logic.{_⊎_};
-ghost use Prim.Native.Nat.{_≤_};
+ghost use Prim.Native.Nat.{max};
 ghost use Rattle.text.specs.Class.{classOf, isWhiteSpaceByte, isDecimalDigit, isHexDigit, isContinuation};
 
 const WHITE_SPACE: u8 = 1;
@@ -336,11 +335,8 @@ pub fn is_continuation(b: u8) -> bool
 }
 
 // The larger of two bytes. A loop that gathers it ends at no byte, so that the compiler takes many at once.
-pub fn larger(a: u8, b: u8) -> u8
-    ensures { λ r. ⌜ (a ≤ r) × (b ≤ r) × ((r ≡ a) ⊎ (r ≡ b)) ⌝ }
+pub fn most(a: u8, b: u8) -> u8
+    ensures { λ r. ⌜ r ≡ max a b ⌝ }
 {
-    if a < b {
-        return b;
-    }
-    a
+    if a < b { b } else { a }
 }

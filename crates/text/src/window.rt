@@ -8,7 +8,7 @@ ghost use Rattle.text.specs.Offset.{isAscii};
 ghost use lib.ListN.{length};
 ghost use Rattle.text.specs.Window.{Starts, Follows, awaits, Fits, FirstFit};
 use crate::class::is_continuation;
-use crate::class::larger;
+use crate::class::most;
 
 // Whether every byte is ASCII: the largest of them is.
 pub fn is_ascii(s: &[u8]) -> bool
@@ -17,7 +17,7 @@ pub fn is_ascii(s: &[u8]) -> bool
     let mut largest = 0;
     let mut i = 0;
     while i < s.len() {
-        largest = larger(largest, s[i]);
+        largest = most(largest, s[i]);
         i += 1;
     }
     largest < 0x80
@@ -118,7 +118,7 @@ pub fn passes(s: &[u8]) -> bool
     let mut worst = 0;
     let mut i = 3;
     while i < n {
-        worst = larger(worst, misfit(s[i - 3], s[i - 2], s[i - 1], s[i]));
+        worst = most(worst, misfit(s[i - 3], s[i - 2], s[i - 1], s[i]));
         i += 1;
     }
     if worst == 0 {

@@ -1,14 +1,20 @@
 -- `measure::letter::first_letters` meets its contract. The loop's invariant: of the bytes passed those before `first` are letters. The measure
 -- is what is left. Assumes nothing.
-use Prim.Native.Nat.{_-_, _≤_}
+use mathlib.Core.List.{List}
+use Prim.Native.Nat.{ℕ, _-_, _≤_}
 use native.Mathlib.Omega.{arith}
-use lib.ListN.{length}
-use Rattle.measure.proofs.Letters.{none-most, not-differ, Passed, passed-more}
+use lib.ListN.{length, getD}
+use Rattle.measure.specs.Letters.{Letter}
+use Rattle.measure.proofs.Chunks.{none-most, not-differ, Passed, passed-more}
 use Rattle.measure.proofs.letter.first_letters.Statement.{statement}
 use Rattle.measure.proofs.letter.first_letters.Tie as tie
 
+-- a letter at a place of the chunk
+abbrev LetterAt : List ℕ → List ℕ → List ℕ → List ℕ → ℕ → Type 0
+LetterAt src next after val j = Letter (getD src j 0) (getD next j 0) (getD after j 0) (getD val j 0)
+
 abbrev Inv-loop : tie.InvT-loop
-Inv-loop src next after value first₀ i₀ first i = (i ≤ length src) × (first ≤ length src) × Passed src next after value first i
+Inv-loop src next after value first₀ i₀ first i = (i ≤ length src) × (first ≤ length src) × Passed (LetterAt src next after value) first i
 
 abbrev μ-loop : tie.MeasureT-loop
 μ-loop src next after value first₀ i₀ first i = length src - i
@@ -62,7 +68,7 @@ loop-again c =
     let l = c .least .ensures in (
       omega arith,
       omega arith,
-      passed-more (a .src .now) (a .next .now) (a .after .now) (a .value .now) (w .first) (c .before .place-of .result) (c .least .result) (w .i) (w .inv .2) l
+      passed-more (LetterAt (a .src .now) (a .next .now) (a .after .now) (a .value .now)) (w .first) (c .before .place-of .result) (c .least .result) (w .i) (w .inv .2) l
           (λ h. let p = none-most (c .before .before .most .ensures) (c .before .place-of .ensures h) in
           (not-differ (c .before .before .before .differ .ensures) (p .1), c .before .before .before .before .before .no-letter .ensures (p .0))),
     )

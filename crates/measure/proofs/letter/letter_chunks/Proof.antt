@@ -6,7 +6,8 @@ use Prim.Native.Nat.{ℕ, _+_, _-_, _≤_, _<_}
 use native.Mathlib.Omega.{arith}
 use lib.ListN.{length, take, drop}
 use Rattle.measure.specs.Letters.{FirstLetters, LetterRun}
-use Rattle.measure.proofs.Letters.{part-length, no-letters, chunk-more}
+use Rattle.measure.proofs.Chunks.{part-length}
+use Rattle.measure.proofs.Letters.{no-letters, chunk-more}
 use Rattle.measure.proofs.letter.letter_chunks.Statement.{statement}
 use Rattle.measure.proofs.letter.letter_chunks.Tie as tie
 

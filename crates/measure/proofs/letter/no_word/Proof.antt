@@ -1,6 +1,6 @@
 -- `measure::letter::no_word` meets its contract. Assumes nothing.
 use mathlib.Core.Logic.{inl, inr}
-use Rattle.measure.proofs.Letters.{none-most, none-least, not-same, not-up-to}
+use Rattle.measure.proofs.Chunks.{none-most, none-least, not-same, not-up-to}
 use borrow.Author.Needs.{needs}
 use Rattle.measure.proofs.letter.no_word.Statement.{statement}
 use Rattle.measure.proofs.letter.no_word.Tie as tie

@@ -4,9 +4,10 @@ use mathlib.Core.Path.{_≡_, sym, _∙_, ap}
 use mathlib.Core.List.{List}
 use Prim.Native.Nat.{ℕ, _+_, _-_}
 use native.Mathlib.Omega.{arith}
-use lib.ListN.{length, drop, getD}
-use Rattle.measure.specs.Quoted.{further, passedTogether, toClosing, quotedLen}
-use Rattle.measure.proofs.Closing.{none-opens, other-opens, opens, passes-two, closes, passes-one, never-closes}
+use lib.ListN.{length, drop, getD, length-drop}
+use Rattle.measure.specs.Quoted.{further, passedTogether, toClosing, quotedLen, Unmarked}
+use Rattle.measure.proofs.Read.{part-is}
+use Rattle.measure.proofs.Closing.{none-opens, other-opens, opens, passes-two, closes, passes-one, never-closes, passes-many}
 use Rattle.measure.proofs.quoted.quoted_scalar_len.Statement.{statement}
 use Rattle.measure.proofs.quoted.quoted_scalar_len.Tie as tie
 
@@ -29,6 +30,10 @@ module _ (c : tie.After-passed-together Inv-loop μ-loop) where
 
   asked : c .passed-together .result ≡ passedTogether quote-now (getD rest-now i-now 0) (getD rest-now (i-now + 1) 0)
   asked = c .passed-together .ensures ∙ ap (passedTogether quote-now (getD rest-now i-now 0)) (c .before .byte-at .ensures)
+
+-- the ordinary bytes that were passed at once
+passed : (c : tie.After-unmarked Inv-loop μ-loop) → Unmarked (quote-now (c .before .before .before .before)) (drop (i-now (c .before .before .before .before) + 1) (rest-now (c .before .before .before .before))) (c .unmarked .result)
+passed c = rw (part-is (rest-now (c .before .before .before .before)) (i-now (c .before .before .before .before) + 1)) at (c .unmarked .ensures)
 
 returns : tie.Need-returns Inv-loop μ-loop
 returns c = none-opens (c .before .before .args .rest .now) (c .before .before .args .quote) (c .if1 .taken)
@@ -76,13 +81,30 @@ returns-3 c =
 add-i-2 : tie.Need-add-i-2 Inv-loop μ-loop
 add-i-2 c = omega arith
 
+sub-unmarked : tie.Need-sub-unmarked Inv-loop μ-loop
+sub-unmarked c = omega arith
+
+part-unmarked-start : tie.Need-part-unmarked-start Inv-loop μ-loop
+part-unmarked-start c = omega arith
+
+part-unmarked-end : tie.Need-part-unmarked-end Inv-loop μ-loop
+part-unmarked-end c = omega arith
+
+unmarked-requires : tie.Need-unmarked-requires Inv-loop μ-loop
+unmarked-requires c κs = tt
+
+add-i-3 : tie.Need-add-i-3 Inv-loop μ-loop
+add-i-3 c = let w = passed c .within in let l = length-drop (i-now (c .before .before .before .before) + 1) (rest-now (c .before .before .before .before)) in omega arith
+
 loop-less-2 : tie.Need-loop-less-2 Inv-loop μ-loop
 loop-less-2 c = omega arith
 
 loop-again-2 : tie.Need-loop-again-2 Inv-loop μ-loop
 loop-again-2 c =
-    let at = c .before .before in
-    passes-one (rest-now at) (quote-now at) (i-now at) (at .before .before .before .loop-test .taken) (sym (asked at) ∙ c .before .if3 .left) (c .if4 .left) ∙ at .before .before .before .before .loop .inv
+    let at = c .before .before .before .before in
+    passes-many (rest-now at) (quote-now at) (i-now at + 1) (c .unmarked .result) (passed c)
+    ∙ passes-one (rest-now at) (quote-now at) (i-now at) (at .before .before .before .loop-test .taken) (sym (asked at) ∙ c .before .before .before .if3 .left) (c .before .before .if4 .left)
+    ∙ at .before .before .before .before .loop .inv
 
 returns-4 : tie.Need-returns-4 Inv-loop μ-loop
 returns-4 c =
@@ -110,6 +132,11 @@ quoted-scalar-len-spec =
     add-t15
     returns-3
     add-i-2
+    sub-unmarked
+    part-unmarked-start
+    part-unmarked-end
+    unmarked-requires
+    add-i-3
     loop-less-2
     loop-again-2
     returns-4)

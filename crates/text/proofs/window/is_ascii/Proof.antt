@@ -19,11 +19,11 @@ abbrev μ-loop : tie.MeasureT-loop
 loop-holds : tie.Need-loop-holds Inv-loop μ-loop
 loop-holds c = (omega arith, met-start (c .before .args .s .now))
 
-shared-slice-read-larger : tie.Need-shared-slice-read-larger Inv-loop μ-loop
-shared-slice-read-larger c = omega arith
+shared-slice-read-most : tie.Need-shared-slice-read-most Inv-loop μ-loop
+shared-slice-read-most c = omega arith
 
-larger-requires : tie.Need-larger-requires Inv-loop μ-loop
-larger-requires c κs = tt
+most-requires : tie.Need-most-requires Inv-loop μ-loop
+most-requires c κs = tt
 
 add-i : tie.Need-add-i Inv-loop μ-loop
 add-i c = omega arith
@@ -34,8 +34,8 @@ loop-less c = omega arith
 loop-again : tie.Need-loop-again Inv-loop μ-loop
 loop-again c =
     let w = c .before .before .before .loop in
-    let l = c .larger in
-    (omega arith, met-on _ (w .i) (w .largest) (l .result) (c .before .before .loop-test .taken) (w .inv .1) (l .ensures .0) (l .ensures .1) (l .ensures .2))
+    let l = c .most in
+    (omega arith, met-on _ (w .i) (w .largest) (l .result) (c .before .before .loop-test .taken) (w .inv .1) (l .ensures))
 
 returns : tie.Need-returns Inv-loop μ-loop
 returns c = met-end _ (c .before .loop .i) (c .before .loop .largest) (c .loop-test .left) (c .before .loop .inv .1)
@@ -47,8 +47,8 @@ is-ascii-spec =
     Inv-loop
     μ-loop
     loop-holds
-    shared-slice-read-larger
-    larger-requires
+    shared-slice-read-most
+    most-requires
     add-i
     loop-less
     loop-again

@@ -67,8 +67,8 @@ shared-slice-read-misfit-4 c = omega arith
 misfit-requires : tie.Need-misfit-requires Inv-loop μ-loop
 misfit-requires c κs = tt
 
-larger-requires : tie.Need-larger-requires Inv-loop μ-loop
-larger-requires c κs = tt
+most-requires : tie.Need-most-requires Inv-loop μ-loop
+most-requires c κs = tt
 
 add-i : tie.Need-add-i Inv-loop μ-loop
 add-i c = omega arith
@@ -80,9 +80,7 @@ loop-again : tie.Need-loop-again Inv-loop μ-loop
 loop-again c =
     let s = c .before .before .before .before .before .before .before .before .before .before .before .before .before .before .before .args .s .now in
     let w = c .before .before .before .before .before .before .before .loop in
-    let l = c .larger .ensures in
-    let a = l .0 in
-    let b = l .1 in
+    let l = c .most .ensures in
     (omega arith, omega arith, λ e. met-more s (w .i) (w .inv .2 (omega arith)) (fits-at s (w .i) (w .inv .0) (c .before .misfit .ensures (omega arith))))
 
 starts-well-requires : tie.Need-starts-well-requires Inv-loop μ-loop
@@ -122,7 +120,7 @@ passes-spec =
     shared-slice-read-misfit-3
     shared-slice-read-misfit-4
     misfit-requires
-    larger-requires
+    most-requires
     add-i
     loop-less
     loop-again

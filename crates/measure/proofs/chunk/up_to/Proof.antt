@@ -1,7 +1,7 @@
--- `measure::letter::up_to` meets its contract. Assumes nothing.
+-- `measure::chunk::up_to` meets its contract. Assumes nothing.
 use borrow.Author.Tests.{le-leb, lt-leb}
-use Rattle.measure.proofs.letter.up_to.Statement.{statement}
-use Rattle.measure.proofs.letter.up_to.Tie as tie
+use Rattle.measure.proofs.chunk.up_to.Statement.{statement}
+use Rattle.measure.proofs.chunk.up_to.Tie as tie
 
 returns : tie.Need-returns
 returns c = rw (le-leb (c .before .args .a) (c .before .args .b) (c .if1 .taken))

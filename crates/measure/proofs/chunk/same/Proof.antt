@@ -1,7 +1,7 @@
--- `measure::letter::same` meets its contract. Assumes nothing.
+-- `measure::chunk::same` meets its contract. Assumes nothing.
 use borrow.Author.Tests.{eq-eqb, ne-eqb}
-use Rattle.measure.proofs.letter.same.Statement.{statement}
-use Rattle.measure.proofs.letter.same.Tie as tie
+use Rattle.measure.proofs.chunk.same.Statement.{statement}
+use Rattle.measure.proofs.chunk.same.Tie as tie
 
 returns : tie.Need-returns
 returns c = rw (eq-eqb (c .before .args .a) (c .before .args .b) (c .if1 .taken))

@@ -1,7 +1,7 @@
--- `measure::letter::differ` meets its contract. Assumes nothing.
+-- `measure::chunk::differ` meets its contract. Assumes nothing.
 use borrow.Author.Tests.{eq-eqb, ne-eqb}
-use Rattle.measure.proofs.letter.differ.Statement.{statement}
-use Rattle.measure.proofs.letter.differ.Tie as tie
+use Rattle.measure.proofs.chunk.differ.Statement.{statement}
+use Rattle.measure.proofs.chunk.differ.Tie as tie
 
 returns : tie.Need-returns
 returns c = rw (eq-eqb (c .before .args .a) (c .before .args .b) (c .if1 .taken))
