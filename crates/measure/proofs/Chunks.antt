@@ -10,7 +10,7 @@ use lib.Dec.{eqb, leb}
 use lib.ListN.{length, take, drop, getD, length-take, length-drop}
 use lib.Seq.{getD-drop, getD-take}
 use Rattle.text.specs.Class.{counts}
-use Rattle.measure.proofs.Tests.{by-order}
+use Rattle.text.specs.Tests.{by-order}
 
 -- ---- tests that answer 0 or 1
 

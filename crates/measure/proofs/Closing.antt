@@ -12,7 +12,7 @@ use lib.Seq.{getD-drop, drop-drop}
 use Rattle.measure.specs.Quoted.{singleQuote, doubleQuote, backslash, further, passedTogether, toClosing, quotedLen, Ordinary, Unmarked}
 use Rattle.measure.specs.declared.quoted.Quoted.{Quoted}
 use Rattle.measure.specs.declared.quoted.Quoted.the-variants.{Found, Missing}
-use Rattle.measure.proofs.Tests.{by-order, clash}
+use Rattle.text.specs.Tests.{by-order, clash}
 use Rattle.measure.proofs.Chunks.{part-at, part-length}
 
 -- ---- the opening mark

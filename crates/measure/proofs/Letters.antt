@@ -9,7 +9,7 @@ use lib.Dec.{eqb}
 use lib.ListN.{length, take, drop, getD}
 use Rattle.text.specs.Class.{isContinuation}
 use Rattle.measure.specs.Letters.{Letter, FirstLetters, LetterRun, Letters}
-use Rattle.measure.proofs.Tests.{by-order, and-both}
+use Rattle.text.specs.Tests.{by-order, and-both}
 use Rattle.measure.proofs.Chunks.{part-at, part-length}
 
 -- ---- chunk by chunk, byte by byte

@@ -1,6 +1,4 @@
 -- Lemmas that serve the functions of `measure`, by subject.
--- tests
-pub mod Tests
 -- the character that was read at a place, and the part from there on
 pub mod Read
 -- a white-space run, character by character

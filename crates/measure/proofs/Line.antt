@@ -19,7 +19,7 @@ use Rattle.measure.specs.Block.{before, lines, firstOf, isBlank, trimmed
 use Rattle.measure.specs.Places.{bytes-cons, encode-takes}
 use Rattle.measure.specs.declared.block.Line.{Line}
 use Rattle.measure.specs.Letters.{WordByte, Letters}
-use Rattle.measure.proofs.Tests.{by-order}
+use Rattle.text.specs.Tests.{by-order}
 use Rattle.measure.proofs.Words.{Dark, dark, above-blank, letter-at, letter-here, fits, after-blank, rest-of}
 use Rattle.measure.proofs.Read.{codes-end}
 use Rattle.measure.proofs.Reached.{reached, reached-start, reached-more, reached-on}

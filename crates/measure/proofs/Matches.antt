@@ -15,7 +15,6 @@ use lib.Seq.{take-suc, take-at, drop-drop, getD-drop}
 use Rattle.text.specs.Utf8.{Utf8, encode, encodeAll, codes, character, firstChar}
 use Rattle.text.specs.Boundary.{Boundary}
 use Rattle.text.specs.WhiteSpace.{whiteSpace, isIn, isWhiteSpace}
-use Rattle.text.specs.Bytes.{and-left, and-right}
 use Rattle.text.specs.Utf8Laws.{Char-at, char-at, boundary-start, boundary-splits, codes-encode, read}
 use Rattle.text.specs.declared.utf8.Char.{Char}
 use Rattle.measure.specs.Run.{newline, bytesOf, whiteSpaceRun, afterRun, holdsNewline, runOf, run-split, run-goes-on, run-stops}
@@ -25,7 +24,7 @@ use Rattle.measure.specs.declared.run.Run.{Run}
 use Rattle.measure.proofs.Read.{char-read, codes-end, part-is}
 use Rattle.measure.specs.Letters.{WordByte, LetterByte, Letters}
 use Rattle.measure.proofs.Words.{Dark, dark, above-blank, letter-at, solid-at, word-solid, letter-here, fits, rest-of}
-use Rattle.measure.proofs.Tests.{clash, by-order}
+use Rattle.text.specs.Tests.{clash, by-order, and-left, and-right}
 use Rattle.measure.proofs.Reached.{reached, reached-start, reached-more, reached-on}
 
 -- ---- a character of the value, byte by byte

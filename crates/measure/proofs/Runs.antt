@@ -15,7 +15,7 @@ use Rattle.text.specs.declared.utf8.Char.{Char}
 use Rattle.measure.specs.Run.{newline, bytesOf, whiteSpaceRun, holdsNewline, runOf}
 use Rattle.measure.specs.Places.{bytes-cons}
 use Rattle.measure.specs.declared.run.Run.{Run}
-use Rattle.measure.proofs.Tests.{or-false, or-true, or-assoc}
+use Rattle.text.specs.Tests.{or-false, or-true, or-assoc}
 use Rattle.measure.proofs.Read.{codes-end}
 
 abbrev pub told : ℕ → Bool → Run

@@ -16,7 +16,7 @@ use Rattle.text.specs.Utf8Laws.{Char-at}
 use Rattle.text.specs.declared.utf8.Char.{Char}
 use Rattle.measure.specs.Letters.{WordByte, AfterE2, LetterByte, Letters}
 use Rattle.measure.specs.LetterLaws.{letters-less}
-use Rattle.measure.proofs.Tests.{by-order, clash, and-both}
+use Rattle.text.specs.Tests.{by-order, clash, and-both}
 
 -- ---- code points that are no white space
 

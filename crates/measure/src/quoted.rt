@@ -3,7 +3,6 @@ ghost use mathlib.Core.Path.{_≡_};
 ghost use Prim.Native.Nat.{_≤_};
 ghost use lib.ListN.{length};
 ghost use Rattle.measure.specs.Quoted.{passedTogether, quotedLen, quotedOrValueLen, Unmarked};
-use crate::chunk::CHUNK;
 use crate::chunk::least;
 use crate::chunk::place_of;
 use crate::chunk::same;
@@ -15,6 +14,9 @@ pub const SINGLE_QUOTE: u8 = b'\'';
 pub const DOUBLE_QUOTE: u8 = b'"';
 
 const BACKSLASH: u8 = b'\\';
+
+// The bytes that are looked at together. Over fewer, so short a test is not done for many bytes at once.
+const CHUNK: usize = 64;
 
 pub enum Quoted {
     // The bytes of a quoted scalar, both marks counted.

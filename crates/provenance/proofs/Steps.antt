@@ -17,7 +17,8 @@ use Rattle.provenance.specs.declared.step.Step.the-variants.{Verbatim, R
 use Rattle.provenance.specs.Run.{pick, newline, carriageReturn, whiteRun, newlinesIn, throughLast, cut, blankRun, onlyNewlines, noRun, runOf, cutLen}
 use Rattle.provenance.specs.Grammar.{Rules, orElse, sameBytes, breakPair, startsBreak, isBreakByte, opensBreak, breakStep, asStep, escapeStep, equalStep, endStep, step}
 use Rattle.provenance.specs.Looked.{breakRun, Tells, knownAfter}
-use Rattle.provenance.specs.Tests.{clash, by-test, by-answer, by-order, byte-past, and-no}
+use Rattle.text.specs.Tests.{clash, by-order}
+use Rattle.provenance.specs.Tests.{by-test, by-answer, byte-past, and-no}
 use Rattle.provenance.specs.RunLaws.{run-within, cut-within, cut-numbers, cut-is, blanks-within, blanks-are, front-of, clear-inside}
 use Rattle.provenance.specs.StepLaws.{same-refl, same-true}
 

@@ -15,7 +15,7 @@ use Rattle.provenance.specs.Run.{pick}
 use Rattle.provenance.specs.Reading.{Reads, sourceLen, contentLen, Piece, piece, verbatim, replacement}
 use Rattle.provenance.specs.Layout.{pieceSize, room, zeros, numbers, filled}
 use Rattle.provenance.specs.Writing.{fourAt, putPiece, putOpen, countOpen, putReplacement, clearedTo, writtenLen}
-use Rattle.provenance.specs.Tests.{by-order}
+use Rattle.text.specs.Tests.{by-order}
 use Rattle.provenance.specs.StepLaws.{Fair}
 use Rattle.provenance.specs.PieceLaws.{closed, laid}
 

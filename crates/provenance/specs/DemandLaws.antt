@@ -21,7 +21,8 @@ use Rattle.provenance.specs.Reading.{Reads, Reading, sourceLen, contentL
 use Rattle.provenance.specs.Layout.{room, zeros, filled, answerOf, bufferOf, piecesIf}
 use Rattle.provenance.specs.Start.{walkStart, listFrom, scalarList}
 use Rattle.provenance.specs.Demand.{Accepts, StartsAt, Follow, AllCopied, contents, EscapeLast, Demand3}
-use Rattle.provenance.specs.Tests.{by-answer, by-order}
+use Rattle.text.specs.Tests.{by-order}
+use Rattle.provenance.specs.Tests.{by-answer}
 use Rattle.provenance.specs.EscapeLaws.{style-fair}
 use Rattle.provenance.specs.StepLaws.{Fair, grammar-fair, step-same, step-past}
 use Rattle.provenance.specs.ReadingLaws.{reading-unique, found-is-reading, reading-is-found}

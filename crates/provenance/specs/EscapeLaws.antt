@@ -21,7 +21,8 @@ use Rattle.provenance.specs.declared.escape.Escape.{Escape}
 use Rattle.provenance.specs.declared.escape.Escape.the-variants.{Takes, NoEscape}
 use Rattle.provenance.specs.Run.{pick, newline, carriageReturn, whiteRun}
 use Rattle.provenance.specs.Escape.{FairTable, quote, backslash, plus, digitValue, digitsFrom, digits, radix16, codeContent, singleQuoteEscapes, isOneOf, oneByteEscapes, backslashEscape, doubleQuoteEscapes, escapesOf}
-use Rattle.provenance.specs.Tests.{clash, by-test, by-answer, by-order, and-both, picked, either, byte-past, byte-inside}
+use Rattle.text.specs.Tests.{clash, by-order, and-both}
+use Rattle.provenance.specs.Tests.{by-test, by-answer, picked, either, byte-past, byte-inside}
 use Rattle.provenance.specs.RunLaws.{run-within}
 
 -- ---- digits

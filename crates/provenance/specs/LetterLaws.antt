@@ -17,7 +17,7 @@ use Rattle.provenance.specs.Run.{pick, whiteRun, newlinesIn}
 use Rattle.provenance.specs.Escape.{singleQuoteEscapes, doubleQuoteEscapes, escapesOf}
 use Rattle.provenance.specs.Grammar.{Rules, opensBreak, breakStep, equalStep, step, stepAt, rulesOf}
 use Rattle.measure.specs.Letters.{WordByte, LetterByte, Letters}
-use Rattle.provenance.specs.Tests.{by-order}
+use Rattle.text.specs.Tests.{by-order}
 
 -- ---- no break
 

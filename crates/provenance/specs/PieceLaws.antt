@@ -15,7 +15,8 @@ use Rattle.provenance.specs.declared.step.Step.the-variants.{Verbatim, R
 use Rattle.provenance.specs.Run.{pick}
 use Rattle.provenance.specs.Reading.{Reads, contentLen, Piece, piece, verbatim, replacement, stepPieces, joinOn, joined, piecesOf}
 use Rattle.provenance.specs.Demand.{StartsAt, Follow, Copied, AllCopied, contents}
-use Rattle.provenance.specs.Tests.{by-answer, by-order}
+use Rattle.text.specs.Tests.{by-order}
+use Rattle.provenance.specs.Tests.{by-answer}
 use Rattle.provenance.specs.StepLaws.{Fair}
 
 -- ---- the pieces as they are laid

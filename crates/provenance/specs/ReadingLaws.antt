@@ -13,7 +13,7 @@ use Rattle.provenance.specs.declared.step.Step.the-variants.{Verbatim, R
 use Rattle.provenance.specs.Escape.{FairTable}
 use Rattle.provenance.specs.Grammar.{Rules, stepAt}
 use Rattle.provenance.specs.Reading.{Reads, Reading, Fits, sourceLen, contentLen, stepThen, readBy, readingOf}
-use Rattle.provenance.specs.Tests.{by-order}
+use Rattle.text.specs.Tests.{by-order}
 use Rattle.provenance.specs.StepLaws.{Fair, grammar-fair}
 
 module _ (at : ℕ → ℕ → Step) (len : ℕ) where

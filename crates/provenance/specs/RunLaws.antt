@@ -11,7 +11,8 @@ use borrow.Author.Tests.{eqb-true, lt-ltb, le-ltb, ne-eqb}
 use Rattle.text.specs.Class.{isWhiteSpaceByte}
 use Rattle.provenance.specs.Run.{pick, newline, whiteRun, newlinesIn, throughLast, cut, isBlank, blankRun, inNumbers, cutLen}
 use Rattle.provenance.specs.Start.{beforeNewline, headerEnd}
-use Rattle.provenance.specs.Tests.{by-test, by-answer, by-order}
+use Rattle.text.specs.Tests.{by-order}
+use Rattle.provenance.specs.Tests.{by-test, by-answer}
 
 -- ---- bounds
 

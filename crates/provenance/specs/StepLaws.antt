@@ -16,7 +16,8 @@ use Rattle.provenance.specs.declared.step.Step.the-variants.{Verbatim, R
 use Rattle.provenance.specs.Run.{whiteRun, newlinesIn, cut, blankRun, onlyNewlines}
 use Rattle.provenance.specs.Escape.{FairTable}
 use Rattle.provenance.specs.Grammar.{Rules, orElse, sameBytes, paired, breakPair, opensBreak, breakStep, asStep, escapeStep, equalStep, endStep, step, stepAt}
-use Rattle.provenance.specs.Tests.{clash, and-both, picked, passed}
+use Rattle.text.specs.Tests.{clash, and-both}
+use Rattle.provenance.specs.Tests.{picked, passed}
 use Rattle.provenance.specs.RunLaws.{run-within, blanks-within, cut-within, cut-some, cut-is, blanks-are, front-of}
 
 -- ---- equal bytes

@@ -1,16 +1,12 @@
 -- Laws of tests and choices, and of the bytes of a list. Assumes nothing.
 use mathlib.Core.Path.{_≡_, refl}
-use mathlib.Core.Bool.{Bool, true, false, _&&_, _||_}
+use mathlib.Core.Bool.{Bool, true, false, _&&_}
 use mathlib.Core.List.{List, [], _∷_}
 use Prim.Native.Nat.{ℕ, zero, suc, _≤_, _<_}
-use native.Mathlib.Decide.{decLe}
-use native.Mathlib.Nat.{lt-of-not-le}
 use native.Mathlib.Omega.{arith}
 use lib.ListN.{length, getD}
+use Rattle.text.specs.Tests.{by-order}
 use Rattle.provenance.specs.Run.{pick}
-
-pub clash : true ≡ false → ⊥
-clash e = let z : _≡_ {A = ℕ} 0 1 = cc in omega arith
 
 pub by-test : (P : Bool → Type 0) (t : Bool) → P true → P false → P t
 by-test P true f g = f
@@ -20,25 +16,9 @@ pub by-answer : {X : Type 0} (t : Bool) → (t ≡ true → X) → (t ≡ false 
 by-answer true f g = f refl
 by-answer false f g = g refl
 
--- one order or the other
-pub by-order : {X : Type 0} (a b : ℕ) → (a < b → X) → (b ≤ a → X) → X
-by-order a b f g = elim (decLe b a) [ yes h ↦ g h | no h ↦ f (lt-of-not-le h) ]
-
-pub and-both : (a b : Bool) → a && b ≡ true → (a ≡ true) × (b ≡ true)
-and-both true b h = (refl, h)
-and-both false b h = absurd (let z : true ≡ false = (let q : false ≡ true = h in cc) in clash z)
-
 pub and-no : (t : Bool) → t && false ≡ false
 and-no true = refl
 and-no false = refl
-
-pub or-yes : (t : Bool) → t || true ≡ true
-or-yes true = refl
-or-yes false = refl
-
-pub or-no : (t : Bool) → t || false ≡ t
-or-no true = refl
-or-no false = refl
 
 -- what a choice that came out as t says of the question
 pub picked : {A : Type 0} (t : Bool) (x y w : A) → (y ≡ w → ⊥) → pick t x y ≡ w → (t ≡ true) × (x ≡ w)

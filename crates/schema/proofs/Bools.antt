@@ -1,21 +1,9 @@
 -- Booleans: what a conjunction, a disjunction or a computed test says. Assumes nothing.
 use mathlib.Core.Path.{_≡_, refl, sym}
 use mathlib.Core.Bool.{Bool, true, false, _&&_, _||_}
-use Prim.Native.Nat.{ℕ}
-use native.Mathlib.Omega.{arith}
 use lib.Dec.{T}
+use Rattle.text.specs.Tests.{clash}
 use Rattle.text.proofs.Table.{both, same}
-
-pub clash : true ≡ false → ⊥
-clash e = let z : _≡_ {A = ℕ} 0 1 = cc in omega arith
-
-pub and-left : (a b : Bool) → a && b ≡ true → a ≡ true
-and-left true b e = refl
-and-left false b e = e
-
-pub and-right : (a b : Bool) → a && b ≡ true → b ≡ true
-and-right true b e = e
-and-right false b e = absurd (clash (sym e))
 
 pub and-both : {a b : Bool} → a ≡ true → b ≡ true → a && b ≡ true
 and-both {a} {b} p q = rw (p, q)

@@ -25,7 +25,8 @@ use Rattle.schema.proofs.Derivative.{accepts-sound, accepts-complete}
 use Rattle.schema.proofs.Automaton.{rows, awaits, texts}
 use Rattle.schema.proofs.Flags.{Bytes, flags, flagsAt, flag, by-states, formAt, form-is, formNumber, same-number, none-accepts}
 use Rattle.schema.proofs.Forms.{readPlain, core-schema}
-use Rattle.schema.proofs.Bools.{clash, implies, implied, passes, or-cases, same-truth}
+use Rattle.text.specs.Tests.{clash}
+use Rattle.schema.proofs.Bools.{implies, implied, passes, or-cases, same-truth}
 
 -- ---- the first row that matches
 module _ (r : Row) (rs : List Row) (s : List ℕ) where

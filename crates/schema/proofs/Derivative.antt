@@ -11,7 +11,8 @@ use borrow.Author.Tests.{leb-true, le-leb}
 use lib.Dec.{leb}
 use Rattle.schema.specs.Regex.{Regex, none, empty, range, seq, alt, star, Matches, m-empty, m-range, m-seq, m-left, m-right, m-done, m-more}
 use Rattle.schema.specs.Matcher.{pick, isNone, join, either, nullable, derivative, accepts}
-use Rattle.schema.proofs.Bools.{clash, and-left, and-right, and-both, or-cases, or-left, or-right, same-truth}
+use Rattle.text.specs.Tests.{clash, and-left, and-right}
+use Rattle.schema.proofs.Bools.{and-both, or-cases, or-left, or-right, same-truth}
 
 -- ---- lists
 cons-nil : {A : Type 0} {b : ℕ} {s : List ℕ} → b ∷ s ≡ [] → A

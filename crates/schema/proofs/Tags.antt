@@ -13,7 +13,7 @@ use Rattle.schema.specs.CoreSchema.{pickResolved, integerOr, coreSchema,
 use Rattle.schema.specs.Tag.{sameBytes, standardHandle, startsWith, standardTagSuffix, pickTag, taggedBool, taggedNull, taggedSchema, untagged, resolveScalar}
 use Rattle.schema.specs.declared.plain.Resolved.the-variants.{Real, Str, BadValue}
 use Rattle.schema.specs.declared.tag.StandardTag.the-variants.{NameAt, NotStandard}
-use Rattle.schema.proofs.Bools.{clash, and-left, and-right}
+use Rattle.text.specs.Tests.{clash, and-left, and-right}
 
 pub same-bytes : (s t : List ℕ) → sameBytes s t ≡ true → s ≡ t
 unfolding sameBytes

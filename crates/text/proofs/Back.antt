@@ -7,11 +7,9 @@ use native.Mathlib.Decide.{decLt}
 use native.Mathlib.Omega.{arith}
 use lib.ListN.{getD}
 use Rattle.text.specs.Class.{isContinuation}
+use Rattle.text.specs.Tests.{clash}
 use Rattle.text.specs.Utf8Laws.{Char-at, Char-before}
 use Rattle.text.specs.declared.utf8.Char.{Char}
-
-clash : true ≡ false → ⊥
-clash e = let z : _≡_ {A = ℕ} 0 1 = cc in omega arith
 
 module _ (s : List ℕ) (i : ℕ) (k : Char) (b : Char-before s i k) (j : ℕ) (from : i - k .len ≤ j) where
   -- a byte that continues is not the first

@@ -17,7 +17,7 @@ use Rattle.text.specs.Offset.{byteOffset, Stands}
 use Rattle.text.specs.Starts.{begun, starts}
 use Rattle.text.specs.Utf8Laws.{Place, place-at, place-front, codes-encodeAll, codes-scalars, encodeAll-append, scalars-front}
 use Rattle.text.specs.OffsetLaws.{index-front}
-use Rattle.text.proofs.Windows.{differ}
+use Rattle.text.specs.Tests.{clash}
 
 starts-append : (a b : List ℕ) → starts (a ++ b) ≡ starts a + starts b
 unfolding starts
@@ -50,7 +50,7 @@ goes-on s i h e = go (decLt i (length s))
   where
     go : Dec (i < length s) → (i < length s) × (starts (take (i + 1) s) ≡ starts (take i s))
     go (yes l) = (l, (let n = starts-next s i l in let z : begun (getD s i 0) ≡ 0 = rw e in omega arith))
-    go (no l) = absurd (differ (rw (List·getD-eq-default s 0 {n = i} (omega arith)) at e))
+    go (no l) = absurd (clash (sym (rw (List·getD-eq-default s 0 {n = i} (omega arith)) at e)))
 
 -- n bytes more
 pub starts-part : (s : List ℕ) (i n : ℕ) → starts (take (i + n) s) ≡ starts (take i s) + starts (take n (drop i s))

@@ -12,6 +12,7 @@ use Rattle.text.specs.Utf8.{character, codeOf2, codeOf3, codeOf4, twoByt
 use Rattle.text.specs.Utf8Laws.{first-char-ascii, first-char-multi, utf8-on, utf8-end}
 use Rattle.text.specs.Bytes.{inside-low, inside-high, is-inside, below-inside, above-inside}
 use Rattle.text.specs.Class.{inside, isContinuation}
+use Rattle.text.specs.Tests.{clash}
 use Rattle.text.specs.declared.utf8.Char.{Char}
 use Rattle.text.specs.Window.{awaits, Starts, Follows, Fits, led, FitsAt, FirstFit}
 
@@ -81,14 +82,11 @@ clear-false p q r k = rw (lt-leb 0xc0 r (k .one), lt-leb 0xe0 q (k .two-before),
 pub false-clear : (p q r : ℕ) → awaits p q r ≡ false → (r < 0xc0) × (q < 0xe0) × (p < 0xf0)
 false-clear p q r e = go (decLt r 0xc0) (decLt q 0xe0) (decLt p 0xf0)
   where
-    differs : true ≡ false → ⊥
-    differs e = let z : _≡_ {A = ℕ} 0 1 = cc in omega arith
-
     go : Dec (r < 0xc0) → Dec (q < 0xe0) → Dec (p < 0xf0) → (r < 0xc0) × (q < 0xe0) × (p < 0xf0)
     go (yes a) (yes b) (yes d) = (a, b, d)
-    go (no a) b d = absurd (differs (rw (le-leb 0xc0 r (omega arith)) at e))
-    go (yes a) (no b) d = absurd (differs (rw (lt-leb 0xc0 r a, le-leb 0xe0 q (omega arith)) at e))
-    go (yes a) (yes b) (no d) = absurd (differs (rw (lt-leb 0xc0 r a, lt-leb 0xe0 q b, le-leb 0xf0 p (omega arith)) at e))
+    go (no a) b d = absurd (clash (rw (le-leb 0xc0 r (omega arith)) at e))
+    go (yes a) (no b) d = absurd (clash (rw (lt-leb 0xc0 r a, le-leb 0xe0 q (omega arith)) at e))
+    go (yes a) (yes b) (no d) = absurd (clash (rw (lt-leb 0xc0 r a, lt-leb 0xe0 q b, le-leb 0xf0 p (omega arith)) at e))
 
 -- a byte that awaits more
 after-one : (p q r : ℕ) → 0xc0 ≤ r → awaits p q r ≡ true
@@ -100,17 +98,14 @@ after-two p q r l h = rw (lt-leb 0xc0 r l, le-leb 0xe0 q h)
 after-three : (p q r : ℕ) → r < 0xc0 → q < 0xe0 → 0xf0 ≤ p → awaits p q r ≡ true
 after-three p q r l m h = rw (lt-leb 0xc0 r l, lt-leb 0xe0 q m, le-leb 0xf0 p h)
 
-pub differ : false ≡ true → ⊥
-differ e = let z : _≡_ {A = ℕ} 0 1 = cc in omega arith
-
 pub fits-more : (p q r b : ℕ) → awaits p q r ≡ true → isContinuation b ≡ true → Follows r b → Fits p q r b
 fits-more p q r b a k f =
     let low = inside-low 128 191 b k in
     let high = inside-high 128 191 b k in
-    record { starts = λ e. absurd (differ (sym e ∙ a)); continues = λ e. (low, omega arith); follows = λ e. f }
+    record { starts = λ e. absurd (clash (sym a ∙ e)); continues = λ e. (low, omega arith); follows = λ e. f }
 
 pub fits-start : (p q r b : ℕ) → awaits p q r ≡ false → Starts b → Fits p q r b
-fits-start p q r b a k = record { starts = λ e. k; continues = λ e. absurd (differ (sym a ∙ e)); follows = λ e. absurd (differ (sym a ∙ e)) }
+fits-start p q r b a k = record { starts = λ e. k; continues = λ e. absurd (clash (sym e ∙ a)); follows = λ e. absurd (clash (sym e ∙ a)) }
 
 -- ---- all of them
 

@@ -8,7 +8,7 @@ use borrow.Author.Tests.{ltb-false}
 use lib.ListN.{length}
 use Rattle.text.specs.Utf8.{Utf8, isUtf8}
 use Rattle.text.specs.Utf8Laws.{utf8-sound}
-use Rattle.text.specs.Bytes.{and-left, and-right}
+use Rattle.text.specs.Tests.{and-left, and-right}
 use Rattle.text.specs.Offset.{isAscii}
 use Rattle.text.specs.Admission.{textLimit, isTooLong, pickAdmission, admission, admissionOfBoth}
 use Rattle.text.specs.declared.admission.Admission.{Admission}

@@ -10,19 +10,12 @@ use native.Mathlib.Omega.{arith}
 use borrow.Author.Tests.{lt-ltb, le-ltb, le-leb, lt-leb, ltb-true, ltb-false, leb-true, leb-false, not-true}
 use lib.Dec.{ltb, leb}
 use lib.ListN.{length, drop, getD}
+use Rattle.text.specs.Tests.{and-left, and-right}
 use Rattle.text.specs.Class.{inside, isContinuation}
 use Rattle.text.specs.Utf8.{ScalarValue, encode, character, noChar, pickChar, codeOf2, codeOf3, codeOf4, twoBytes, threeBytes, fourBytes, multiByte, charOf, firstChar}
 use Rattle.text.specs.declared.utf8.Char.{Char}
 
 -- ---- tests
-
-pub and-left : (a b : Bool) → a && b ≡ true → a ≡ true
-and-left true b e = refl
-and-left false b e = e
-
-pub and-right : (a b : Bool) → a && b ≡ true → b ≡ true
-and-right true b e = e
-and-right false b e = cc
 
 pub inside-low : (lo hi b : ℕ) → inside lo hi b ≡ true → lo ≤ b
 inside-low lo hi b e = leb-true lo b (and-left (leb lo b) (leb b hi) e)

@@ -15,6 +15,8 @@ pub mod Starts
 pub mod Window
 -- the first two rows of the table
 pub mod Admission
+-- laws of tests
+pub mod Tests
 -- the bytes of one character, both ways
 pub mod Bytes
 -- the laws of texts, characters and boundaries

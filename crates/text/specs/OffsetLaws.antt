@@ -13,7 +13,7 @@ use lib.Seq.{take-suc, drop-cons, take-all}
 use Rattle.text.specs.Utf8.{ScalarValue, ScalarValues, Utf8, encode, encodeAll, character, firstChar, codes, charsAfter, isUtf8, lastOf, lastChar, allSome}
 use Rattle.text.specs.Boundary.{Boundary}
 use Rattle.text.specs.Offset.{byteOffset, cursorAt, Stands, isAscii}
-use Rattle.text.specs.Bytes.{and-left, and-right}
+use Rattle.text.specs.Tests.{and-left, and-right}
 use Rattle.text.specs.Utf8Laws.{Place, place-front, place-back, place-boundary, codes-encode, codes-scalars, codes-encodeAll, encodeAll-append, scalars-front, scalars-back, encode-some, read, last-of, first-char-ascii, codes-step, utf8-on}
 use Rattle.text.specs.declared.utf8.Char.{Char}
 use Rattle.text.specs.declared.offset.Cursor.{Cursor}

@@ -14,11 +14,9 @@ use lib.Seq.{drop-append-seam, getD-append-add, take-at, drop-at, drop-cons, get
 use Rattle.text.specs.Class.{isContinuation}
 use Rattle.text.specs.Utf8.{ScalarValue, ScalarValues, Utf8, encode, encodeAll, character, noChar, multiByte, charOf, firstChar, charsAfter, codes, allSome, isUtf8, lastOf, lastChar}
 use Rattle.text.specs.Boundary.{Boundary, isBoundary}
-use Rattle.text.specs.Bytes.{Continue, Encoding, encoding, Written, written, and-left, and-right}
+use Rattle.text.specs.Bytes.{Continue, Encoding, encoding, Written, written}
+use Rattle.text.specs.Tests.{clash, and-left, and-right}
 use Rattle.text.specs.declared.utf8.Char.{Char}
-
-differ : false ≡ true → ⊥
-differ e = let z : _≡_ {A = ℕ} 0 1 = cc in omega arith
 
 -- ---- one character after the other
 
@@ -136,7 +134,7 @@ utf8-sound s e = go (length s) s (omega arith) e
 
     step : (n : ℕ) (s : List ℕ) → length s ≤ suc n → isUtf8 s ≡ true → ((t : List ℕ) → length t ≤ n → isUtf8 t ≡ true → Utf8 t) → Dec (0 < length s) → Dec (0 < firstChar s .len) → Utf8 s
     step n s l e r (no p) d = empty s (omega arith)
-    step n s l e r (yes p) (no z) = absurd (differ (sym (utf8-stuck s p (omega arith)) ∙ e))
+    step n s l e r (yes p) (no z) = absurd (clash (sym e ∙ utf8-stuck s p (omega arith)))
     step n s l e r (yes p) (yes h) =
         let w = written s h in
         let u = r (drop (firstChar s .len) s) (simp length-drop (omega arith)) (sym (utf8-step s h) ∙ e) in
@@ -187,9 +185,6 @@ is-boundary {s} {i} e =
 pub boundary-is : {s : List ℕ} {i : ℕ} → Boundary s i → isBoundary s i ≡ true
 unfolding isBoundary
 boundary-is {s} {i} b = rw (le-leb i (length s) (b .within), b .edge)
-
-pub boundary-end : (s : List ℕ) → Boundary s (length s)
-boundary-end s = record { within = omega arith; edge = rw (List·getD-eq-default s 0 {n = length s} (omega arith)) }
 
 -- no text begins with a continuation byte
 begins : {s : List ℕ} → Utf8 s → isContinuation (getD s 0 0) ≡ false
@@ -255,7 +250,7 @@ place-in (c ∷ cs) v zero b = record { before = []; after = c ∷ cs; scalars =
 place-in (c ∷ cs) v (suc i) b = go (decLt (suc i) (length (encode c))) (place-in cs (v .1) (suc i - length (encode c)))
   where
     go : Dec (suc i < length (encode c)) → (Boundary (encodeAll cs) (suc i - length (encode c)) → Place (encodeAll cs) (suc i - length (encode c))) → Place (encode c ++ encodeAll cs) (suc i)
-    go (yes h) r = absurd (differ (sym (b .edge) ∙ inner c (encodeAll cs) (v .0) (suc i) (omega arith) h))
+    go (yes h) r = absurd (clash (sym (inner c (encodeAll cs) (v .0) (suc i) (omega arith) h) ∙ b .edge))
     go (no h) r =
         place-behind c (encodeAll cs) (suc i) (suc i - length (encode c)) (v .0) (omega arith) (r (boundary-behind (encode c) (encodeAll cs) (suc i) (omega arith) b))
 

@@ -3,7 +3,7 @@ use mathlib.Core.Path.{sym}
 use mathlib.Core.Logic.{inl, inr}
 use native.Mathlib.Omega.{arith}
 use borrow.Author.Tests.{ltb-true, eqb-false, not-true}
-use Rattle.measure.proofs.Tests.{clash}
+use Rattle.text.specs.Tests.{clash}
 use Rattle.measure.proofs.letter.begins_word.Statement.{statement}
 use Rattle.measure.proofs.letter.begins_word.Tie as tie
 

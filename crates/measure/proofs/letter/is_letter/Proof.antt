@@ -4,7 +4,7 @@ use mathlib.Core.Logic.{inl, inr}
 use native.Mathlib.Omega.{arith}
 use borrow.Author.Needs.{needs}
 use borrow.Author.Tests.{eqb-true, eqb-false, not-true}
-use Rattle.measure.proofs.Tests.{clash}
+use Rattle.text.specs.Tests.{clash}
 use Rattle.measure.proofs.letter.is_letter.Statement.{statement}
 use Rattle.measure.proofs.letter.is_letter.Tie as tie
 

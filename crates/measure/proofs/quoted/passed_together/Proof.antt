@@ -2,7 +2,7 @@
 use mathlib.Core.Path.{sym}
 use borrow.Author.Tests.{eq-eqb, ne-eqb}
 use Rattle.measure.specs.Quoted.{passedTogether}
-use Rattle.measure.proofs.Tests.{or-false}
+use Rattle.text.specs.Tests.{or-false}
 use Rattle.measure.proofs.quoted.passed_together.Statement.{statement}
 use Rattle.measure.proofs.quoted.passed_together.Tie as tie
 

@@ -16,9 +16,9 @@ Inv-loop s quote i₀ i = Unmarked quote s i
 abbrev μ-loop : tie.MeasureT-loop
 μ-loop s quote i₀ i = length s - i
 
--- the ordinary bytes of a chunk of sixteen
-more : (quote : ℕ) (s : List ℕ) (i n : ℕ) → 16 ≤ length s - i → Unmarked quote s i → Unmarked quote (take (i + 16 - i) (drop i s)) n → (n ≤ 16) × Unmarked quote s (i + n)
-more quote s i n h u f = let e : i + 16 - i ≡ 16 = omega arith in unmarked-more quote s i n 16 h u (rw e at f)
+-- the ordinary bytes of a chunk
+more : (quote : ℕ) (s : List ℕ) (i n : ℕ) → 64 ≤ length s - i → Unmarked quote s i → Unmarked quote (take (i + 64 - i) (drop i s)) n → (n ≤ 64) × Unmarked quote s (i + n)
+more quote s i n h u f = let e : i + 64 - i ≡ 64 = omega arith in unmarked-more quote s i n 64 h u (rw e at f)
 
 loop-holds : tie.Need-loop-holds Inv-loop μ-loop
 loop-holds c = unmarked-start _ _
@@ -39,7 +39,7 @@ part-first-mark-end : tie.Need-part-first-mark-end Inv-loop μ-loop
 part-first-mark-end c = omega arith
 
 first-mark-requires : tie.Need-first-mark-requires Inv-loop μ-loop
-first-mark-requires c κs = let i = c .before .before .loop .i in let l = length-take (i + 16 - i) (drop i (c .before .before .before .before .args .s .now)) in omega arith
+first-mark-requires c κs = let i = c .before .before .loop .i in let l = length-take (i + 64 - i) (drop i (c .before .before .before .before .args .s .now)) in omega arith
 
 add-result : tie.Need-add-result Inv-loop μ-loop
 add-result c = omega arith
@@ -59,7 +59,7 @@ loop-again c =
     let w = c .before .before .before .before .loop in
     let h = more (a .quote) (a .s .now) (w .i) _ (omega arith) (w .inv) (c .before .first-mark .ensures) in
     let l = h .0 in
-    let n : c .before .first-mark .result ≡ 16 = omega arith in
+    let n : c .before .first-mark .result ≡ 64 = omega arith in
     subst (λ (k : ℕ). Unmarked (a .quote) (a .s .now) (w .i + k)) n (h .1)
 
 returns-2 : tie.Need-returns-2 Inv-loop μ-loop

@@ -1,13 +1,14 @@
 -- `text::class::is_white_space_byte` meets its contract: each return by the tests that lead to it, the last by one computed test over
 -- the 256 bytes. Assumes nothing.
 use borrow.Author.Needs.{needs}
-use mathlib.Core.Path.{_≡_, refl}
-use mathlib.Core.Bool.{Bool, true, false, _||_}
+use mathlib.Core.Path.{_≡_, sym}
+use mathlib.Core.Bool.{true, false}
 use Prim.Native.Nat.{ℕ, _≤_, _<_}
 use native.Mathlib.Omega.{arith}
 use borrow.Author.Tests.{le-leb, eq-eqb, ne-eqb}
 use lib.Dec.{leb}
 use Rattle.text.specs.Class.{classOf, isWhiteSpaceByte}
+use Rattle.text.specs.Tests.{or-false}
 use Rattle.text.specs.Bytes.{is-inside, below-inside, above-inside}
 use Rattle.text.proofs.Table.{Answers, answer}
 use Rattle.text.proofs.class.is_white_space_byte.Statement.{statement}
@@ -16,10 +17,6 @@ use Rattle.text.proofs.class.is_white_space_byte.Tie as tie
 answers : Answers 1 isWhiteSpaceByte
 unfolding classOf
 answers = tt
-
-or-false : (x : Bool) → x ≡ x || false
-or-false true = refl
-or-false false = refl
 
 -- by which of the four the byte is not
 between : (b : ℕ) → 32 < b → b < 133 → false ≡ isWhiteSpaceByte b
@@ -32,7 +29,7 @@ before : (b : ℕ) → b < 9 → false ≡ isWhiteSpaceByte b
 before b h = rw (below-inside 9 13 b h, ne-eqb b 32 (λ e. omega arith), ne-eqb b 133 (λ e. omega arith), ne-eqb b 160 (λ e. omega arith))
 
 control : (b : ℕ) → 9 ≤ b → b < 32 → leb b 13 ≡ isWhiteSpaceByte b
-control b l h = rw (le-leb 9 b l, ne-eqb b 32 (λ e. omega arith), ne-eqb b 133 (λ e. omega arith), ne-eqb b 160 (λ e. omega arith)) (or-false (leb b 13))
+control b l h = rw (le-leb 9 b l, ne-eqb b 32 (λ e. omega arith), ne-eqb b 133 (λ e. omega arith), ne-eqb b 160 (λ e. omega arith)) (sym (or-false (leb b 13)))
 
 blank : (b : ℕ) → b ≡ 32 → true ≡ isWhiteSpaceByte b
 blank b e = rw e

@@ -1,7 +1,8 @@
 -- `text::window::fits` meets its contract: a byte that is awaited, or one that begins a character. Assumes nothing.
 use borrow.Author.Needs.{needs}
 use mathlib.Core.Path.{sym, _∙_}
-use Rattle.text.proofs.Windows.{differ, fits-more, fits-start}
+use Rattle.text.specs.Tests.{clash}
+use Rattle.text.proofs.Windows.{fits-more, fits-start}
 use Rattle.text.proofs.window.fits.Statement.{statement}
 use Rattle.text.proofs.window.fits.Tie as tie
 
@@ -19,7 +20,7 @@ returns c =
     λ e. fits-more _ _ _ _ (sym (c .before .before .before .before .is-awaited .ensures) ∙ c .before .before .before .if1 .taken) (sym (c .before .before .is-continuation .ensures) ∙ c .before .if2 .taken) (c .is-second .ensures e)
 
 returns-2 : tie.Need-returns-2
-returns-2 c = λ e. absurd (differ e)
+returns-2 c = λ e. absurd (clash (sym e))
 
 is-start-requires : tie.Need-is-start-requires
 is-start-requires c κs = search needs

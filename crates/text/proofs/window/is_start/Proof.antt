@@ -1,7 +1,8 @@
 -- `text::window::is_start` meets its contract: each return by the tests that lead to it. Assumes nothing.
+use mathlib.Core.Path.{sym}
 use mathlib.Core.Logic.{inl, inr}
 use borrow.Author.Tests.{ltb-true}
-use Rattle.text.proofs.Windows.{differ}
+use Rattle.text.specs.Tests.{clash}
 use Rattle.text.proofs.window.is_start.Statement.{statement}
 use Rattle.text.proofs.window.is_start.Tie as tie
 
@@ -9,7 +10,7 @@ returns : tie.Need-returns
 returns c = λ e. inl (c .if1 .taken)
 
 returns-2 : tie.Need-returns-2
-returns-2 c = λ e. absurd (differ e)
+returns-2 c = λ e. absurd (clash (sym e))
 
 returns-3 : tie.Need-returns-3
 returns-3 c = λ e. inr (c .if2 .left, ltb-true _ 0xf5 e)

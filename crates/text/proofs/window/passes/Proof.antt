@@ -6,7 +6,8 @@ use Prim.Native.Nat.{ℕ, _-_, _≤_, _<_}
 use native.Mathlib.Omega.{arith}
 use lib.ListN.{length}
 use Rattle.text.specs.Window.{FitsAt}
-use Rattle.text.proofs.Windows.{differ, fits-at, awaits-at, met-more, all-met, fit-utf8}
+use Rattle.text.specs.Tests.{clash}
+use Rattle.text.proofs.Windows.{fits-at, awaits-at, met-more, all-met, fit-utf8}
 use Rattle.text.proofs.window.passes.Statement.{statement}
 use Rattle.text.proofs.window.passes.Tie as tie
 
@@ -17,7 +18,7 @@ abbrev μ-loop : tie.MeasureT-loop
 μ-loop s n worst₀ i₀ worst i = length s - i
 
 returns : tie.Need-returns Inv-loop μ-loop
-returns c = λ e. absurd (differ e)
+returns c = λ e. absurd (clash (sym e))
 
 shared-slice-read-is-awaited : tie.Need-shared-slice-read-is-awaited Inv-loop μ-loop
 shared-slice-read-is-awaited c = omega arith
@@ -38,7 +39,7 @@ is-awaited-requires : tie.Need-is-awaited-requires Inv-loop μ-loop
 is-awaited-requires c κs = tt
 
 returns-2 : tie.Need-returns-2 Inv-loop μ-loop
-returns-2 c = λ e. absurd (differ e)
+returns-2 c = λ e. absurd (clash (sym e))
 
 loop-holds : tie.Need-loop-holds Inv-loop μ-loop
 loop-holds c = (omega arith, omega arith, λ e j l h. absurd (omega arith))
@@ -95,7 +96,7 @@ returns-3 c =
     (awaits-at s (length s) (omega arith) _ (sym (c .before .before .before .before .before .is-awaited .ensures) ∙ c .before .before .before .before .if2 .left))
 
 returns-4 : tie.Need-returns-4 Inv-loop μ-loop
-returns-4 c = λ e. absurd (differ e)
+returns-4 c = λ e. absurd (clash (sym e))
 
 pub passes-spec : {M : Type 1} → statement M
 passes-spec =

@@ -1,6 +1,7 @@
 -- `text::window::starts_well` meets its contract. Assumes nothing.
+use mathlib.Core.Path.{sym}
 use borrow.Author.Needs.{needs}
-use Rattle.text.proofs.Windows.{differ}
+use Rattle.text.specs.Tests.{clash}
 use Rattle.text.proofs.window.starts_well.Statement.{statement}
 use Rattle.text.proofs.window.starts_well.Tie as tie
 
@@ -40,10 +41,10 @@ returns c =
     }
 
 returns-2 : tie.Need-returns-2
-returns-2 c = λ e. absurd (differ e)
+returns-2 c = λ e. absurd (clash (sym e))
 
 returns-3 : tie.Need-returns-3
-returns-3 c = λ e. absurd (differ e)
+returns-3 c = λ e. absurd (clash (sym e))
 
 pub starts-well-spec : {M : Type 1} → statement M
 starts-well-spec =
