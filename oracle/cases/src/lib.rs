@@ -16,6 +16,7 @@ mod scan_errors;
 mod schema;
 pub mod script;
 mod source;
+mod stretches;
 mod tags;
 mod trees;
 mod walks;
@@ -42,12 +43,13 @@ pub const ACCESSOR_FAMILIES: [(&str, Family); 3] =
     [("nodes", nodes::write), ("damaged", damaged::write), ("scan_errors", scan_errors::write)];
 
 /// Puts the next random cases of a family.
-pub const RANDOM: [(&str, Family); 7] = [
+pub const RANDOM: [(&str, Family); 8] = [
     ("offsets", offsets::put_random),
     ("schema", schema::put_random),
     ("measures", measures::put_random),
     ("walks", walks::put_random),
     ("breaks", walks::put_breaks),
+    ("stretches", stretches::put_random),
     ("tags", tags::put_random),
     ("trees", trees::put_random),
 ];
