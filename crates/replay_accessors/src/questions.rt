@@ -1,9 +1,9 @@
 // All that is asked about one record, in the order of the oracle.
 ghost use mathlib.Core.Path.{_≡_};
+ghost use Prim.Native.Nat.{_-_, min};
 ghost use Rattle.node.specs.Kind.{lenAt, isHashAt};
-ghost use Rattle.node.specs.Child.{arrayItem};
-ghost use Rattle.node.specs.Entry.{hashEntry};
-ghost use Rattle.replay_accessors.specs.Matched.{orZero, isYes, matchPlace, matchEntry};
+ghost use Rattle.replay_accessors.specs.Matched.{matchAll, orZero, isYes};
+ghost use Rattle.replay_accessors.specs.Questions.{kindNumbers, sourceNumbers, aboutItself, atIndex, aboutChildren, aboutKey, aboutKeys, aboutRecord};
 use crate::matched::DIFFERENT;
 use crate::matched::Matched;
 use crate::matched::count;
@@ -37,7 +37,9 @@ const KEY_BYTES: usize = 8;
 const LENGTH_AT: usize = 4;
 
 // What kind of node the record is.
-fn about_kind(records: &[u32], n: usize, list: &[u8], m: Matched) -> Matched {
+fn about_kind(records: &[u32], n: usize, list: &[u8], m: Matched) -> Matched
+    ensures { λ r. ⌜ r ≡ matchAll (now (list .entry)) m (kindNumbers (now (records .entry)) n) ⌝ }
+{
     let m = flag(list, m, is_scalar(records, n));
     let m = flag(list, m, is_array(records, n));
     let m = flag(list, m, is_hash(records, n));
@@ -46,14 +48,18 @@ fn about_kind(records: &[u32], n: usize, list: &[u8], m: Matched) -> Matched {
 }
 
 // Where the node stands.
-fn about_source(records: &[u32], n: usize, list: &[u8], m: Matched) -> Matched {
+fn about_source(records: &[u32], n: usize, list: &[u8], m: Matched) -> Matched
+    ensures { λ r. ⌜ r ≡ matchAll (now (list .entry)) m (sourceNumbers (now (records .entry)) n) ⌝ }
+{
     let m = span(list, m, source_info(records, n));
     let m = tagged(list, m, tag(records, n));
     pieces(list, m, content_source_info(records, n))
 }
 
 // What is asked of the record itself.
-fn about_itself(records: &[u32], n: usize, list: &[u8], m: Matched) -> Matched {
+fn about_itself(records: &[u32], n: usize, list: &[u8], m: Matched) -> Matched
+    ensures { λ r. ⌜ r ≡ aboutItself (now (records .entry)) n (now (list .entry)) m ⌝ }
+{
     let m = lookup(list, m, get_record(records, n));
     let m = about_kind(records, n, list, m);
     let m = about_source(records, n, list, m);
@@ -82,20 +88,24 @@ pub fn is_hash_there(records: &[u32], n: usize) -> bool
 
 // The item and the pair at an index.
 pub fn at_index(records: &[u32], n: usize, i: usize, list: &[u8], m: Matched) -> Matched
-    ensures { λ r. ⌜ r ≡ matchEntry (now (list .entry)) (matchPlace (now (list .entry)) m (arrayItem (now (records .entry)) n i)) (hashEntry (now (records .entry)) n i) ⌝ }
+    ensures { λ r. ⌜ r ≡ atIndex (now (records .entry)) n i (now (list .entry)) m ⌝ }
 {
     let m = place(list, m, get_array_item(records, n, i));
     entry(list, m, hash_entry(records, n, i))
 }
 
-fn least(a: usize, b: usize) -> usize {
+fn least(a: usize, b: usize) -> usize
+    ensures { λ r. ⌜ r ≡ min a b ⌝ }
+{
     if a < b {
         return a;
     }
     b
 }
 
-fn less(a: usize, b: usize) -> usize {
+fn less(a: usize, b: usize) -> usize
+    ensures { λ r. ⌜ r ≡ a - b ⌝ }
+{
     if a < b {
         return 0;
     }
@@ -103,7 +113,9 @@ fn less(a: usize, b: usize) -> usize {
 }
 
 // The items and pairs from the index past the last one down, at most `limit` besides that.
-fn about_children(records: &[u32], n: usize, limit: usize, list: &[u8], m: Matched) -> Matched {
+fn about_children(records: &[u32], n: usize, limit: usize, list: &[u8], m: Matched) -> Matched
+    ensures { λ r. ⌜ r ≡ aboutChildren (now (records .entry)) n limit (now (list .entry)) m ⌝ }
+{
     let count = len_or_zero(records, n);
     let most = least(count, limit);
     let mut matched = at_index(records, n, count, list, m);
@@ -124,7 +136,9 @@ fn about_key(
     at: usize,
     list: &[u8],
     m: Matched,
-) -> Matched {
+) -> Matched
+    ensures { λ r. ⌜ r ≡ aboutKey (now (records .entry)) (now (events .entry)) n (now (keys .entry)) at (now (list .entry)) m ⌝ }
+{
     if keys.len() <= at {
         return DIFFERENT;
     }
@@ -144,7 +158,9 @@ fn about_keys(
     keys: &[u8],
     list: &[u8],
     m: Matched,
-) -> Matched {
+) -> Matched
+    ensures { λ r. ⌜ r ≡ aboutKeys (now (records .entry)) (now (events .entry)) n (now (keys .entry)) (now (list .entry)) m ⌝ }
+{
     let mut at = 0;
     let mut matched = m;
     while at < keys.len() {
@@ -163,7 +179,9 @@ pub fn about(
     keys: &[u8],
     list: &[u8],
     m: Matched,
-) -> Matched {
+) -> Matched
+    ensures { λ r. ⌜ r ≡ aboutRecord (now (records .entry)) (now (events .entry)) n limit (now (keys .entry)) (now (list .entry)) m ⌝ }
+{
     let m = about_itself(records, n, list, m);
     let m = about_children(records, n, limit, list, m);
     if is_hash_there(records, n) {

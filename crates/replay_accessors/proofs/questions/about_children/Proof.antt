@@ -1,11 +1,14 @@
--- `replay_accessors::questions::about_children` is safe and ends. The measure is how many are left to ask for. Assumes nothing.
-use Prim.Native.Nat.{_-_}
+-- `replay_accessors::questions::about_children` meets its contract. The loop's invariant: the index past the last one and `back` before it were asked. The measure is what is left. Assumes nothing.
+use mathlib.Core.Path.{_≡_, refl, sym, _∙_, ap}
+use Prim.Native.Nat.{ℕ, suc, _+_, _-_, _≤_, min}
+use native.Mathlib.Numerals.{add-one}
 use native.Mathlib.Omega.{arith}
+use Rattle.replay_accessors.specs.Questions.{fromLast}
 use Rattle.replay_accessors.proofs.questions.about_children.Statement.{statement}
 use Rattle.replay_accessors.proofs.questions.about_children.Tie as tie
 
 abbrev Inv-loop : tie.InvT-loop
-Inv-loop records n limit list count most matched₀ back₀ matched back = Unit {0}
+Inv-loop records n limit list count most matched₀ back₀ matched back = (back ≤ most) × (matched ≡ fromLast records n count list matched₀ back)
 
 abbrev μ-loop : tie.MeasureT-loop
 μ-loop records n limit list count most matched₀ back₀ matched back = most - back
@@ -20,7 +23,8 @@ at-index-requires : tie.Need-at-index-requires Inv-loop μ-loop
 at-index-requires c κs = tt
 
 loop-holds : tie.Need-loop-holds Inv-loop μ-loop
-loop-holds c = tt
+unfolding fromLast
+loop-holds c = (omega arith, refl)
 
 add-back : tie.Need-add-back Inv-loop μ-loop
 add-back c = omega arith
@@ -35,10 +39,21 @@ loop-less : tie.Need-loop-less Inv-loop μ-loop
 loop-less c = omega arith
 
 loop-again : tie.Need-loop-again Inv-loop μ-loop
-loop-again c = tt
+unfolding fromLast
+loop-again c =
+    let w = c .before .before .before .loop in
+    let a = c .before .before .before .before .before .before .before .before .before .args in
+    let count = c .before .before .before .before .before .before .len-or-zero .result in
+    let more = ap (fromLast (a .records .now) (a .n) count (a .list .now) (c .before .before .before .before .at-index .result)) (add-one (w .back)) in
+    (omega arith, rw (c .at-index2 .ensures, c .before .less .ensures, w .inv .1, more, add-one (w .back)))
 
 returns : tie.Need-returns Inv-loop μ-loop
-returns c = tt
+returns c =
+    let w = c .before .loop in
+    let l = c .before .before .before .least .ensures in
+    let b = w .inv .0 in
+    let e : w .back ≡ min (c .before .before .before .before .len-or-zero .result) (c .before .before .before .before .before .before .before .args .limit) = omega arith in
+    rw (w .inv .1, c .before .before .at-index .ensures, e, c .before .before .before .before .len-or-zero .ensures)
 
 pub about-children-spec : {M : Type 1} → statement M
 about-children-spec =

@@ -1,0 +1,3 @@
+-- Lemmas that serve the functions of `replay_accessors`.
+-- numbers matched in turn
+pub mod Matching

@@ -1,0 +1,81 @@
+-- `replay_accessors::questions::about_kind` meets its contract. Assumes nothing.
+use mathlib.Core.Path.{_∙_}
+use mathlib.Core.List.{_++_}
+use Rattle.node.specs.Kind.{isScalarAt, isArrayAt, isHashAt, lenAt, isEmptyAt}
+use Rattle.replay_accessors.specs.Matched.{matchAll, flagNumbers, countNumbers}
+use Rattle.replay_accessors.proofs.Matching.{in-turn}
+use borrow.Author.Needs.{needs}
+use Rattle.replay_accessors.proofs.questions.about_kind.Statement.{statement}
+use Rattle.replay_accessors.proofs.questions.about_kind.Tie as tie
+
+is-scalar-requires : tie.Need-is-scalar-requires
+is-scalar-requires c κs = search needs
+
+flag-requires : tie.Need-flag-requires
+flag-requires c κs = search needs
+
+is-array-requires : tie.Need-is-array-requires
+is-array-requires c κs = search needs
+
+flag-requires-2 : tie.Need-flag-requires-2
+flag-requires-2 c κs = search needs
+
+is-hash-requires : tie.Need-is-hash-requires
+is-hash-requires c κs = search needs
+
+flag-requires-3 : tie.Need-flag-requires-3
+flag-requires-3 c κs = search needs
+
+len-requires : tie.Need-len-requires
+len-requires c κs = search needs
+
+count-requires : tie.Need-count-requires
+count-requires c κs = search needs
+
+is-empty-requires : tie.Need-is-empty-requires
+is-empty-requires c κs = search needs
+
+flag-requires-4 : tie.Need-flag-requires-4
+flag-requires-4 c κs = search needs
+
+returns : tie.Need-returns
+returns c =
+    let a = c .before .before .before .before .before .before .before .before .before .before .before .before .args in
+    let list = a .list .now in
+    let scalar = flagNumbers (isScalarAt (a .records .now) (a .n)) in
+    let array = flagNumbers (isArrayAt (a .records .now) (a .n)) in
+    let hash = flagNumbers (isHashAt (a .records .now) (a .n)) in
+    let len = countNumbers (lenAt (a .records .now) (a .n)) in
+    let empty = flagNumbers (isEmptyAt (a .records .now) (a .n)) in
+    let one = matchAll list (a .m) scalar in
+    let two = matchAll list one array in
+    let three = matchAll list two hash in
+    rw (
+      c .flag4 .ensures,
+      c .before .is-empty .ensures,
+      c .before .before .count .ensures,
+      c .before .before .before .len .ensures,
+      c .before .before .before .before .flag3 .ensures,
+      c .before .before .before .before .before .is-hash .ensures,
+      c .before .before .before .before .before .before .flag2 .ensures,
+      c .before .before .before .before .before .before .before .is-array .ensures,
+      c .before .before .before .before .before .before .before .before .flag .ensures,
+      c .before .before .before .before .before .before .before .before .before .is-scalar .ensures,
+    )
+    (in-turn list three len empty ∙ in-turn list two hash (len ++ empty) ∙ in-turn list one array (hash ++ (len ++ empty)) ∙ in-turn list (a .m) scalar (array ++ (hash ++ (len ++ empty))))
+
+pub about-kind-spec : {M : Type 1} → statement M
+about-kind-spec =
+    tie.close
+    (tie.spec
+    is-scalar-requires
+    flag-requires
+    is-array-requires
+    flag-requires-2
+    is-hash-requires
+    flag-requires-3
+    len-requires
+    count-requires
+    is-empty-requires
+    flag-requires-4
+    returns)

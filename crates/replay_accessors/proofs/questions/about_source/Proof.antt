@@ -1,0 +1,56 @@
+-- `replay_accessors::questions::about_source` meets its contract. Assumes nothing.
+use mathlib.Core.Path.{_∙_}
+use mathlib.Core.List.{_++_}
+use Rattle.node.specs.Source.{spanAt, tagAt, pieceListAt}
+use Rattle.replay_accessors.specs.Matched.{matchAll, spanNumbers, tagNumbers, pieceNumbers}
+use Rattle.replay_accessors.proofs.Matching.{in-turn}
+use borrow.Author.Needs.{needs}
+use Rattle.replay_accessors.proofs.questions.about_source.Statement.{statement}
+use Rattle.replay_accessors.proofs.questions.about_source.Tie as tie
+
+source-info-requires : tie.Need-source-info-requires
+source-info-requires c κs = search needs
+
+span-requires : tie.Need-span-requires
+span-requires c κs = search needs
+
+tag-requires : tie.Need-tag-requires
+tag-requires c κs = search needs
+
+tagged-requires : tie.Need-tagged-requires
+tagged-requires c κs = search needs
+
+content-source-info-requires : tie.Need-content-source-info-requires
+content-source-info-requires c κs = search needs
+
+pieces-requires : tie.Need-pieces-requires
+pieces-requires c κs = search needs
+
+returns : tie.Need-returns
+returns c =
+    let a = c .before .before .before .before .before .before .before .before .args in
+    let list = a .list .now in
+    let span = spanNumbers (spanAt (a .records .now) (a .n)) in
+    let tag = tagNumbers (tagAt (a .records .now) (a .n)) in
+    let pieces = pieceNumbers (pieceListAt (a .records .now) (a .n)) in
+    rw (
+      c .pieces .ensures,
+      c .before .content-source-info .ensures,
+      c .before .before .tagged .ensures,
+      c .before .before .before .tag .ensures,
+      c .before .before .before .before .span .ensures,
+      c .before .before .before .before .before .source-info .ensures,
+    )
+    (in-turn list (matchAll list (a .m) span) tag pieces ∙ in-turn list (a .m) span (tag ++ pieces))
+
+pub about-source-spec : {M : Type 1} → statement M
+about-source-spec =
+    tie.close
+    (tie.spec
+    source-info-requires
+    span-requires
+    tag-requires
+    tagged-requires
+    content-source-info-requires
+    pieces-requires
+    returns)
