@@ -14,12 +14,6 @@ use Rattle.text.specs.Tests.{by-order}
 
 -- ---- tests that answer 0 or 1
 
-pub none-most : {r x y : ℕ} → r ≡ max x y → r ≡ 0 → (x ≡ 0) × (y ≡ 0)
-none-most e z = (omega arith, omega arith)
-
-pub none-least : {r x y : ℕ} → r ≡ min x y → r ≡ 0 → (x ≡ 0) ⊎ (y ≡ 0)
-none-least {r} {x} {y} e z = by-order 0 x (λ h. inr (omega arith)) (λ h. inl (omega arith))
-
 counts-no : {r : ℕ} (t : Bool) → r ≡ counts t 1 → r ≡ 0 → t ≡ false
 counts-no true e z = absurd (omega arith)
 counts-no false e z = refl

@@ -3,6 +3,7 @@
 ghost use mathlib.Core.Path.{_≡_};
 ghost use Prim.Native.Nat.{_<_, min};
 ghost use mathlib.Core.Bool.{not};
+ghost use mathlib.Core.Logic.{_⊎_};
 ghost use lib.Dec.{eqb, leb};
 ghost use Rattle.text.specs.Class.{counts};
 
@@ -16,6 +17,20 @@ pub fn least(a: u8, b: u8) -> u8
     ensures { λ r. ⌜ r ≡ min a b ⌝ }
 {
     if a < b { a } else { b }
+}
+
+// 1 where `a` or `b` is not 0, if both are 0 or 1.
+pub fn either(a: u8, b: u8) -> u8
+    ensures { λ r. ⌜ (r ≡ 0 → (a ≡ 0) × (b ≡ 0)) ⌝ }
+{
+    if a == 0 { b } else { 1 }
+}
+
+// 1 where `a` and `b` are not 0, if both are 0 or 1.
+pub fn both(a: u8, b: u8) -> u8
+    ensures { λ r. ⌜ (r ≡ 0 → (a ≡ 0) ⊎ (b ≡ 0)) ⌝ }
+{
+    if a == 0 { 0 } else { b }
 }
 
 // 1 where `a` is `b`.

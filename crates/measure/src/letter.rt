@@ -10,13 +10,14 @@ ghost use lib.ListN.{length, getD};
 ghost use Rattle.text.specs.Class.{isContinuation};
 ghost use Rattle.measure.specs.Letters;
 use crate::chunk::CHUNK;
+use crate::chunk::both;
 use crate::chunk::differ;
+use crate::chunk::either;
 use crate::chunk::least;
 use crate::chunk::place_of;
 use crate::chunk::same;
 use crate::chunk::up_to;
 use text::class::is_continuation;
-use text::class::most;
 use text::utf8::byte_at;
 
 const CONTROL: u8 = 31;
@@ -42,12 +43,12 @@ const CONTINUATION: u8 = 0x80;
 fn no_word(b: u8, c: u8) -> u8
     ensures { λ r. ⌜ (r ≡ 0 → Letters.WordByte b c) ⌝ }
 {
-    let low = least(up_to(CONTINUATION, b), up_to(b, LEAD_C2));
-    let e2 = least(same(b, LEAD_E2), up_to(c, 129));
-    let e3 = least(same(b, LEAD_E3), same(c, CONTINUATION));
-    most(
+    let low = both(up_to(CONTINUATION, b), up_to(b, LEAD_C2));
+    let e2 = both(same(b, LEAD_E2), up_to(c, 129));
+    let e3 = both(same(b, LEAD_E3), same(c, CONTINUATION));
+    either(
         up_to(b, BLANK),
-        most(low, most(same(b, LEAD_E1), most(e2, e3))),
+        either(low, either(same(b, LEAD_E1), either(e2, e3))),
     )
 }
 
@@ -55,23 +56,26 @@ fn no_word(b: u8, c: u8) -> u8
 fn no_letter_after_e2(b: u8, c: u8) -> u8
     ensures { λ r. ⌜ (r ≡ 0 → Letters.AfterE2 b c) ⌝ }
 {
-    let far = most(up_to(c, 138), up_to(168, c));
-    least(up_to(b, 129), most(same(b, 129), far))
+    let far = either(up_to(c, 138), up_to(168, c));
+    both(up_to(b, 129), either(same(b, 129), far))
 }
 
 // 0 only where `a`, before `b` and `c`, is a letter.
 fn no_letter(a: u8, b: u8, c: u8) -> u8
     ensures { λ r. ⌜ (r ≡ 0 → Letters.LetterByte a b c) ⌝ }
 {
-    let plain = most(up_to(a, CONTROL), most(same(a, QUOTE), same(a, BACKSLASH)));
-    let lead = most(same(a, LEAD_C2), same(a, LEAD_E1));
-    let e2 = least(same(a, LEAD_E2), no_letter_after_e2(b, c));
-    let e3 = least(
-        same(a, LEAD_E3),
-        least(same(b, CONTINUATION), same(c, CONTINUATION)),
+    let plain = either(
+        up_to(a, CONTROL),
+        either(same(a, QUOTE), same(a, BACKSLASH)),
     );
-    let blank = least(same(a, BLANK), no_word(b, c));
-    most(plain, most(lead, most(e2, most(e3, blank))))
+    let lead = either(same(a, LEAD_C2), same(a, LEAD_E1));
+    let e2 = both(same(a, LEAD_E2), no_letter_after_e2(b, c));
+    let e3 = both(
+        same(a, LEAD_E3),
+        both(same(b, CONTINUATION), same(c, CONTINUATION)),
+    );
+    let blank = both(same(a, BLANK), no_word(b, c));
+    either(plain, either(lead, either(e2, either(e3, blank))))
 }
 
 // Whether no white space can begin with `b`, before `c`.
@@ -133,7 +137,7 @@ fn first_letters(src: &[u8], next: &[u8], after: &[u8], value: &[u8]) -> usize
     let mut i = 0;
     while i < src.len() {
         let a = src[i];
-        let other = most(no_letter(a, next[i], after[i]), differ(a, value[i]));
+        let other = either(no_letter(a, next[i], after[i]), differ(a, value[i]));
         first = least(first, place_of(i as u8, other));
         i += 1;
     }

@@ -3,10 +3,10 @@ ghost use mathlib.Core.Path.{_≡_};
 ghost use Prim.Native.Nat.{_≤_};
 ghost use lib.ListN.{length};
 ghost use Rattle.measure.specs.Quoted.{passedTogether, quotedLen, quotedOrValueLen, Unmarked};
+use crate::chunk::either;
 use crate::chunk::least;
 use crate::chunk::place_of;
 use crate::chunk::same;
-use text::class::most;
 use text::utf8::byte_at;
 
 pub const SINGLE_QUOTE: u8 = b'\'';
@@ -49,7 +49,7 @@ fn first_mark(s: &[u8], quote: u8) -> usize
     let mut i = 0;
     while i < s.len() {
         let b = s[i];
-        let mark = most(same(b, quote), same(b, BACKSLASH));
+        let mark = either(same(b, quote), same(b, BACKSLASH));
         first = least(first, place_of(i as u8, mark));
         i += 1;
     }

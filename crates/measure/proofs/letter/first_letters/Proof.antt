@@ -5,7 +5,7 @@ use Prim.Native.Nat.{ℕ, _-_, _≤_}
 use native.Mathlib.Omega.{arith}
 use lib.ListN.{length, getD}
 use Rattle.measure.specs.Letters.{Letter}
-use Rattle.measure.proofs.Chunks.{none-most, not-differ, Passed, passed-more}
+use Rattle.measure.proofs.Chunks.{not-differ, Passed, passed-more}
 use Rattle.measure.proofs.letter.first_letters.Statement.{statement}
 use Rattle.measure.proofs.letter.first_letters.Tie as tie
 
@@ -43,8 +43,8 @@ shared-slice-read-differ c = omega arith
 differ-requires : tie.Need-differ-requires Inv-loop μ-loop
 differ-requires c κs = tt
 
-most-requires : tie.Need-most-requires Inv-loop μ-loop
-most-requires c κs = tt
+either-requires : tie.Need-either-requires Inv-loop μ-loop
+either-requires c κs = tt
 
 cast-place-of : tie.Need-cast-place-of Inv-loop μ-loop
 cast-place-of c = omega arith
@@ -69,7 +69,7 @@ loop-again c =
       omega arith,
       omega arith,
       passed-more (LetterAt (a .src .now) (a .next .now) (a .after .now) (a .value .now)) (w .first) (c .before .place-of .result) (c .least .result) (w .i) (w .inv .2) l
-          (λ h. let p = none-most (c .before .before .most .ensures) (c .before .place-of .ensures h) in
+          (λ h. let p = c .before .before .either .ensures (c .before .place-of .ensures h) in
           (not-differ (c .before .before .before .differ .ensures) (p .1), c .before .before .before .before .before .no-letter .ensures (p .0))),
     )
 
@@ -93,7 +93,7 @@ first-letters-spec =
     no-letter-requires
     shared-slice-read-differ
     differ-requires
-    most-requires
+    either-requires
     cast-place-of
     place-of-requires
     least-requires

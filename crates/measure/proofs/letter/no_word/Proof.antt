@@ -1,6 +1,6 @@
 -- `measure::letter::no_word` meets its contract. Assumes nothing.
 use mathlib.Core.Logic.{inl, inr}
-use Rattle.measure.proofs.Chunks.{none-most, none-least, not-same, not-up-to}
+use Rattle.measure.proofs.Chunks.{not-same, not-up-to}
 use borrow.Author.Needs.{needs}
 use Rattle.measure.proofs.letter.no_word.Statement.{statement}
 use Rattle.measure.proofs.letter.no_word.Tie as tie
@@ -11,8 +11,8 @@ up-to-requires c κs = search needs
 up-to-requires-2 : tie.Need-up-to-requires-2
 up-to-requires-2 c κs = search needs
 
-least-requires : tie.Need-least-requires
-least-requires c κs = search needs
+both-requires : tie.Need-both-requires
+both-requires c κs = search needs
 
 same-requires : tie.Need-same-requires
 same-requires c κs = search needs
@@ -20,8 +20,8 @@ same-requires c κs = search needs
 up-to-requires-3 : tie.Need-up-to-requires-3
 up-to-requires-3 c κs = search needs
 
-least-requires-2 : tie.Need-least-requires-2
-least-requires-2 c κs = search needs
+both-requires-2 : tie.Need-both-requires-2
+both-requires-2 c κs = search needs
 
 same-requires-2 : tie.Need-same-requires-2
 same-requires-2 c κs = search needs
@@ -29,8 +29,8 @@ same-requires-2 c κs = search needs
 same-requires-3 : tie.Need-same-requires-3
 same-requires-3 c κs = search needs
 
-least-requires-3 : tie.Need-least-requires-3
-least-requires-3 c κs = search needs
+both-requires-3 : tie.Need-both-requires-3
+both-requires-3 c κs = search needs
 
 up-to-requires-4 : tie.Need-up-to-requires-4
 up-to-requires-4 c κs = search needs
@@ -38,39 +38,39 @@ up-to-requires-4 c κs = search needs
 same-requires-4 : tie.Need-same-requires-4
 same-requires-4 c κs = search needs
 
-most-requires : tie.Need-most-requires
-most-requires c κs = search needs
+either-requires : tie.Need-either-requires
+either-requires c κs = search needs
 
-most-requires-2 : tie.Need-most-requires-2
-most-requires-2 c κs = search needs
+either-requires-2 : tie.Need-either-requires-2
+either-requires-2 c κs = search needs
 
-most-requires-3 : tie.Need-most-requires-3
-most-requires-3 c κs = search needs
+either-requires-3 : tie.Need-either-requires-3
+either-requires-3 c κs = search needs
 
-most-requires-4 : tie.Need-most-requires-4
-most-requires-4 c κs = search needs
+either-requires-4 : tie.Need-either-requires-4
+either-requires-4 c κs = search needs
 
 returns : tie.Need-returns
 returns c = λ e.
-    let p = none-most (c .most4 .ensures) e in
-    let q = none-most (c .before .most3 .ensures) (p .1) in
-    let r = none-most (c .before .before .most2 .ensures) (q .1) in
-    let s = none-most (c .before .before .before .most .ensures) (r .1) in
+    let p = c .either4 .ensures e in
+    let q = c .before .either3 .ensures (p .1) in
+    let r = c .before .before .either2 .ensures (q .1) in
+    let s = c .before .before .before .either .ensures (r .1) in
     record {
       above = not-up-to (c .before .before .before .before .before .up-to4 .ensures) (p .0);
       low =
-          elim (none-least (c .before .before .before .before .before .before .before .before .before .before .before .before .least .ensures) (q .0)) [
+          elim (c .before .before .before .before .before .before .before .before .before .before .before .before .both .ensures (q .0)) [
             | inl x ↦ inl (not-up-to (c .before .before .before .before .before .before .before .before .before .before .before .before .before .before .up-to .ensures) x)
             | inr x ↦ inr (not-up-to (c .before .before .before .before .before .before .before .before .before .before .before .before .before .up-to2 .ensures) x)
           ];
       no-e1 = not-same (c .before .before .before .before .same4 .ensures) (r .0);
       no-e2 =
-          elim (none-least (c .before .before .before .before .before .before .before .before .before .least2 .ensures) (s .0)) [
+          elim (c .before .before .before .before .before .before .before .before .before .both2 .ensures (s .0)) [
             | inl x ↦ inl (not-same (c .before .before .before .before .before .before .before .before .before .before .before .same .ensures) x)
             | inr x ↦ inr (not-up-to (c .before .before .before .before .before .before .before .before .before .before .up-to3 .ensures) x)
           ];
       no-e3 =
-          elim (none-least (c .before .before .before .before .before .before .least3 .ensures) (s .1)) [
+          elim (c .before .before .before .before .before .before .both3 .ensures (s .1)) [
             | inl x ↦ inl (not-same (c .before .before .before .before .before .before .before .before .same2 .ensures) x)
             | inr x ↦ inr (not-same (c .before .before .before .before .before .before .before .same3 .ensures) x)
           ];
@@ -82,17 +82,17 @@ no-word-spec =
     (tie.spec
     up-to-requires
     up-to-requires-2
-    least-requires
+    both-requires
     same-requires
     up-to-requires-3
-    least-requires-2
+    both-requires-2
     same-requires-2
     same-requires-3
-    least-requires-3
+    both-requires-3
     up-to-requires-4
     same-requires-4
-    most-requires
-    most-requires-2
-    most-requires-3
-    most-requires-4
+    either-requires
+    either-requires-2
+    either-requires-3
+    either-requires-4
     returns)

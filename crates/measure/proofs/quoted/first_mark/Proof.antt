@@ -4,7 +4,7 @@ use Prim.Native.Nat.{ℕ, _-_, _≤_}
 use native.Mathlib.Omega.{arith}
 use lib.ListN.{length, getD}
 use Rattle.measure.specs.Quoted.{Ordinary}
-use Rattle.measure.proofs.Chunks.{none-most, not-same, Passed, passed-more}
+use Rattle.measure.proofs.Chunks.{not-same, Passed, passed-more}
 use Rattle.measure.proofs.quoted.first_mark.Statement.{statement}
 use Rattle.measure.proofs.quoted.first_mark.Tie as tie
 
@@ -29,8 +29,8 @@ same-requires c κs = tt
 same-requires-2 : tie.Need-same-requires-2 Inv-loop μ-loop
 same-requires-2 c κs = tt
 
-most-requires : tie.Need-most-requires Inv-loop μ-loop
-most-requires c κs = tt
+either-requires : tie.Need-either-requires Inv-loop μ-loop
+either-requires c κs = tt
 
 cast-place-of : tie.Need-cast-place-of Inv-loop μ-loop
 cast-place-of c = omega arith
@@ -57,7 +57,7 @@ loop-again c =
       omega arith,
       passed-more (λ j. Ordinary quote (getD s j 0)) (w .first) (c .before .place-of .result) (c .least .result) (w .i) (w .inv .2) l
           (λ h.
-          let p = none-most (c .before .before .most .ensures) (c .before .place-of .ensures h) in
+          let p = c .before .before .either .ensures (c .before .place-of .ensures h) in
           (not-same (c .before .before .before .before .same .ensures) (p .0), not-same (c .before .before .before .same2 .ensures) (p .1))),
     )
 
@@ -78,7 +78,7 @@ first-mark-spec =
     shared-slice-read-b
     same-requires
     same-requires-2
-    most-requires
+    either-requires
     cast-place-of
     place-of-requires
     least-requires
