@@ -1,9 +1,8 @@
 -- Chunks: what tests of 0 and 1 say, the places before the first 1, and the parts of a list. Assumes nothing.
 use mathlib.Core.Path.{_≡_, refl, _∙_, subst}
-use mathlib.Core.Logic.{_⊎_, inl, inr}
 use mathlib.Core.Bool.{Bool, true, false, not}
 use mathlib.Core.List.{List}
-use Prim.Native.Nat.{ℕ, _+_, _-_, _≤_, _<_, min, max}
+use Prim.Native.Nat.{ℕ, _+_, _-_, _≤_, _<_, min}
 use native.Mathlib.Omega.{arith}
 use borrow.Author.Tests.{eqb-true, eqb-false, leb-false, not-false}
 use lib.Dec.{eqb, leb}
@@ -36,6 +35,10 @@ Passed P first i = (j : ℕ) → j < i → j < first → P j
 pub passed-more : (P : ℕ → Type 0) (first place first′ i : ℕ) → Passed P first i → first′ ≡ min first place → (i < place → P i) → Passed P first′ (i + 1)
 passed-more P first place first′ i p e f j h g =
     by-order j i (λ lt. p j lt (omega arith)) (λ le. let here : i ≡ j = omega arith in subst P here (f (omega arith)))
+
+-- what the first i places have, and the n behind them
+pub each-more : (P : ℕ → Type 0) (i n : ℕ) → ((j : ℕ) → j < i → P j) → ((j : ℕ) → j < n → P (i + j)) → (j : ℕ) → j < i + n → P j
+each-more P i n f g j h = by-order j i (f j) (λ le. let e : i + (j - i) ≡ j = omega arith in subst P e (g (j - i) (omega arith)))
 
 -- ---- parts of a list
 

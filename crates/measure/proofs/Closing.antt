@@ -12,8 +12,8 @@ use lib.Seq.{getD-drop, drop-drop}
 use Rattle.measure.specs.Quoted.{singleQuote, doubleQuote, backslash, further, passedTogether, toClosing, quotedLen, Ordinary, Unmarked}
 use Rattle.measure.specs.declared.quoted.Quoted.{Quoted}
 use Rattle.measure.specs.declared.quoted.Quoted.the-variants.{Found, Missing}
-use Rattle.text.specs.Tests.{by-order, clash}
-use Rattle.measure.proofs.Chunks.{part-at, part-length}
+use Rattle.text.specs.Tests.{clash}
+use Rattle.measure.proofs.Chunks.{each-more, part-at, part-length}
 
 -- ---- the opening mark
 
@@ -127,11 +127,7 @@ unmarked-more quote s i n m h u f =
       omega arith,
       record {
         within = omega arith;
-        each = λ j g. by-order j i
-            (λ lt. u .each j lt)
-            (λ le.
-            let e : i + (j - i) ≡ j = omega arith in
-            rw (part-at s i m (j - i) (omega arith), e) at (f .each (j - i) (omega arith)));
+        each = each-more (λ j. Ordinary quote (getD s j 0)) i n (u .each) (λ j g. rw (part-at s i m j (omega arith)) at (f .each j g));
       },
     )
 

@@ -10,7 +10,7 @@ use lib.ListN.{length, take, drop, getD}
 use Rattle.text.specs.Class.{isContinuation}
 use Rattle.measure.specs.Letters.{Letter, FirstLetters, LetterRun, Letters}
 use Rattle.text.specs.Tests.{by-order, and-both}
-use Rattle.measure.proofs.Chunks.{part-at, part-length}
+use Rattle.measure.proofs.Chunks.{each-more, part-at, part-length}
 
 -- ---- chunk by chunk, byte by byte
 
@@ -20,19 +20,16 @@ pub chunk-more :
     FirstLetters (take m (drop i src)) (take m (drop (i + 1) src)) (take m (drop (i + 2) src)) (take m (drop i val)) n → (n ≤ m) × LetterRun src val (i + n)
 chunk-more src val i n m l s v f =
     let w = part-length src i m (omega arith) in
-    let h = f .within in (
+    let k = f .within in (
       omega arith,
       record {
         in-source = omega arith;
         in-value = omega arith;
-        each = λ j h. by-order j i
-            (λ lt. l .each j lt)
-            (λ le.
-            let j₀ : i + (j - i) ≡ j = omega arith in
-            let j₁ : i + 1 + (j - i) ≡ j + 1 = omega arith in
-            let j₂ : i + 2 + (j - i) ≡ j + 2 = omega arith in
-            let q = f .each (j - i) (omega arith) in
-            rw (part-at src i m (j - i) (omega arith), part-at src (i + 1) m (j - i) (omega arith), part-at src (i + 2) m (j - i) (omega arith), part-at val i m (j - i) (omega arith), j₀, j₁, j₂) at q);
+        each = each-more (λ j. Letter (getD src j 0) (getD src (j + 1) 0) (getD src (j + 2) 0) (getD val j 0)) i n (l .each)
+            (λ j h.
+            let e₁ : i + 1 + j ≡ i + j + 1 = omega arith in
+            let e₂ : i + 2 + j ≡ i + j + 2 = omega arith in
+            rw (part-at src i m j (omega arith), part-at src (i + 1) m j (omega arith), part-at src (i + 2) m j (omega arith), part-at val i m j (omega arith), e₁, e₂) at (f .each j h));
       },
     )
 

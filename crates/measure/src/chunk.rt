@@ -7,9 +7,6 @@ ghost use mathlib.Core.Logic.{_⊎_};
 ghost use lib.Dec.{eqb, leb};
 ghost use Rattle.text.specs.Class.{counts};
 
-// The bytes of a chunk.
-pub const CHUNK: usize = 16;
-
 // A place past those of every chunk.
 const NOWHERE: u8 = 255;
 

@@ -9,7 +9,6 @@ ghost use lib.Dec.{eqb};
 ghost use lib.ListN.{length, getD};
 ghost use Rattle.text.specs.Class.{isContinuation};
 ghost use Rattle.measure.specs.Letters;
-use crate::chunk::CHUNK;
 use crate::chunk::both;
 use crate::chunk::differ;
 use crate::chunk::either;
@@ -19,6 +18,9 @@ use crate::chunk::same;
 use crate::chunk::up_to;
 use text::class::is_continuation;
 use text::utf8::byte_at;
+
+// The bytes that are looked at together.
+const CHUNK: usize = 16;
 
 const CONTROL: u8 = 31;
 

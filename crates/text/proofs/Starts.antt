@@ -1,5 +1,5 @@
 -- Characters counted by the bytes they begin with. Assumes nothing.
-use mathlib.Core.Path.{_≡_, refl, sym, _∙_, ap, subst}
+use mathlib.Core.Path.{_≡_, refl, sym, _∙_, ap}
 use mathlib.Core.Bool.{Bool, true, false, not}
 use mathlib.Core.List.{List, [], _∷_, _++_}
 use Prim.Native.Nat.{ℕ, zero, suc, _+_, _≤_, _<_}
@@ -15,7 +15,7 @@ use Rattle.text.specs.Boundary.{Boundary}
 use Rattle.text.specs.Bytes.{Continue, encoding}
 use Rattle.text.specs.Offset.{byteOffset, Stands}
 use Rattle.text.specs.Starts.{begun, starts}
-use Rattle.text.specs.Utf8Laws.{Place, place-at, place-front, codes-encodeAll, codes-scalars, encodeAll-append, scalars-front}
+use Rattle.text.specs.Utf8Laws.{place-at, place-front, codes-encodeAll, codes-scalars, encodeAll-append, scalars-front}
 use Rattle.text.specs.OffsetLaws.{index-front}
 use Rattle.text.specs.Tests.{clash}
 

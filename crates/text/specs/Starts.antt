@@ -1,5 +1,6 @@
 -- The characters that begin among some bytes: as many as there are bytes that continue none. Where a text is cut between two characters,
--- that is how many it has; a cut within one counts it. The marker cursor passes over a text by this; the laws stand in `OffsetLaws`.
+-- that is how many it has; a cut within one counts it. The marker cursor passes over a text by this; that it
+-- then stands is proved in proofs/Starts.antt.
 use Prim.Native.Nat.{ℕ, _+_}
 use mathlib.Core.Bool.{not}
 use mathlib.Core.List.{List, [], _∷_}

@@ -9,7 +9,7 @@ use native.Mathlib.Omega.{arith}
 use native.Mathlib.Nat.{add-zero}
 use borrow.Author.Tests.{lt-ltb, le-ltb, le-leb, leb-true, not-true}
 use lib.Dec.{ltb, leb}
-use lib.ListN.{length, take, drop, getD, length-append, length-drop, length-take, List·getD-append, List·getD-eq-default, drop-of-length-le}
+use lib.ListN.{length, take, drop, getD, length-append, length-drop, length-take, List·getD-append, drop-of-length-le}
 use lib.Seq.{drop-append-seam, getD-append-add, take-at, drop-at, drop-cons, getD-drop, drop-drop}
 use Rattle.text.specs.Class.{isContinuation}
 use Rattle.text.specs.Utf8.{ScalarValue, ScalarValues, Utf8, encode, encodeAll, character, noChar, multiByte, charOf, firstChar, charsAfter, codes, allSome, isUtf8, lastOf, lastChar}

@@ -1,6 +1,6 @@
 -- `measure::quoted::first_mark` meets its contract. The loop's invariant: of the bytes passed those before `first` are ordinary. The measure is
 -- what is left. Assumes nothing.
-use Prim.Native.Nat.{ℕ, _-_, _≤_}
+use Prim.Native.Nat.{_-_, _≤_}
 use native.Mathlib.Omega.{arith}
 use lib.ListN.{length, getD}
 use Rattle.measure.specs.Quoted.{Ordinary}

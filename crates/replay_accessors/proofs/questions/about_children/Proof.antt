@@ -1,6 +1,6 @@
 -- `replay_accessors::questions::about_children` meets its contract. The loop's invariant: the index past the last one and `back` before it were asked. The measure is what is left. Assumes nothing.
-use mathlib.Core.Path.{_≡_, refl, sym, _∙_, ap}
-use Prim.Native.Nat.{ℕ, suc, _+_, _-_, _≤_, min}
+use mathlib.Core.Path.{_≡_, refl, ap}
+use Prim.Native.Nat.{_-_, _≤_, min}
 use native.Mathlib.Numerals.{add-one}
 use native.Mathlib.Omega.{arith}
 use Rattle.replay_accessors.specs.Questions.{fromLast}

@@ -1,10 +1,9 @@
 -- `replay_accessors::questions::about_keys` meets its contract. The loop's invariant: the keys before `at` were asked. The measure is what is left. Assumes nothing.
-use mathlib.Core.Path.{_≡_, refl, sym, _∙_, ap}
-use Prim.Native.Nat.{ℕ, suc, _+_, _-_, _*_, _/_, _≤_}
+use mathlib.Core.Path.{_≡_, refl}
+use Prim.Native.Nat.{suc, _+_, _-_, _*_, _/_, _≤_}
 use native.Mathlib.Omega.{arith}
 use lib.ListN.{length}
-use Rattle.replay_accessors.specs.Questions.{aboutKey, firstKeys}
-use Rattle.replay_accessors.specs.declared.matched.Matched.{Matched}
+use Rattle.replay_accessors.specs.Questions.{firstKeys}
 use Rattle.replay_accessors.proofs.questions.about_keys.Statement.{statement}
 use Rattle.replay_accessors.proofs.questions.about_keys.Tie as tie
 

@@ -5,11 +5,11 @@ use mathlib.Core.Path.{_≡_, sym}
 use mathlib.Core.Bool.{true, false}
 use Prim.Native.Nat.{ℕ, _≤_, _<_}
 use native.Mathlib.Omega.{arith}
-use borrow.Author.Tests.{le-leb, eq-eqb, ne-eqb}
+use borrow.Author.Tests.{le-leb, ne-eqb}
 use lib.Dec.{leb}
 use Rattle.text.specs.Class.{classOf, isWhiteSpaceByte}
 use Rattle.text.specs.Tests.{or-false}
-use Rattle.text.specs.Bytes.{is-inside, below-inside, above-inside}
+use Rattle.text.specs.Bytes.{below-inside, above-inside}
 use Rattle.text.proofs.Table.{Answers, answer}
 use Rattle.text.proofs.class.is_white_space_byte.Statement.{statement}
 use Rattle.text.proofs.class.is_white_space_byte.Tie as tie
