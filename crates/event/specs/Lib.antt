@@ -7,6 +7,8 @@ pub mod Encode
 pub mod Read
 -- what an answer means, by the encodings
 pub mod Meaning
+-- event bytes as a list of events
+pub mod EventList
 -- worked encodings
 pub mod Examples
 -- the laws of numbers
@@ -21,3 +23,5 @@ pub mod WrittenIsRead
 pub mod ReadIsWritten
 -- what the reader's answers are worth
 pub mod ReadLaws
+-- where the events of a list stand
+pub mod EventListLaws

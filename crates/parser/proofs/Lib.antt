@@ -13,3 +13,5 @@ mod Turns
 mod Heads
 -- from the inner calls to the public promises
 mod Wholes
+-- the run over a list of events
+pub mod EventRun

@@ -53,7 +53,7 @@ filled-longer n size ps q p e l h z =
     ∙ ap (λ (l : List ℕ). numbers ps ++ l) (replicate-append-replicate (n - length ps * 4) (size - n) 0 ∙ ap (λ (m : ℕ). replicate m 0) k)
 
 -- what the walk's contract says, by the list it has
-pub walks-of : (size : ℕ) (o : Option (List Piece)) (r : Walked) (p : List ℕ) → r ≡ answerOf size o → p ≡ bufferOf size o → Walks size o r p
+pub walks-of : (size : ℕ) (o : Option (List Piece)) (r : Walked) (p : List ℕ) → r ≡ answerOf (size / 4) o → p ≡ bufferOf size o → Walks size o r p
 unfolding answerOf bufferOf
 walks-of size none r p e f = rw e f
 walks-of size (some ps) r p e f = go (leb (length ps) (size / 4)) refl e f

@@ -11,6 +11,8 @@ pub mod Collection
 pub mod Machine
 -- the equations of the run
 pub mod RunLaws
+-- the machine over a list of events
+pub mod EventRun
 -- nodes and pieces laid out in the buffers
 pub mod Layout
 -- the two public calls

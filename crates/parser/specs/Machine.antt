@@ -11,6 +11,8 @@ use lib.Dec.{eqb, ltb, leb}
 use lib.ListN.{length}
 use Rattle.text.specs.Offset.{byteOffset}
 use Rattle.provenance.specs.Reading.{Piece}
+use Rattle.provenance.specs.Layout.{walkedNumber}
+use Rattle.provenance.specs.declared.walk.Walked.the-variants.{NoRoom}
 use Rattle.event.specs.Read.{partOf, readEvent}
 use Rattle.event.specs.declared.string.Part.{Part}
 use Rattle.event.specs.declared.tag.YamlTag.{YamlTag}
@@ -96,7 +98,7 @@ aliased text room index st = beforeRoot st (withinRoom room st (go (completed (a
 unfoldable pub keeping : ℕ → Node → Option (List Piece) → State → Next
 keeping pieceRoom x none st = go (completed x st)
 keeping pieceRoom x (some ps) st =
-    pick (ltb pieceRoom (length (st .pieces) + length ps)) (stop 8)
+    pick (ltb pieceRoom (length (st .pieces) + length ps)) (stop (walkedNumber NoRoom))
     (go (completed (withList x (length (st .pieces)) (length ps)) (record { nodes = st .nodes; opens = st .opens; pieces = st .pieces ++ ps })))
 
 -- a scalar whose marker index is `index`

@@ -11,7 +11,7 @@ use Rattle.provenance.specs.declared.walk.Walked.the-variants.{NoList}
 use Rattle.provenance.specs.Run.{pick, onlyNewlines}
 use Rattle.provenance.specs.Grammar.{isBlock, rulesOf}
 use Rattle.provenance.specs.Reading.{Piece, readingOf}
-use Rattle.provenance.specs.Layout.{zeros, answerOf, bufferOf, piecesIf}
+use Rattle.provenance.specs.Layout.{room, zeros, answerOf, bufferOf, piecesIf}
 use Rattle.provenance.specs.Start.{isQuoted, isHeader, atEmptyBlockHeader, headerEnd, walkStart, listFrom, scalarList}
 use Rattle.provenance.specs.Tests.{and-no}
 
@@ -59,15 +59,15 @@ module _ (text : List ℕ) (start len : ℕ) (value : List ℕ) (style column : 
   list = scalarList text start len value style column
 
   pub cannot-start : (buf : List ℕ) → buf ≡ zeros (length buf) → (first : ℕ) → first ≡ walkStart text start len value style → isBoundary text first ≡ false
-      → (NoList ≡ answerOf (length buf) list) × (buf ≡ bufferOf (length buf) list)
+      → (NoList ≡ answerOf (room (length buf)) list) × (buf ≡ bufferOf (length buf) list)
   unfolding scalarList listFrom answerOf bufferOf
   cannot-start buf z first e b =
       let no : isBoundary text (walkStart text start len value style) ≡ false = ap (isBoundary text) (sym e) ∙ b in
       (rw no, rw no z)
 
   pub can-start : (size first : ℕ) → first ≡ walkStart text start len value style → isBoundary text first ≡ true → (w : Walked) (buf : List ℕ)
-      → (w ≡ answerOf size (piecesIf first (readingOf (rulesOf style column) (drop first text) value))) × (buf ≡ bufferOf size (piecesIf first (readingOf (rulesOf style column) (drop first text) value)))
-      → (w ≡ answerOf size list) × (buf ≡ bufferOf size list)
+      → (w ≡ answerOf (room size) (piecesIf first (readingOf (rulesOf style column) (drop first text) value))) × (buf ≡ bufferOf size (piecesIf first (readingOf (rulesOf style column) (drop first text) value)))
+      → (w ≡ answerOf (room size) list) × (buf ≡ bufferOf size list)
   unfolding scalarList listFrom
   can-start size first e b w buf h =
       let yes : isBoundary text (walkStart text start len value style) ≡ true = ap (isBoundary text) (sym e) ∙ b in

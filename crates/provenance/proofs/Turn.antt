@@ -16,6 +16,7 @@ use Rattle.provenance.specs.Reading.{Reads, sourceLen, contentLen, Piece
 use Rattle.provenance.specs.Layout.{pieceSize, room, zeros, numbers, filled}
 use Rattle.provenance.specs.Writing.{fourAt, putPiece, putOpen, countOpen, putReplacement, clearedTo, writtenLen}
 use Rattle.text.specs.Tests.{by-order}
+use Rattle.provenance.specs.Escape.{Reach}
 use Rattle.provenance.specs.StepLaws.{Fair}
 use Rattle.provenance.specs.PieceLaws.{closed, laid}
 
@@ -167,7 +168,7 @@ clear-all m ps buf k h e =
 
 -- ---- the walk
 
-module _ (at : ℕ → ℕ → Step) (L len base m : ℕ) where
+module _ (reach : Reach) (at : ℕ → ℕ → Step) (L len base m : ℕ) where
   -- a reading from here on gives one from the start, and the other way round; its pieces are those written and those of the rest
   pub record Going (buf : List ℕ) (s v from n : ℕ) : Type 0 where
     pub written : List Piece
@@ -176,8 +177,8 @@ module _ (at : ℕ → ℕ → Step) (L len base m : ℕ) where
     pub on : (ts : List Step) → Reads at len s v ts → (us : List Step) × Reads at len 0 0 us × (laid base base us ≡ written ++ laid (base + from) (base + s) ts)
     pub back : (us : List Step) → Reads at len 0 0 us → (ts : List Step) × Reads at len s v ts × (laid base base us ≡ written ++ laid (base + from) (base + s) ts)
     pub in-run : from ≤ s
-    pub in-source : s ≤ L + 4
-    pub in-value : v ≤ len + 2
+    pub in-source : s ≤ L + reach .past
+    pub in-value : v ≤ len + (reach .content - 1)
     pub few : n ≤ from + 1
     pub fewer : v < len → n ≤ from
 
@@ -208,7 +209,7 @@ module _ (at : ℕ → ℕ → Step) (L len base m : ℕ) where
       let q : u ≡ t = sym (r .1) ∙ e in
       (us, ap (λ (x : Step). x ∷ us) q, subst (λ (x : Step). Reads at len (s + sourceLen x) (v + contentLen x) us) q (r .3))
 
-  module _ (fair : Fair at L len) (buf : List ℕ) (s v from n : ℕ) (h : Going buf s v from n) where
+  module _ (fair : Fair reach at L len) (buf : List ℕ) (s v from n : ℕ) (h : Going buf s v from n) where
     -- with the open run written
     abbrev W : List Piece
     W = h .written ++ closed (base + from) (base + s)
@@ -301,14 +302,14 @@ module _ (at : ℕ → ℕ → Step) (L len base m : ℕ) where
       let ev : v ≡ v + 0 = omega arith in
       subst (λ (x : ℕ). Going buf x (v + 0) from n) es (subst (λ (x : ℕ). Going buf s x from n) ev h)
 
-  one-letter : (fair : Fair at L len) (buf : List ℕ) (s v from n k : ℕ) → Going buf (s + k) (v + k) from n → v + k < len
+  one-letter : (fair : Fair reach at L len) (buf : List ℕ) (s v from n k : ℕ) → Going buf (s + k) (v + k) from n → v + k < len
       → at (s + k) (v + k) ≡ Verbatim 1 → Going buf (s + suc k) (v + suc k) from n
   one-letter fair buf s v from n k h more e =
       let es : s + k + 1 ≡ s + suc k = omega arith in
       let ev : v + k + 1 ≡ v + suc k = omega arith in
       subst (λ (x : ℕ). Going buf x (v + suc k) from n) es (subst (λ (x : ℕ). Going buf (s + k + 1) x from n) ev (on-verbatim fair buf (s + k) (v + k) from n h more 1 e))
 
-  pub on-letters : (fair : Fair at L len) (buf : List ℕ) (s v from n k : ℕ) → Going buf s v from n → v + k ≤ len
+  pub on-letters : (fair : Fair reach at L len) (buf : List ℕ) (s v from n k : ℕ) → Going buf s v from n → v + k ≤ len
       → ((j : ℕ) → j < k → at (s + j) (v + j) ≡ Verbatim 1) → Going buf (s + k) (v + k) from n
   on-letters fair buf s v from n zero h b all = no-letter buf s v from n h
   on-letters fair buf s v from n (suc k) h b all =

@@ -10,7 +10,7 @@ use Rattle.provenance.specs.declared.step.Step.{Step}
 use Rattle.provenance.specs.declared.step.Step.the-variants.{NoStep}
 use Rattle.provenance.specs.declared.walk.Walked.{Walked}
 use Rattle.provenance.specs.declared.walk.Walked.the-variants.{Listed, NoRoom, NoList}
-use Rattle.provenance.specs.Escape.{FairTable}
+use Rattle.provenance.specs.Escape.{Reach, FairTable}
 use Rattle.provenance.specs.Grammar.{Rules, stepAt}
 use Rattle.provenance.specs.Reading.{Reads, readingOf, Piece}
 use Rattle.provenance.specs.Layout.{room, zeros, answerOf, bufferOf, piecesIf}
@@ -20,7 +20,7 @@ use Rattle.provenance.specs.ReadingLaws.{reading-is-found, no-reading-fo
 use Rattle.provenance.specs.PieceLaws.{laid, laid-is}
 use Rattle.provenance.proofs.Turn.{Kept, Going, on-none, at-end, end-count, end-kept, clear-all}
 
-module _ (r : Rules) (fair : FairTable (r .escapes)) (src val : List ℕ) (base m : ℕ) where
+module _ (r : Rules) {reach : Reach} (fair : FairTable (r .escapes) reach) (src val : List ℕ) (base m : ℕ) where
   abbrev at : ℕ → ℕ → Step
   at = stepAt r src val
 
@@ -29,35 +29,35 @@ module _ (r : Rules) (fair : FairTable (r .escapes)) (src val : List ℕ) (base 
 
   -- what a call hands back and leaves
   abbrev pub Ends : Walked → List ℕ → Type 0
-  Ends w buf = (w ≡ answerOf m result) × (buf ≡ bufferOf m result)
+  Ends w buf = (w ≡ answerOf (room m) result) × (buf ≡ bufferOf m result)
 
-  abbrev walk-fair : Fair at (length src) (length val)
+  abbrev walk-fair : Fair reach at (length src) (length val)
   walk-fair = grammar-fair r fair src val
 
-  module _ (buf : List ℕ) (s v from n : ℕ) (h : Going at (length src) (length val) base m buf s v from n) where
+  module _ (buf : List ℕ) (s v from n : ℕ) (h : Going reach at (length src) (length val) base m buf s v from n) where
     pub ends-stuck : v < length val → at s v ≡ NoStep → (k : ℕ) (buf′ : List ℕ) → k ≡ writtenLen n m → buf′ ≡ clearedTo k buf → Ends NoList buf′
     unfolding piecesIf answerOf bufferOf
     ends-stuck more e k buf′ ek eb =
-        let none-found : readingOf r src val ≡ none = no-reading-found r fair src val (on-none at (length src) (length val) base m walk-fair buf s v from n h more e) in
+        let none-found : readingOf r src val ≡ none = no-reading-found r fair src val (on-none reach at (length src) (length val) base m walk-fair buf s v from n h more e) in
         let z : clearedTo k buf ≡ zeros m = clear-all m (h .written) buf k (h .held) (ek ∙ ap (λ (j : ℕ). writtenLen j m) (sym (h .count))) in
         (rw none-found, rw none-found (eb ∙ z))
 
     module _ (end : length val ≤ v) where
       abbrev ts : List Step
-      ts = at-end at (length src) (length val) base m walk-fair buf s v from n h end .0
+      ts = at-end reach at (length src) (length val) base m walk-fair buf s v from n h end .0
 
       reads : Reads at (length val) 0 0 ts
-      reads = at-end at (length src) (length val) base m walk-fair buf s v from n h end .1
+      reads = at-end reach at (length src) (length val) base m walk-fair buf s v from n h end .1
 
       is-found : result ≡ some (laid base base ts)
       unfolding piecesIf
       is-found = ap (piecesIf base) (reading-is-found r fair src val ts reads) ∙ ap some (sym (laid-is at (length src) (length val) walk-fair base ts reads))
 
       count-is : length (laid base base ts) ≡ countOpen n from s
-      count-is = end-count at (length src) (length val) base m walk-fair buf s v from n h end
+      count-is = end-count reach at (length src) (length val) base m walk-fair buf s v from n h end
 
       kept-is : Kept m (laid base base ts) (putOpen buf n base from s)
-      kept-is = end-kept at (length src) (length val) base m walk-fair buf s v from n h end
+      kept-is = end-kept reach at (length src) (length val) base m walk-fair buf s v from n h end
 
       module _ (n′ : ℕ) (buf′ : List ℕ) (en : n′ ≡ countOpen n from s) (eb : buf′ ≡ putOpen buf n base from s) where
         pub ends-listed : n′ ≤ room m → Ends (Listed n′) buf′

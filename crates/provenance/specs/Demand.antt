@@ -1,6 +1,6 @@
--- Demand 3, as one record with a field for each of its clauses, over any rules: of a text, the walk's first byte in it, a value, the size
--- of the lent buffer, and the answer and the buffer that a walk leaves. `DemandLaws` proves it of every answer and buffer that the
--- contract of `scalar::scalar_provenance` allows.
+-- Demand 3, as one record with a field for each of its clauses: of a text, the walk's first byte in it, a value, how many pieces are let in
+-- (row 8), the walk's answer, and the pieces that it leaves. The rules of the style are a parameter, and so is how far their escapes
+-- reach. `DemandLaws` proves it of the walk; of the public calls it is proved in `parser`.
 use Prim.{Unit}
 use Prim.Native.Nat.{ℕ, _+_, _≤_, _<_}
 use mathlib.Core.Path.{_≡_}
@@ -12,9 +12,10 @@ use Rattle.provenance.specs.declared.step.Step.{Step}
 use Rattle.provenance.specs.declared.step.Step.the-variants.{NoStep}
 use Rattle.provenance.specs.declared.walk.Walked.{Walked}
 use Rattle.provenance.specs.declared.walk.Walked.the-variants.{Listed, NoRoom, NoList}
+use Rattle.provenance.specs.Escape.{Reach}
 use Rattle.provenance.specs.Grammar.{Rules, breakStep, escapeStep}
 use Rattle.provenance.specs.Reading.{Reading, sourceLen, contentLen, Piece, verbatim, piecesOf}
-use Rattle.provenance.specs.Layout.{room, zeros, filled}
+use Rattle.provenance.specs.Layout.{walkedNumber}
 
 -- accepted: ended with a list, even an empty one, or with 8 (S13)
 abbrev pub Accepts : Walked → Type 0
@@ -31,6 +32,11 @@ unfoldable pub Follow : List Piece → Type 0
 Follow [] = Unit {0}
 Follow (p ∷ []) = Unit {0}
 Follow (p ∷ q ∷ ps) = (q .start ≡ p .end) × Follow (q ∷ ps)
+
+-- no piece ends past the place e
+unfoldable pub EndBy : ℕ → List Piece → Type 0
+EndBy e [] = Unit {0}
+EndBy e (p ∷ ps) = (p .end ≤ e) × EndBy e ps
 
 -- the file bytes of a piece are as many bytes of the value from the content place c on
 pub record Copied (text value : List ℕ) (c : ℕ) (p : Piece) : Type 0 where
@@ -54,27 +60,34 @@ EscapeLast r src val s v [] = ⊥
 EscapeLast r src val s v (t ∷ []) = (breakStep r (drop s src) (drop v val) ≡ NoStep) × (escapeStep r (drop s src) ≡ t)
 EscapeLast r src val s v (t ∷ u ∷ ts) = EscapeLast r src val (s + sourceLen t) (v + contentLen t) (u ∷ ts)
 
-pub record Demand3 (r : Rules) (text : List ℕ) (first : ℕ) (value : List ℕ) (size : ℕ) (answer : Walked) (buffer : List ℕ) : Type 0 where
+-- a reading of the value in the file bytes from `first` on, and all that holds of its pieces ps
+pub record ReadingPieces (r : Rules) (reach : Reach) (text : List ℕ) (first : ℕ) (value : List ℕ) (ps : List Piece) : Type 0 where
+  pub steps : List Step
+  pub reading : Reading r (drop first text) value steps
+  pub pieces : ps ≡ piecesOf first steps
+  -- the first piece starts at the walk's first byte, every other where the one before it ends
+  pub first-start : StartsAt first ps
+  pub tiling : Follow ps
+  -- only an escape that the text's end cuts off passes it, by no more than its table says
+  pub ends : EndBy (length text + reach .past) ps
+  -- verbatim pieces hold the value's bytes
+  pub copied : AllCopied text value 0 ps
+  -- the content lengths sum to the value's length, to more only where the last step is an escape, and by less than an escape's content
+  pub content :
+      (contents ps ≡ length value)
+      ⊎ (EscapeLast r (drop first text) value 0 0 steps × (length value < contents ps) × (contents ps < length value + reach .content))
+
+pub record Demand3 (r : Rules) (reach : Reach) (text : List ℕ) (first : ℕ) (value : List ℕ) (room : ℕ) (answer : Walked) (left : List Piece) : Type 0 where
+  -- any two readings are the same
+  pub unique : (ts us : List Step) → Reading r (drop first text) value ts → Reading r (drop first text) value us → ts ≡ us
   -- the walk accepts exactly when it starts at a boundary of the text and a reading exists
   pub accepts-only : Accepts answer → Boundary text first × ((ts : List Step) × Reading r (drop first text) value ts)
   pub accepts-if : Boundary text first → (ts : List Step) → Reading r (drop first text) value ts → Accepts answer
-  -- with 8 exactly when it can start and its reading's pieces are more than the room lets in
-  pub no-room-only : answer ≡ NoRoom
-      → Boundary text first × ((ts : List Step) × Reading r (drop first text) value ts × (room size < length (piecesOf first ts)))
-  pub no-room-if : Boundary text first → (ts : List Step) → Reading r (drop first text) value ts → room size < length (piecesOf first ts)
-      → answer ≡ NoRoom
-  -- any two readings are the same
-  pub unique : (ts us : List Step) → Reading r (drop first text) value ts → Reading r (drop first text) value us → ts ≡ us
-  -- a list that is left is the reading's pieces in order, and zeros; otherwise all is zero
-  pub list : (n : ℕ) → answer ≡ Listed n → (ts : List Step) → Reading r (drop first text) value ts
-      → (n ≡ length (piecesOf first ts)) × (buffer ≡ filled size (piecesOf first ts))
-  pub nothing-left : ((n : ℕ) → answer ≡ Listed n → ⊥) → buffer ≡ zeros size
-  -- the first piece starts at the walk's first byte, every other where the one before it ends
-  pub first-start : (ts : List Step) → Reading r (drop first text) value ts → StartsAt first (piecesOf first ts)
-  pub tiling : (ts : List Step) → Reading r (drop first text) value ts → Follow (piecesOf first ts)
-  -- verbatim pieces hold the value's bytes
-  pub copied : (ts : List Step) → Reading r (drop first text) value ts → AllCopied text value 0 (piecesOf first ts)
-  -- the content lengths sum to the value's length, one or two more only where the last step is an escape
-  pub content : (ts : List Step) → Reading r (drop first text) value ts
-      → (contents (piecesOf first ts) ≡ length value)
-      ⊎ (EscapeLast r (drop first text) value 0 0 ts × ((contents (piecesOf first ts) ≡ length value + 1) ⊎ (contents (piecesOf first ts) ≡ length value + 2)))
+  -- with 8 exactly when it can start and its reading's pieces are more than are let in
+  pub no-room-only : walkedNumber answer ≡ 8
+      → Boundary text first × ((ts : List Step) × Reading r (drop first text) value ts × (room < length (piecesOf first ts)))
+  pub no-room-if : Boundary text first → (ts : List Step) → Reading r (drop first text) value ts → room < length (piecesOf first ts)
+      → walkedNumber answer ≡ 8
+  -- a list that is left is that of a reading, with all that holds of it; otherwise nothing is left
+  pub listed : (n : ℕ) → answer ≡ Listed n → (n ≡ length left) × (length left ≤ room) × Boundary text first × ReadingPieces r reach text first value left
+  pub nothing-left : ((n : ℕ) → answer ≡ Listed n → ⊥) → left ≡ []

@@ -1,11 +1,11 @@
--- Demand 3 holds: `demand3` over any rules with a fair table of escapes, `demand3-of-scalars` of every scalar. Assumes nothing.
+-- Demand 3 holds of the walk: `demand3` over any rules with a fair table of escapes, `demand3-of-scalars` of every scalar.
 use mathlib.Core.Path.{_≡_, refl, sym, ap, _∙_, subst}
 use mathlib.Core.Bool.{true}
 use mathlib.Core.Option.{Option, none, some}
 use mathlib.Core.Logic.{_⊎_, inl, inr}
 use mathlib.Core.List.{List, [], _∷_}
 use Prim.{tt}
-use Prim.Native.Nat.{ℕ, _+_, _≤_, _<_}
+use Prim.Native.Nat.{ℕ, _+_, _-_, _*_, _≤_, _<_}
 use native.Mathlib.Omega.{arith}
 use lib.ListN.{length, take, drop, length-drop}
 use borrow.Author.Tests.{le-leb, lt-leb}
@@ -15,68 +15,70 @@ use Rattle.provenance.specs.declared.step.Step.{Step}
 use Rattle.provenance.specs.declared.step.Step.the-variants.{Verbatim, Replacement, NoStep}
 use Rattle.provenance.specs.declared.walk.Walked.{Walked}
 use Rattle.provenance.specs.declared.walk.Walked.the-variants.{Listed, NoRoom, NoList}
-use Rattle.provenance.specs.Escape.{FairTable}
+use Rattle.provenance.specs.Escape.{Reach, FairTable, escapesReach}
 use Rattle.provenance.specs.Grammar.{Rules, stepAt, rulesOf}
 use Rattle.provenance.specs.Reading.{Reads, Reading, sourceLen, contentLen, readingOf, Piece, piecesOf}
-use Rattle.provenance.specs.Layout.{room, zeros, filled, answerOf, bufferOf, piecesIf}
+use Rattle.provenance.specs.Layout.{room, zeros, numbers, filled, walkedNumber, answerOf, leftOf, bufferOf, piecesIf}
 use Rattle.provenance.specs.Start.{walkStart, listFrom, scalarList}
-use Rattle.provenance.specs.Demand.{Accepts, StartsAt, Follow, AllCopied, contents, EscapeLast, Demand3}
+use Rattle.provenance.specs.Demand.{Accepts, StartsAt, Follow, EndBy, AllCopied, contents, EscapeLast, ReadingPieces, Demand3}
 use Rattle.text.specs.Tests.{by-order}
 use Rattle.provenance.specs.Tests.{by-answer}
 use Rattle.provenance.specs.EscapeLaws.{style-fair}
 use Rattle.provenance.specs.StepLaws.{Fair, grammar-fair, step-same, step-past}
 use Rattle.provenance.specs.ReadingLaws.{reading-unique, found-is-reading, reading-is-found}
-use Rattle.provenance.specs.PieceLaws.{laid-is, first-starts, others-follow, contents-are, valueEnd, value-end, all-copied}
+use Rattle.provenance.specs.PieceLaws.{laid, laid-is, first-starts, others-follow, all-ended, contents-are, valueEnd, value-end, all-copied}
 
--- ---- answers and buffers of a list
+-- ---- answers and what is left of a list
 
-none-accepted : (size : ℕ) → Accepts (answerOf size none) → ⊥
+none-accepted : (most : ℕ) → Accepts (answerOf most none) → ⊥
 unfolding answerOf
-none-accepted size a = a
+none-accepted most a = a
 
-some-accepted : (size : ℕ) (ps : List Piece) → Accepts (answerOf size (some ps))
+some-accepted : (most : ℕ) (ps : List Piece) → Accepts (answerOf most (some ps))
 unfolding answerOf
-some-accepted size ps = by-order (room size) (length ps) (λ lt. rw (lt-leb _ _ lt) tt) (λ le. rw (le-leb _ _ le) tt)
-
-no-list-no-room : NoList ≡ NoRoom → ⊥
-no-list-no-room h = let z : _≡_ {A = ℕ} 0 1 = cc in omega arith
-
-listed-no-room : (n : ℕ) → Listed n ≡ NoRoom → ⊥
-listed-no-room n h = let z : _≡_ {A = ℕ} 0 1 = cc in omega arith
+some-accepted most ps = by-order most (length ps) (λ lt. rw (lt-leb _ _ lt) tt) (λ le. rw (le-leb _ _ le) tt)
 
 no-room-listed : (n : ℕ) → NoRoom ≡ Listed n → ⊥
 no-room-listed n h = let z : _≡_ {A = ℕ} 0 1 = cc in omega arith
 
-none-no-room : (size : ℕ) → answerOf size none ≡ NoRoom → ⊥
-unfolding answerOf
-none-no-room size h = no-list-no-room h
+no-list-listed : (n : ℕ) → NoList ≡ Listed n → ⊥
+no-list-listed n h = let z : _≡_ {A = ℕ} 0 1 = cc in omega arith
 
-some-no-room : (size : ℕ) (ps : List Piece) → answerOf size (some ps) ≡ NoRoom → room size < length ps
+none-no-room : (most : ℕ) → walkedNumber (answerOf most none) ≡ 8 → ⊥
 unfolding answerOf
-some-no-room size ps h = by-order (room size) (length ps) (λ lt. lt) (λ le. absurd (listed-no-room (length ps) (rw (le-leb _ _ le) at h)))
+none-no-room most h = omega arith
 
-no-room-is : (size : ℕ) (ps : List Piece) → room size < length ps → answerOf size (some ps) ≡ NoRoom
+some-no-room : (most : ℕ) (ps : List Piece) → walkedNumber (answerOf most (some ps)) ≡ 8 → most < length ps
 unfolding answerOf
-no-room-is size ps lt = rw (lt-leb _ _ lt)
+some-no-room most ps h =
+    by-order most (length ps) (λ lt. lt) (λ le. absurd (let z : _≡_ {A = ℕ} 0 8 = rw (le-leb _ _ le) at h in omega arith))
 
-listed-is : (size : ℕ) (ps : List Piece) (n : ℕ) → answerOf size (some ps) ≡ Listed n → (n ≡ length ps) × (bufferOf size (some ps) ≡ filled size ps)
-unfolding answerOf bufferOf
-listed-is size ps n h =
-    by-order (room size) (length ps)
+no-room-is : (most : ℕ) (ps : List Piece) → most < length ps → walkedNumber (answerOf most (some ps)) ≡ 8
+unfolding answerOf
+no-room-is most ps lt = rw (lt-leb _ _ lt)
+
+listed-is : (most : ℕ) (ps : List Piece) (n : ℕ) → answerOf most (some ps) ≡ Listed n → (n ≡ length ps) × (length ps ≤ most) × (leftOf most (some ps) ≡ ps)
+unfolding answerOf leftOf
+listed-is most ps n h =
+    by-order most (length ps)
     (λ lt. absurd (no-room-listed n (rw (lt-leb _ _ lt) at h)))
-    (λ le. let e : Listed (length ps) ≡ Listed n = rw (le-leb _ _ le) at h in let e′ : length ps ≡ n = cc in (sym e′, rw (le-leb _ _ le)))
+    (λ le. let e : Listed (length ps) ≡ Listed n = rw (le-leb _ _ le) at h in let e′ : length ps ≡ n = cc in (sym e′, le, rw (le-leb _ _ le)))
 
-nothing-listed : (size : ℕ) (o : Option (List Piece)) → ((n : ℕ) → answerOf size o ≡ Listed n → ⊥) → bufferOf size o ≡ zeros size
-unfolding answerOf bufferOf
-nothing-listed size none h = refl
-nothing-listed size (some ps) h =
-    by-order (room size) (length ps)
+none-listed : (most n : ℕ) → answerOf most none ≡ Listed n → ⊥
+unfolding answerOf
+none-listed most n h = no-list-listed n h
+
+nothing-listed : (most : ℕ) (o : Option (List Piece)) → ((n : ℕ) → answerOf most o ≡ Listed n → ⊥) → leftOf most o ≡ []
+unfolding answerOf leftOf
+nothing-listed most none h = refl
+nothing-listed most (some ps) h =
+    by-order most (length ps)
     (λ lt. rw (lt-leb _ _ lt))
     (λ le. absurd (h (length ps) (rw (le-leb _ _ le))))
 
 -- ---- a walk's list is its reading's pieces
 
-module _ (r : Rules) (fair : FairTable (r .escapes)) (text : List ℕ) (first : ℕ) (value : List ℕ) where
+module _ (r : Rules) {reach : Reach} (fair : FairTable (r .escapes) reach) (text : List ℕ) (first : ℕ) (value : List ℕ) where
   abbrev src : List ℕ
   src = drop first text
 
@@ -98,7 +100,7 @@ module _ (r : Rules) (fair : FairTable (r .escapes)) (text : List ℕ) (first : 
   abbrev at : ℕ → ℕ → Step
   at = stepAt r src value
 
-  walk-fair : Fair at (length src) (length value)
+  walk-fair : Fair reach at (length src) (length value)
   walk-fair = grammar-fair r fair src value
 
   -- past the value's end only by an escape at last
@@ -113,62 +115,94 @@ module _ (r : Rules) (fair : FairTable (r .escapes)) (text : List ℕ) (first : 
   escape-last s v (NoStep ∷ []) h m k = absurd (h .2)
   escape-last s v (t ∷ u ∷ us) h m k = escape-last (s + sourceLen t) (v + contentLen t) (u ∷ us) (h .3) (let more = h .3 .0 in omega arith) k
 
-  content-of : (ts : List Step) → Reading r src value ts
-      → (contents (piecesOf first ts) ≡ length value)
-      ⊎ (EscapeLast r src value 0 0 ts × ((contents (piecesOf first ts) ≡ length value + 1) ⊎ (contents (piecesOf first ts) ≡ length value + 2)))
-  content-of ts h =
-      let e : contents (piecesOf first ts) ≡ valueEnd 0 ts =
-      ap contents (sym (laid-is at (length src) (length value) walk-fair first ts h)) ∙ contents-are at (length src) (length value) walk-fair first ts h in
-      let b = value-end at (length src) (length value) walk-fair 0 0 ts (omega arith) h in
-      by-order (length value) (valueEnd 0 ts)
-      (λ lt.
-      inr (
-        escape-last 0 0 ts h (omega arith) lt,
-        by-order (length value + 1) (valueEnd 0 ts) (λ two. inr (omega arith)) (λ one. inl (omega arith)),
-      ))
-      (λ le. inl (omega arith))
-
   equal-bytes : (s v n : ℕ) → v < length value → at s v ≡ Verbatim n → take n (drop s src) ≡ take n (drop v value)
   equal-bytes s v n more e = step-same r fair (drop s src) (drop v value) n e .3
 
-  pub demand3 : (size : ℕ) → Demand3 r text first value size (answerOf size (listFrom r text first value)) (bufferOf size (listFrom r text first value))
-  demand3 size =
+  module _ (ts : List Step) (h : Reading r src value ts) where
+    -- the pieces as they are laid
+    is-laid : laid first first ts ≡ piecesOf first ts
+    is-laid = laid-is at (length src) (length value) walk-fair first ts h
+
+    content-of :
+        (contents (piecesOf first ts) ≡ length value)
+        ⊎ (EscapeLast r src value 0 0 ts × (length value < contents (piecesOf first ts)) × (contents (piecesOf first ts) < length value + reach .content))
+    content-of =
+        let e : contents (piecesOf first ts) ≡ valueEnd 0 ts = ap contents (sym is-laid) ∙ contents-are at (length src) (length value) walk-fair first ts h in
+        let b = value-end at (length src) (length value) walk-fair 0 0 ts (omega arith) h in
+        by-order (length value) (valueEnd 0 ts) (λ lt. inr (escape-last 0 0 ts h (omega arith) lt, omega arith, omega arith)) (λ le. inl (omega arith))
+
+    ends-by : Boundary text first → EndBy (length text + reach .past) (piecesOf first ts)
+    ends-by b =
+        let d : length src ≡ length text - first = length-drop first text in
+        let w = b .within in
+        let e : first + (length src + reach .past) ≡ length text + reach .past = omega arith in
+        subst (λ (n : ℕ). EndBy n (piecesOf first ts)) e
+        (subst (λ (l : List Piece). EndBy (first + (length src + reach .past)) l) is-laid (all-ended at (length src) (length value) walk-fair first ts h))
+
+    -- all that holds of a reading's pieces
+    pub reading-pieces : Boundary text first → ReadingPieces r reach text first value (piecesOf first ts)
+    reading-pieces b =
+        record {
+          steps = ts;
+          reading = h;
+          pieces = refl;
+          first-start = subst (λ (l : List Piece). StartsAt first l) is-laid (first-starts at (length src) (length value) walk-fair first ts h);
+          tiling = subst (λ (l : List Piece). Follow l) is-laid (others-follow at (length src) (length value) walk-fair first ts h);
+          ends = ends-by b;
+          copied = subst (λ (l : List Piece). AllCopied text value 0 l) is-laid
+              (all-copied at (length src) (length value) walk-fair text value first refl refl equal-bytes ts h);
+          content = content-of;
+        }
+
+  -- ---- of the walk
+
+  abbrev found : Option (List Piece)
+  found = listFrom r text first value
+
+  left-listed : (most n : ℕ) → answerOf most found ≡ Listed n
+      → (n ≡ length (leftOf most found)) × (length (leftOf most found) ≤ most) × Boundary text first × ReadingPieces r reach text first value (leftOf most found)
+  left-listed most n a =
+      listed-only
+      (λ e. absurd (none-listed most n (ap (answerOf most) (sym e) ∙ a)))
+      (λ b ts h e.
+      let w = listed-is most (piecesOf first ts) n (ap (answerOf most) (sym e) ∙ a) in
+      let is : leftOf most found ≡ piecesOf first ts = ap (leftOf most) e ∙ w .2 in
+      (w .0 ∙ ap length (sym is), rw is (w .1), b, subst (λ (l : List Piece). ReadingPieces r reach text first value l) (sym is) (reading-pieces ts h b)))
+
+  pub demand3 : (most : ℕ) → Demand3 r reach text first value most (answerOf most found) (leftOf most found)
+  demand3 most =
       record {
+        unique = λ ts us p q. reading-unique at (length value) 0 0 ts us p q;
         accepts-only = λ a.
             listed-only
-            (λ e. absurd (none-accepted size (subst (λ (o : Option (List Piece)). Accepts (answerOf size o)) e a)))
+            (λ e. absurd (none-accepted most (subst (λ (o : Option (List Piece)). Accepts (answerOf most o)) e a)))
             (λ b ts h e. (b, (ts, h)));
-        accepts-if = λ b ts h. subst (λ (o : Option (List Piece)). Accepts (answerOf size o)) (sym (listed-if b ts h)) (some-accepted size (piecesOf first ts));
+        accepts-if = λ b ts h. subst (λ (o : Option (List Piece)). Accepts (answerOf most o)) (sym (listed-if b ts h)) (some-accepted most (piecesOf first ts));
         no-room-only = λ a.
             listed-only
-            (λ e. absurd (none-no-room size (ap (answerOf size) (sym e) ∙ a)))
-            (λ b ts h e. (b, (ts, h, some-no-room size (piecesOf first ts) (ap (answerOf size) (sym e) ∙ a))));
-        no-room-if = λ b ts h lt. ap (answerOf size) (listed-if b ts h) ∙ no-room-is size (piecesOf first ts) lt;
-        unique = λ ts us p q. reading-unique at (length value) 0 0 ts us p q;
-        list = λ n a ts h.
-            listed-only
-            (λ e. absurd (none-accepted size (subst (λ (w : Walked). Accepts w) (sym (ap (answerOf size) (sym e) ∙ a)) tt)))
-            (λ b us k e.
-            let same : us ≡ ts = reading-unique at (length value) 0 0 us ts k h in
-            let e′ : listFrom r text first value ≡ some (piecesOf first ts) = e ∙ ap (λ (l : List Step). some (piecesOf first l)) same in
-            let w = listed-is size (piecesOf first ts) n (ap (answerOf size) (sym e′) ∙ a) in
-            (w .0, ap (bufferOf size) e′ ∙ w .1));
-        nothing-left = λ n. nothing-listed size (listFrom r text first value) n;
-        first-start = λ ts h. subst (λ (l : List Piece). StartsAt first l) (laid-is at (length src) (length value) walk-fair first ts h) (first-starts at (length src) (length value) walk-fair first ts h);
-        tiling = λ ts h. subst (λ (l : List Piece). Follow l) (laid-is at (length src) (length value) walk-fair first ts h) (others-follow at (length src) (length value) walk-fair first ts h);
-        copied = λ ts h. subst (λ (l : List Piece). AllCopied text value 0 l) (laid-is at (length src) (length value) walk-fair first ts h)
-            (all-copied at (length src) (length value) walk-fair text value first refl refl equal-bytes ts h);
-        content = λ ts h. content-of ts h;
+            (λ e. absurd (none-no-room most (ap (λ (o : Option (List Piece)). walkedNumber (answerOf most o)) (sym e) ∙ a)))
+            (λ b ts h e. (b, (ts, h, some-no-room most (piecesOf first ts) (ap (λ (o : Option (List Piece)). walkedNumber (answerOf most o)) (sym e) ∙ a))));
+        no-room-if = λ b ts h lt. ap (λ (o : Option (List Piece)). walkedNumber (answerOf most o)) (listed-if b ts h) ∙ no-room-is most (piecesOf first ts) lt;
+        listed = left-listed most;
+        nothing-left = nothing-listed most found;
       }
 
--- of every text, start, span length, value, style, column and room, and what a walk with this contract hands back and leaves
-pub demand3-of-scalars : (text : List ℕ) (start len : ℕ) (value : List ℕ) (style column size : ℕ) (answer : Walked) (buffer : List ℕ)
-    → answer ≡ answerOf size (scalarList text start len value style column)
-    → buffer ≡ bufferOf size (scalarList text start len value style column)
-    → Demand3 (rulesOf style column) text (walkStart text start len value style) value size answer buffer
+-- of every scalar: its walk starts where 01 says, by its start in the text and the length of its span
+pub demand3-of-scalars : (text : List ℕ) (start len : ℕ) (value : List ℕ) (style column most : ℕ)
+    → Demand3 (rulesOf style column) escapesReach text (walkStart text start len value style) value most
+    (answerOf most (scalarList text start len value style column)) (leftOf most (scalarList text start len value style column))
 unfolding scalarList
-demand3-of-scalars text start len value style column size answer buffer ea eb =
-    let r : Rules = rulesOf style column in
-    let first : ℕ = walkStart text start len value style in
-    subst (λ (w : Walked). Demand3 r text first value size w buffer) (sym ea)
-    (subst (λ (l : List ℕ). Demand3 r text first value size (answerOf size (listFrom r text first value)) l) (sym eb) (demand3 r (style-fair style) text first value size))
+demand3-of-scalars text start len value style column most = demand3 (rulesOf style column) (style-fair style) text (walkStart text start len value style) value most
+
+no-pieces : (size : ℕ) → zeros size ≡ filled size []
+unfolding numbers
+no-pieces size = let e : size - 0 * 4 ≡ size = omega arith in rw e refl
+
+-- the numbers that a walk leaves are those of the pieces that it leaves, and zeros
+pub buffer-left : (size : ℕ) (o : Option (List Piece)) → bufferOf size o ≡ filled size (leftOf (room size) o)
+unfolding bufferOf leftOf numbers
+buffer-left size none = no-pieces size
+buffer-left size (some ps) =
+    by-order (room size) (length ps)
+    (λ lt. rw (lt-leb _ _ lt) (no-pieces size))
+    (λ le. rw (le-leb _ _ le))

@@ -22,12 +22,23 @@ use Rattle.provenance.specs.Run.{pick, newline, carriageReturn, whiteRun
 abbrev pub EscapeTable : Type 0
 EscapeTable = List ℕ → Escape
 
--- what demand 3 asks of a table: an escape takes a byte, passes the source's end by at most 4, and stands for at most 3 bytes
-pub record FairTable (escapes : EscapeTable) : Type 0 where
+-- how far the escapes of a table reach: two numbers that belong to it
+pub record Reach : Type 0 where
+  -- how many bytes an escape may claim past the source's end
+  pub past : ℕ
+  -- how many content bytes it may stand for
+  pub content : ℕ
+
+-- what demand 3 asks of a table
+pub record FairTable (escapes : EscapeTable) (reach : Reach) : Type 0 where
+  -- no escape stands at the source's end: only step 4 fits there
   pub some-source : (src : List ℕ) (a b : ℕ) → escapes src ≡ Takes a b → 0 < length src
+  -- an escape takes a byte: so every reading ends
   pub some-taken : (src : List ℕ) (a b : ℕ) → escapes src ≡ Takes a b → 0 < a
-  pub few-past : (src : List ℕ) (a b : ℕ) → escapes src ≡ Takes a b → a ≤ length src + 4
-  pub few-content : (src : List ℕ) (a b : ℕ) → escapes src ≡ Takes a b → b ≤ 3
+  -- so far past the text may a piece end
+  pub few-past : (src : List ℕ) (a b : ℕ) → escapes src ≡ Takes a b → a ≤ length src + reach .past
+  -- by less than this may the contents pass the value's length
+  pub few-content : (src : List ℕ) (a b : ℕ) → escapes src ≡ Takes a b → b ≤ reach .content
 
 abbrev pub quote : ℕ
 quote = 39
@@ -88,6 +99,10 @@ backslashEscape c after =
 
 unfoldable pub doubleQuoteEscapes : EscapeTable
 doubleQuoteEscapes src = pick (eqb (getD src 0 0) backslash) (backslashEscape (getD src 1 0) (drop 1 src)) NoEscape
+
+-- the three reach alike: `\u` with nothing after it claims 6 bytes where 2 are left, and a code has at most 3 bytes
+abbrev pub escapesReach : Reach
+escapesReach = record { past = 4; content = 3 }
 
 -- by style; plain and block scalars have none
 unfoldable pub escapesOf : ℕ → EscapeTable

@@ -20,7 +20,7 @@ use Rattle.measure.specs.Scalar.{singleQuoted, doubleQuoted}
 use Rattle.provenance.specs.declared.escape.Escape.{Escape}
 use Rattle.provenance.specs.declared.escape.Escape.the-variants.{Takes, NoEscape}
 use Rattle.provenance.specs.Run.{pick, newline, carriageReturn, whiteRun}
-use Rattle.provenance.specs.Escape.{FairTable, quote, backslash, plus, digitValue, digitsFrom, digits, radix16, codeContent, singleQuoteEscapes, isOneOf, oneByteEscapes, backslashEscape, doubleQuoteEscapes, escapesOf}
+use Rattle.provenance.specs.Escape.{FairTable, quote, backslash, plus, digitValue, digitsFrom, digits, radix16, codeContent, singleQuoteEscapes, isOneOf, oneByteEscapes, backslashEscape, doubleQuoteEscapes, escapesReach, escapesOf}
 use Rattle.text.specs.Tests.{clash, by-order, and-both}
 use Rattle.provenance.specs.Tests.{by-test, by-answer, picked, either, byte-past, byte-inside}
 use Rattle.provenance.specs.RunLaws.{run-within}
@@ -170,7 +170,7 @@ style-modest style l a b h =
     either (eqb style singleQuoted) (singleQuoteEscapes l) _ (Takes a b) h (single-modest l a b) (λ h₂.
     either (eqb style doubleQuoted) (doubleQuoteEscapes l) NoEscape (Takes a b) h₂ (double-modest l a b) (λ h₃. absurd (no-takes a b h₃)))
 
-pub style-fair : (style : ℕ) → FairTable (escapesOf style)
+pub style-fair : (style : ℕ) → FairTable (escapesOf style) escapesReach
 style-fair style =
     record {
       some-source = λ l a b h. style-modest style l a b h .0;

@@ -87,6 +87,6 @@ k10-left : bufferOf 5 (some (piece replacement 1 7 3 ∷ [])) ≡ 2 ∷ 1 ∷ 7 
 unfolding scalarList listFrom walkStart headerEnd beforeNewline atEmptyBlockHeader isBoundary numbers answerOf bufferOf piecesIf piecesOf joined stepPieces readingOf readBy step endStep equalStep breakStep opensBreak breakPair sameBytes escapesOf doubleQuoteEscapes backslashEscape oneByteEscapes isOneOf singleQuoteEscapes codeContent radix16 digits digitsFrom encode onlyNewlines blankRun cut throughLast newlinesIn whiteRun
 k10-left = refl
 
-k10-no-room : answerOf 3 (some (piece replacement 1 7 3 ∷ [])) ≡ NoRoom
+k10-no-room : answerOf 0 (some (piece replacement 1 7 3 ∷ [])) ≡ NoRoom
 unfolding scalarList listFrom walkStart headerEnd beforeNewline atEmptyBlockHeader isBoundary numbers answerOf bufferOf piecesIf piecesOf joined stepPieces readingOf readBy step endStep equalStep breakStep opensBreak breakPair sameBytes escapesOf doubleQuoteEscapes backslashEscape oneByteEscapes isOneOf singleQuoteEscapes codeContent radix16 digits digitsFrom encode onlyNewlines blankRun cut throughLast newlinesIn whiteRun
 k10-no-room = refl

@@ -30,10 +30,21 @@ numbers (p ∷ ps) = p .kind ∷ p .start ∷ p .end ∷ p .content ∷ numbers 
 abbrev pub filled : ℕ → List Piece → List ℕ
 filled size ps = numbers ps ++ zeros (size - length ps * pieceSize)
 
--- a piece list, or that there is none, as the walk answers it
+-- document 01's number for each answer of a walk
+abbrev pub walkedNumber : Walked → ℕ
+walkedNumber (Listed n) = 0
+walkedNumber NoRoom = 8
+walkedNumber NoList = 0
+
+-- a piece list, or that there is none, as the walk answers it where so many pieces are let in
 unfoldable pub answerOf : ℕ → Option (List Piece) → Walked
-answerOf size none = NoList
-answerOf size (some ps) = pick (leb (length ps) (room size)) (Listed (length ps)) NoRoom
+answerOf most none = NoList
+answerOf most (some ps) = pick (leb (length ps) most) (Listed (length ps)) NoRoom
+
+-- the pieces that are left
+unfoldable pub leftOf : ℕ → Option (List Piece) → List Piece
+leftOf most none = []
+leftOf most (some ps) = pick (leb (length ps) most) ps []
 
 unfoldable pub bufferOf : ℕ → Option (List Piece) → List ℕ
 bufferOf size none = zeros size

@@ -2,6 +2,7 @@
 -- The pieces are laid as a walk writes them: a verbatim run stays open until a replacement or the value's end closes it. That these are
 -- the joined pieces of the steps is `laid-is`. Assumes nothing.
 use mathlib.Core.Path.{_≡_, refl, sym, ap, _∙_, subst}
+use mathlib.Core.Logic.{⊎-elim}
 use mathlib.Core.List.{List, [], _∷_, _++_}
 use Prim.{Unit, tt}
 use Prim.Native.Nat.{ℕ, _+_, _-_, _≤_, _<_}
@@ -13,8 +14,9 @@ use borrow.Author.Tests.{lt-ltb, le-ltb}
 use Rattle.provenance.specs.declared.step.Step.{Step}
 use Rattle.provenance.specs.declared.step.Step.the-variants.{Verbatim, Replacement, NoStep}
 use Rattle.provenance.specs.Run.{pick}
+use Rattle.provenance.specs.Escape.{Reach}
 use Rattle.provenance.specs.Reading.{Reads, contentLen, Piece, piece, verbatim, replacement, stepPieces, joinOn, joined, piecesOf}
-use Rattle.provenance.specs.Demand.{StartsAt, Follow, Copied, AllCopied, contents}
+use Rattle.provenance.specs.Demand.{StartsAt, Follow, EndBy, Copied, AllCopied, contents}
 use Rattle.text.specs.Tests.{by-order}
 use Rattle.provenance.specs.Tests.{by-answer}
 use Rattle.provenance.specs.StepLaws.{Fair}
@@ -66,7 +68,7 @@ unfoldable pub valueEnd : ℕ → List Step → ℕ
 valueEnd v [] = v
 valueEnd v (t ∷ ts) = valueEnd (v + contentLen t) ts
 
-module _ (at : ℕ → ℕ → Step) (L len : ℕ) (fair : Fair at L len) where
+module _ {reach : Reach} (at : ℕ → ℕ → Step) (L len : ℕ) (fair : Fair reach at L len) where
   -- with no run open, and with one
   abbrev AsJoined : ℕ → List Step → Type 0
   AsJoined p ts =
@@ -117,6 +119,22 @@ module _ (at : ℕ → ℕ → Step) (L len : ℕ) (fair : Fair at L len) where
   pub others-follow : (base : ℕ) (ts : List Step) → Reads at len 0 0 ts → Follow (laid base base ts)
   others-follow base ts r = chain-follows base _ (chained 0 0 ts r base base (omega arith))
 
+  -- ---- none ends further past the source than an escape reaches
+
+  ended : (base s v : ℕ) (ts : List Step) → Reads at len s v ts → (from p : ℕ) → p ≡ base + s → s ≤ L + reach .past → EndBy (base + (L + reach .past)) (laid from p ts)
+  unfolding laid Reads EndBy
+  ended base s v [] r from p e h = by-order from p (λ lt. rw (lt-ltb _ _ lt) (omega arith, tt)) (λ le. rw (le-ltb _ _ le) tt)
+  ended base s v (Verbatim n ∷ ts) r from p e h = let b = fair .same s v n (r .0) (r .1) in ended base (s + n) (v + n) ts (r .3) from (p + n) (omega arith) (omega arith)
+  ended base s v (Replacement x y ∷ ts) r from p e h =
+      let b = fair .other s v x y (r .0) (r .1) in
+      let k : s + x ≤ L + reach .past = ⊎-elim (λ w. w .2) (λ w. omega arith) (b .1) in
+      let i = ended base (s + x) (v + y) ts (r .3) (p + x) (p + x) (omega arith) k in
+      by-order from p (λ lt. rw (lt-ltb _ _ lt) (omega arith, (omega arith, i))) (λ le. rw (le-ltb _ _ le) (omega arith, i))
+  ended base s v (NoStep ∷ ts) r from p e h = absurd (r .2)
+
+  pub all-ended : (base : ℕ) (ts : List Step) → Reads at len 0 0 ts → EndBy (base + (L + reach .past)) (laid base base ts)
+  all-ended base ts r = ended base 0 0 ts r base base (omega arith) (omega arith)
+
   -- ---- their contents add up to what the steps take of the value
 
   content-sum : (s v : ℕ) (ts : List Step) → Reads at len s v ts → (from p : ℕ) → from ≤ p → v + contents (laid from p ts) ≡ valueEnd v ts + (p - from)
@@ -131,8 +149,8 @@ module _ (at : ℕ → ℕ → Step) (L len : ℕ) (fair : Fair at L len) where
   pub contents-are : (base : ℕ) (ts : List Step) → Reads at len 0 0 ts → contents (laid base base ts) ≡ valueEnd 0 ts
   contents-are base ts r = let q = content-sum 0 0 ts r base base (omega arith) in omega arith
 
-  -- a reading ends at the value's end, or up to two past it
-  pub value-end : (s v : ℕ) (ts : List Step) → v ≤ len + 2 → Reads at len s v ts → (len ≤ valueEnd v ts) × (valueEnd v ts ≤ len + 2)
+  -- a reading ends at the value's end, or past it by less than an escape's content
+  pub value-end : (s v : ℕ) (ts : List Step) → v ≤ len + (reach .content - 1) → Reads at len s v ts → (len ≤ valueEnd v ts) × (valueEnd v ts ≤ len + (reach .content - 1))
   unfolding Reads valueEnd
   value-end s v [] h r = (r, h)
   value-end s v (Verbatim n ∷ ts) h r = let b = fair .same s v n (r .0) (r .1) in value-end (s + n) (v + n) ts (omega arith) (r .3)

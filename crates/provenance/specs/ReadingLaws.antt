@@ -10,7 +10,7 @@ use lib.ListN.{length}
 use borrow.Author.Tests.{le-leb, lt-leb}
 use Rattle.provenance.specs.declared.step.Step.{Step}
 use Rattle.provenance.specs.declared.step.Step.the-variants.{Verbatim, Replacement, NoStep}
-use Rattle.provenance.specs.Escape.{FairTable}
+use Rattle.provenance.specs.Escape.{Reach, FairTable}
 use Rattle.provenance.specs.Grammar.{Rules, stepAt}
 use Rattle.provenance.specs.Reading.{Reads, Reading, Fits, sourceLen, contentLen, stepThen, readBy, readingOf}
 use Rattle.text.specs.Tests.{by-order}
@@ -67,7 +67,7 @@ module _ (at : ℕ → ℕ → Step) (len : ℕ) where
       rw (lt-leb _ _ (r .0), r .1, q) (then-fits t ts (r .2))
 
   -- a reading takes no more steps than there are bytes
-  pub few-steps : (L : ℕ) → Fair at L len → (s v : ℕ) (ts : List Step) → Reads at len s v ts → length ts ≤ (L - s) + (len - v)
+  pub few-steps : {reach : Reach} (L : ℕ) → Fair reach at L len → (s v : ℕ) (ts : List Step) → Reads at len s v ts → length ts ≤ (L - s) + (len - v)
   unfolding Reads
   few-steps L fair s v [] r = omega arith
   few-steps L fair s v (Verbatim n ∷ ts) r =
@@ -83,7 +83,7 @@ module _ (at : ℕ → ℕ → Step) (len : ℕ) where
 
 -- ---- of the grammar
 
-module _ (r : Rules) (fair : FairTable (r .escapes)) (src val : List ℕ) where
+module _ (r : Rules) {reach : Reach} (fair : FairTable (r .escapes) reach) (src val : List ℕ) where
   -- the reading is found just if there is one
   pub found-is-reading : (ts : List Step) → readingOf r src val ≡ some ts → Reading r src val ts
   unfolding readingOf
@@ -108,7 +108,7 @@ module _ (r : Rules) (fair : FairTable (r .escapes)) (src val : List ℕ) where
 unfoldable pub readFrom : Rules → List ℕ → List ℕ → ℕ → ℕ → Option (List Step)
 readFrom r src val s v = readBy ((length src - s) + (length val - v)) (stepAt r src val) (length val) s v
 
-module _ (r : Rules) (fair : FairTable (r .escapes)) (src val : List ℕ) where
+module _ (r : Rules) {reach : Reach} (fair : FairTable (r .escapes) reach) (src val : List ℕ) where
   pub from-start : readingOf r src val ≡ readFrom r src val 0 0
   unfolding readingOf readFrom
   from-start = let e : length src + length val ≡ (length src - 0) + (length val - 0) = omega arith in ap (λ (k : ℕ). readBy k (stepAt r src val) (length val) 0 0) e

@@ -4,7 +4,7 @@ use mathlib.Core.Path.{_≡_, refl, sym, ap, _∙_, subst}
 use mathlib.Core.Bool.{true}
 use mathlib.Core.Logic.{_⊎_, inl, inr, ⊎-elim}
 use mathlib.Core.List.{List, [], _∷_}
-use Prim.Native.Nat.{ℕ, _+_, _≤_, _<_}
+use Prim.Native.Nat.{ℕ, _+_, _-_, _≤_, _<_}
 use native.Mathlib.Omega.{arith}
 use lib.Dec.{ltb, eqb}
 use lib.ListN.{length, take, drop, getD, length-take, length-drop}
@@ -14,7 +14,7 @@ use Rattle.provenance.specs.declared.escape.Escape.the-variants.{Takes, 
 use Rattle.provenance.specs.declared.step.Step.{Step}
 use Rattle.provenance.specs.declared.step.Step.the-variants.{Verbatim, Replacement, NoStep}
 use Rattle.provenance.specs.Run.{whiteRun, newlinesIn, cut, blankRun, onlyNewlines}
-use Rattle.provenance.specs.Escape.{FairTable}
+use Rattle.provenance.specs.Escape.{Reach, FairTable}
 use Rattle.provenance.specs.Grammar.{Rules, orElse, sameBytes, paired, breakPair, opensBreak, breakStep, asStep, escapeStep, equalStep, endStep, step, stepAt}
 use Rattle.text.specs.Tests.{clash, and-both}
 use Rattle.provenance.specs.Tests.{picked, passed}
@@ -57,8 +57,10 @@ replacement-verbatim k a b h = let z : _≡_ {A = ℕ} 0 1 = cc in omega arith
 abbrev pub TakesSame : List ℕ → List ℕ → ℕ → Type 0
 TakesSame src val k = (0 < k) × (k ≤ length src) × (k ≤ length val) × (take k src ≡ take k val)
 
-abbrev pub TakesOther : List ℕ → List ℕ → ℕ → ℕ → Type 0
-TakesOther src val a b = (b ≤ length val + 2) × (((0 < a) × (0 < length src) × (a ≤ length src + 4)) ⊎ ((a ≡ 0) × (b ≡ length val)))
+-- an escape stands where at least a byte of the value is left, so its content passes the value by less than it has
+abbrev pub TakesOther : Reach → List ℕ → List ℕ → ℕ → ℕ → Type 0
+TakesOther reach src val a b =
+    (b ≤ length val + (reach .content - 1)) × (((0 < a) × (0 < length src) × (a ≤ length src + reach .past)) ⊎ ((a ≡ 0) × (b ≡ length val)))
 
 module _ (r : Rules) (src val : List ℕ) where
   abbrev X : List ℕ
@@ -121,7 +123,7 @@ end-is [] val t n h = picked (onlyNewlines val) (Replacement 0 (length val)) NoS
 end-is (x ∷ xs) val t n h = absurd (n h)
 
 -- ---- by what each of the four says
-module _ (r : Rules) (fair : FairTable (r .escapes)) (src val : List ℕ) where
+module _ (r : Rules) {reach : Reach} (fair : FairTable (r .escapes) reach) (src val : List ℕ) where
   same-of : (k : ℕ) (B : Step) (E : Escape) (S : Step) → breakStep r src val ≡ B → r .escapes src ≡ E → equalStep src val ≡ S
       → orElse B (orElse (asStep E) (orElse S (endStep src val))) ≡ Verbatim k → TakesSame src val k
   same-of k (Verbatim n) E S o p q h = break-same r src val k (o ∙ h)
@@ -137,7 +139,7 @@ module _ (r : Rules) (fair : FairTable (r .escapes)) (src val : List ℕ) where
 
   other-of : (a b : ℕ) (B : Step) (E : Escape) (S : Step) → 0 < length val → breakStep r src val ≡ B → r .escapes src ≡ E → equalStep src val ≡ S
       → orElse B (orElse (asStep E) (orElse S (endStep src val))) ≡ Replacement a b
-      → TakesOther src val a b × (length val < b → (B ≡ NoStep) × (asStep E ≡ Replacement a b))
+      → TakesOther reach src val a b × (length val < b → (B ≡ NoStep) × (asStep E ≡ Replacement a b))
   other-of a b (Verbatim n) E S m o p q h = absurd (verbatim-replacement n a b h)
   other-of a b (Replacement x y) E S m o p q h =
       let w = break-other r src val a b (o ∙ h) in
@@ -163,7 +165,7 @@ module _ (r : Rules) (fair : FairTable (r .escapes)) (src val : List ℕ) where
   unfolding step
   step-same k h = same-of k (breakStep r src val) (r .escapes src) (equalStep src val) refl refl refl h
 
-  pub step-other : (a b : ℕ) → 0 < length val → step r src val ≡ Replacement a b → TakesOther src val a b
+  pub step-other : (a b : ℕ) → 0 < length val → step r src val ≡ Replacement a b → TakesOther reach src val a b
   unfolding step
   step-other a b m h = other-of a b (breakStep r src val) (r .escapes src) (equalStep src val) m refl refl refl h .0
 
@@ -175,11 +177,11 @@ module _ (r : Rules) (fair : FairTable (r .escapes)) (src val : List ℕ) where
 
 -- ---- a step function of two places: what it takes of L source bytes and len value bytes
 
-pub record Fair (at : ℕ → ℕ → Step) (L len : ℕ) : Type 0 where
+pub record Fair (reach : Reach) (at : ℕ → ℕ → Step) (L len : ℕ) : Type 0 where
   pub same : (s v k : ℕ) → v < len → at s v ≡ Verbatim k → (0 < k) × (s + k ≤ L) × (v + k ≤ len)
-  pub other : (s v a b : ℕ) → v < len → at s v ≡ Replacement a b → (v + b ≤ len + 2) × (((0 < a) × (s < L) × (s + a ≤ L + 4)) ⊎ ((a ≡ 0) × (v + b ≡ len)))
+  pub other : (s v a b : ℕ) → v < len → at s v ≡ Replacement a b → (v + b ≤ len + (reach .content - 1)) × (((0 < a) × (s < L) × (s + a ≤ L + reach .past)) ⊎ ((a ≡ 0) × (v + b ≡ len)))
 
-pub grammar-fair : (r : Rules) → FairTable (r .escapes) → (src val : List ℕ) → Fair (stepAt r src val) (length src) (length val)
+pub grammar-fair : (r : Rules) {reach : Reach} → FairTable (r .escapes) reach → (src val : List ℕ) → Fair reach (stepAt r src val) (length src) (length val)
 grammar-fair r fair src val =
     record {
       same = λ s v k more h.

@@ -2,7 +2,7 @@
 ghost use mathlib.Core.Path.{_≡_};
 ghost use Prim.Native.Nat.{_+_, _^_, _≤_, _<_};
 ghost use lib.ListN.{length};
-ghost use Rattle.provenance.specs.Layout.{zeros, answerOf, bufferOf};
+ghost use Rattle.provenance.specs.Layout.{room, zeros, answerOf, bufferOf};
 ghost use Rattle.provenance.specs.Start.{scalarList};
 use crate::start::walk_start;
 use crate::walk::Walked;
@@ -22,7 +22,7 @@ pub fn scalar_provenance(
 ) -> Walked
     requires { ⌜ (length (now text) ≤ 1048576) × (length (now value) ≤ 1048576) × (start + len ≤ length (now text)) × (column < 2 ^ 32) ⌝ }
     requires { ⌜ now pieces ≡ zeros (length (now pieces)) ⌝ }
-    ensures { λ r. ⌜ r ≡ answerOf (length (now (pieces .entry))) (scalarList (now (text .entry)) start len (now (value .entry)) style column) ⌝ }
+    ensures { λ r. ⌜ r ≡ answerOf (room (length (now (pieces .entry)))) (scalarList (now (text .entry)) start len (now (value .entry)) style column) ⌝ }
     ensures { λ r. ⌜ now (pieces .exit) ≡ bufferOf (length (now (pieces .entry))) (scalarList (now (text .entry)) start len (now (value .entry)) style column) ⌝ }
 {
     let first = walk_start(text, start, len, value, style);

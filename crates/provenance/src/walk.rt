@@ -4,7 +4,7 @@ ghost use Prim.Native.Nat.{_^_, _≤_, _<_};
 ghost use lib.ListN.{length};
 ghost use Rattle.provenance.specs.Grammar.{rulesOf};
 ghost use Rattle.provenance.specs.Reading.{readingOf};
-ghost use Rattle.provenance.specs.Layout.{zeros, piecesIf, answerOf, bufferOf};
+ghost use Rattle.provenance.specs.Layout.{room, zeros, piecesIf, answerOf, bufferOf};
 use crate::step::Step;
 use crate::step::break_run;
 use crate::step::known_after;
@@ -38,7 +38,7 @@ pub fn walk_scalar_provenance(
 ) -> Walked
     requires { ⌜ (length (now src) ≤ 1048576) × (length (now value) ≤ 1048576) × (base ≤ 1048576) × (column < 2 ^ 32) ⌝ }
     requires { ⌜ now pieces ≡ zeros (length (now pieces)) ⌝ }
-    ensures { λ r. ⌜ r ≡ answerOf (length (now (pieces .entry))) (piecesIf base (readingOf (rulesOf style column) (now (src .entry)) (now (value .entry)))) ⌝ }
+    ensures { λ r. ⌜ r ≡ answerOf (room (length (now (pieces .entry)))) (piecesIf base (readingOf (rulesOf style column) (now (src .entry)) (now (value .entry)))) ⌝ }
     ensures { λ r. ⌜ now (pieces .exit) ≡ bufferOf (length (now (pieces .entry))) (piecesIf base (readingOf (rulesOf style column) (now (src .entry)) (now (value .entry)))) ⌝ }
 {
     let mut s = 0;

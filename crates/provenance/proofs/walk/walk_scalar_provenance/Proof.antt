@@ -13,6 +13,7 @@ use Rattle.provenance.specs.Grammar.{isBlock, rulesOf, stepAt}
 use Rattle.provenance.specs.Writing.{writtenLen}
 use Rattle.measure.specs.Letters.{Letters}
 use Rattle.provenance.specs.LetterLaws.{letters-steps}
+use Rattle.provenance.specs.Escape.{escapesReach}
 use Rattle.provenance.specs.EscapeLaws.{style-fair}
 use Rattle.provenance.specs.StepLaws.{Fair, grammar-fair}
 use Rattle.provenance.proofs.Steps.{Clear, tells, run-small, clear-after, clear-on}
@@ -24,7 +25,7 @@ use Rattle.provenance.proofs.walk.walk_scalar_provenance.Tie as tie
 
 abbrev Inv-loop : tie.InvT-loop
 Inv-loop src value style column base pieces₀ s₀ v₀ from₀ n₀ known₀ pieces s v from n known =
-    Going (stepAt (rulesOf style column) src value) (length src) (length value) base (length pieces₀) pieces s v from n
+    Going escapesReach (stepAt (rulesOf style column) src value) (length src) (length value) base (length pieces₀) pieces s v from n
     × Clear src s known
 
 abbrev μ-loop : tie.MeasureT-loop
@@ -36,7 +37,7 @@ abbrev μ-loop : tie.MeasureT-loop
 abbrev steps : tie.In-loop Inv-loop μ-loop → ℕ → ℕ → Step
 steps i = stepAt (rulesOf (i .before .before .before .before .before .args .style) (i .before .before .before .before .before .args .column)) (i .before .before .before .before .before .args .src .now) (i .before .before .before .before .before .args .value .now)
 
-fair-here : (i : tie.In-loop Inv-loop μ-loop) → Fair (steps i) (length (i .before .before .before .before .before .args .src .now)) (length (i .before .before .before .before .before .args .value .now))
+fair-here : (i : tie.In-loop Inv-loop μ-loop) → Fair escapesReach (steps i) (length (i .before .before .before .before .before .args .src .now)) (length (i .before .before .before .before .before .args .value .now))
 fair-here i = let a = i .before .before .before .before .before .args in grammar-fair (rulesOf (a .style) (a .column)) (style-fair (a .style)) (a .src .now) (a .value .now)
 
 -- after the run was looked at
@@ -90,17 +91,17 @@ replacement-bounds c = fair-here (c .before .before .before .before .before .bef
 
 -- and was written
 replaced : (c : tie.After-slice-known2 Inv-loop μ-loop)
-    → Going (steps (c .before .before .before .before .before .before .before .before .before .before)) (length (c .before .before .before .before .before .before .before .before .before .before .before .before .before .before .before .args .src .now)) (length (c .before .before .before .before .before .before .before .before .before .before .before .before .before .before .before .args .value .now)) (c .before .before .before .before .before .before .before .before .before .before .before .before .before .before .before .args .base) (length (c .before .before .before .before .before .before .before .before .before .before .before .before .before .before .before .args .pieces .now)) (c .before .before .put-replacement .last .0)
+    → Going escapesReach (steps (c .before .before .before .before .before .before .before .before .before .before)) (length (c .before .before .before .before .before .before .before .before .before .before .before .before .before .before .before .args .src .now)) (length (c .before .before .before .before .before .before .before .before .before .before .before .before .before .before .before .args .value .now)) (c .before .before .before .before .before .before .before .before .before .before .before .before .before .before .before .args .base) (length (c .before .before .before .before .before .before .before .before .before .before .before .before .before .before .before .args .pieces .now)) (c .before .before .put-replacement .last .0)
     (c .before .before .before .before .before .before .before .before .before .before .before .loop .s + c .before .before .before .before .before .t2 .given .0 .0) (c .before .before .before .before .before .before .before .before .before .before .before .loop .v + c .before .before .before .before .before .t2 .given .0 .1 .0) (c .before .before .before .before .before .before .before .before .before .before .before .loop .s + c .before .before .before .before .before .t2 .given .0 .0) (c .before .before .put-replacement .result)
 replaced c =
     let w = c .before .before .before .before .before .before .before .before .before .before .before .loop in
     let p = c .before .before .put-replacement in
-    on-replacement _ _ _ _ _ (fair-here (c .before .before .before .before .before .before .before .before .before .before)) _ (w .s) (w .v) (w .from) (w .n) (w .inv .0) (c .before .before .before .before .before .before .before .before .before .before .loop-test .taken) _ _ (is-replacement (c .before .before .before .before)) (p .result) (p .last .0) (p .ensures .0) (p .ensures .1)
+    on-replacement _ _ _ _ _ _ (fair-here (c .before .before .before .before .before .before .before .before .before .before)) _ (w .s) (w .v) (w .from) (w .n) (w .inv .0) (c .before .before .before .before .before .before .before .before .before .before .loop-test .taken) _ _ (is-replacement (c .before .before .before .before)) (p .result) (p .last .0) (p .ensures .0) (p .ensures .1)
 
 -- ---- the needs
 
 loop-holds : tie.Need-loop-holds Inv-loop μ-loop
-loop-holds c = (begins _ _ _ _ _ _ refl (c .before .before .before .pre .1), λ i h k. absurd (omega arith))
+loop-holds c = (begins _ _ _ _ _ _ _ refl (c .before .before .before .pre .1), λ i h k. absurd (omega arith))
 
 break-run-requires : tie.Need-break-run-requires Inv-loop μ-loop
 break-run-requires c κs = tt
@@ -166,8 +167,8 @@ loop-again c =
     let w = i .before .loop in
     let k = t .before .t .given .0 .0 in
     let b = letters-bounds c in
-    let g = on-verbatim _ _ _ _ _ (fair-here i) _ (w .s) (w .v) (w .from) (w .n) (w .inv .0) (i .loop-test .taken) k (is-verbatim t) in (
-      on-letters _ _ _ _ _ (fair-here i) _ (w .s + k) (w .v + k) (w .from) (w .n) (c .letters .result) g (b .1) (letters-steps (a .style) (a .column) (a .src .now) (a .value .now) (w .s + k) (w .v + k) (c .letters .result) (letters-here c)),
+    let g = on-verbatim _ _ _ _ _ _ (fair-here i) _ (w .s) (w .v) (w .from) (w .n) (w .inv .0) (i .loop-test .taken) k (is-verbatim t) in (
+      on-letters _ _ _ _ _ _ (fair-here i) _ (w .s + k) (w .v + k) (w .from) (w .n) (c .letters .result) g (b .1) (letters-steps (a .style) (a .column) (a .src .now) (a .value .now) (w .s + k) (w .v + k) (c .letters .result) (letters-here c)),
       clear-on (a .src .now) (w .s) (w .s + k + c .letters .result) (t .before .before .before .before .known-after .result) (omega arith) (clear-here (t .before .before .before .before)),
     )
 
