@@ -93,3 +93,23 @@ module _ (s : List ℕ) where
       where
         told : Found 0 → Front s
         told (es, rest, ok, e, end) = let z : 0 + length (encodeAll es) ≡ length (encodeAll es) = omega arith in record { events = es; sound = ok; rest = rest; bytes = e; ends = rw z at end }
+
+-- ---- one of a list
+
+pub sound-split : (before : List YamlEvent) (e : YamlEvent) (after : List YamlEvent) → AllSound (before ++ (e ∷ after)) → AllSound before × Sound e × AllSound after
+unfolding AllSound
+sound-split [] e after ok = (tt, ok .0, ok .1)
+sound-split (x ∷ before) e after ok = let i = sound-split before e after (ok .1) in ((ok .0, i .0), i .1, i .2)
+
+-- it stands after the encodings of those before it
+pub one-stands : (s : List ℕ) (before : List YamlEvent) (e : YamlEvent) (after : List YamlEvent) (rest : List ℕ) → AllSound (before ++ (e ∷ after))
+    → s ≡ encodeAll (before ++ (e ∷ after)) ++ rest → StandsAt s (length (encodeAll before)) e
+unfolding encodeAll
+one-stands s before e after rest ok is =
+    let split : s ≡ encodeAll before ++ (encode e ++ (encodeAll after ++ rest)) =
+    is ∙ ap (λ (l : List ℕ). l ++ rest) (encode-all-append before (e ∷ after)) ∙ simp append-assoc in
+    record {
+      sound = sound-split before e after ok .1;
+      rest = encodeAll after ++ rest;
+      starts = ap (λ (l : List ℕ). drop (length (encodeAll before)) l) split ∙ drop-append-seam (encodeAll before) (encode e ++ (encodeAll after ++ rest));
+    }

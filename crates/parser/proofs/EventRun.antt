@@ -5,6 +5,7 @@ use mathlib.Core.List.{List, [], _∷_, _++_, append-nil}
 use Prim.Native.Nat.{ℕ, zero, suc, _+_, _-_, _≤_, _<_}
 use native.Mathlib.Omega.{arith}
 use lib.ListN.{length, drop, length-append}
+use Rattle.provenance.specs.Reading.{Piece}
 use Rattle.event.specs.Number.{Bytes}
 use Rattle.event.specs.Encode.{YamlEvent, sequenceStart, sequenceEnd, mappingStart, mappingEnd, scalar, alias, encode}
 use Rattle.event.specs.Meaning.{StandsAt, placed, eventNumber}
@@ -17,6 +18,7 @@ use Rattle.event.specs.declared.read.Event.{Event}
 use Rattle.event.specs.declared.read.Event.the-variants.{Malformed}
 use Rattle.parser.specs.Machine.{State, empty, Next, go, stop, Outcome, built, refused, step, nextPlace, ending, follow, run, runAll}
 use Rattle.parser.specs.RunLaws.{run-ended, run-on, run-stopped, stop-not-go}
+use Rattle.parser.specs.declared.record.Node.{Node}
 use Rattle.parser.specs.EventRun.{goOn, reached, runEvents, malformed, EventsAsList}
 
 -- the next event comes after an event's bytes
@@ -31,6 +33,9 @@ placed-next i (alias m) = refl
 
 pub go-is : (a b : State) → go a ≡ go b → a ≡ b
 go-is a b e = cc
+
+pub refused-not-built : (m k : ℕ) (xs : List Node) (ps : List Piece) → refused m k ≡ built xs ps → ⊥
+refused-not-built m k xs ps e = let z : _≡_ {A = ℕ} 0 1 = cc in omega arith
 
 pub stop-is : (m n : ℕ) → stop m ≡ stop n → m ≡ n
 stop-is m n e = cc
@@ -54,7 +59,7 @@ module _ (text events : List ℕ) (room pieceRoom : ℕ) where
   -- ---- the run over the events that stand, whatever comes after them
 
   module _ (last : ℕ → State → Outcome) (n : ℕ) (after : (f k : ℕ) (st : State) → length events ≤ n + f → runFrom f n k st ≡ last k st) where
-    in-order : (f i k : ℕ) (es : List YamlEvent) (st : State) → Stand events i es n → length events ≤ i + f → runFrom f i k st ≡ over last i k es st
+    pub in-order : (f i k : ℕ) (es : List YamlEvent) (st : State) → Stand events i es n → length events ≤ i + f → runFrom f i k st ≡ over last i k es st
     unfolding Stand runEvents
     in-order f i k [] st stand h = subst (λ (j : ℕ). runFrom f j k st ≡ last k st) (sym stand) (after f k st (omega arith))
     in-order f i k (e ∷ es) st stand h = by (stepOf (placed i e) st) refl (λ st′. in-order (f - 1) (i + length (encode e)) (k + 1) es st′ (stand .1) (let t = event-takes e in omega arith))
@@ -92,3 +97,97 @@ module _ (text events : List ℕ) (room pieceRoom : ℕ) where
     where
       stand : Stand events 0 es (length (encodeAll es))
       stand = let z : 0 + length (encodeAll es) ≡ length (encodeAll es) = omega arith in subst (λ (n : ℕ). Stand events 0 es n) z (all-stand events 0 es rest sound is)
+
+  -- ---- what follows of a run over a list
+
+  -- all are let through
+  pub through-last : (last : ℕ → State → Outcome) (i k : ℕ) (es : List YamlEvent) (st st′ : State) → through i es st ≡ go st′ → over last i k es st ≡ last (k + length es) st′
+  unfolding reached runEvents
+  through-last last i k [] st st′ e = let z : k ≡ k + 0 = omega arith in ap (last k) (go-is st st′ e) ∙ ap (λ (n : ℕ). last n st′) z
+  through-last last i k (x ∷ es) st st′ e = by (stepOf (placed i x) st) e (λ s h. through-last last (i + length (encode x)) (k + 1) es s st′ h)
+    where
+      by : (n : Next) → goOn n (λ (s : State). through (i + length (encode x)) es s) ≡ go st′
+          → ((s : State) → through (i + length (encode x)) es s ≡ go st′ → over last (i + length (encode x)) (k + 1) es s ≡ last (k + 1 + length es) st′)
+          → follow n (λ (s : State). over last (i + length (encode x)) (k + 1) es s) k ≡ last (k + length (x ∷ es)) st′
+      by (stop m) f rest = absurd (stop-not-go m st′ f)
+      by (go s) f rest = let z : k + 1 + length es ≡ k + length (x ∷ es) = omega arith in rest s f ∙ ap (λ (n : ℕ). last n st′) z
+
+  -- an event of a run that is built: those before it are let through, it leads on, and so do those after it
+  pub record Passing (last : ℕ → State → Outcome) (i : ℕ) (before : List YamlEvent) (e : YamlEvent) (after : List YamlEvent) (st : State) (o : Outcome) : Type 0 where
+    pub here : State
+    pub next : State
+    pub to-here : through i before st ≡ go here
+    pub on : stepOf (placed (i + length (encodeAll before)) e) here ≡ go next
+    pub place : ℕ
+    pub number : ℕ
+    pub rest : over last place number after next ≡ o
+
+  pub passing : (last : ℕ → State → Outcome) (i k : ℕ) (before : List YamlEvent) (e : YamlEvent) (after : List YamlEvent) (st : State) (xs : List Node) (ps : List Piece)
+      → over last i k (before ++ (e ∷ after)) st ≡ built xs ps → Passing last i before e after st (built xs ps)
+  unfolding reached runEvents encodeAll
+  passing last i k [] e after st xs ps h = by (stepOf (placed i e) st) refl h
+    where
+      by : (n : Next) → stepOf (placed i e) st ≡ n → follow n (λ (s : State). over last (i + length (encode e)) (k + 1) after s) k ≡ built xs ps → Passing last i [] e after st (built xs ps)
+      by (stop m) is f = absurd (refused-not-built m k xs ps f)
+      by (go s) is f =
+          let z : i ≡ i + 0 = omega arith in
+          record { here = st; next = s; to-here = refl; on = ap (λ (j : ℕ). stepOf (placed j e) st) (sym z) ∙ is; place = i + length (encode e); number = k + 1; rest = f }
+  passing last i k (x ∷ before) e after st xs ps h =
+      by (stepOf (placed i x) st) refl h (λ s f. passing last (i + length (encode x)) (k + 1) before e after s xs ps f)
+    where
+      by : (n : Next) → stepOf (placed i x) st ≡ n → follow n (λ (s : State). over last (i + length (encode x)) (k + 1) (before ++ (e ∷ after)) s) k ≡ built xs ps
+          → ((s : State) → over last (i + length (encode x)) (k + 1) (before ++ (e ∷ after)) s ≡ built xs ps → Passing last (i + length (encode x)) before e after s (built xs ps))
+          → Passing last i (x ∷ before) e after st (built xs ps)
+      by (stop m) is f more = absurd (refused-not-built m k xs ps f)
+      by (go s) is f more =
+          let p = more s f in
+          let z : i + length (encode x) + length (encodeAll before) ≡ i + length (encode x ++ encodeAll before) = rw (length-append) (omega arith) in
+          record {
+            here = p .here;
+            next = p .next;
+            to-here = ap (λ (n : Next). goOn n (λ (t : State). through (i + length (encode x)) before t)) is ∙ p .to-here;
+            on = ap (λ (j : ℕ). stepOf (placed j e) (p .here)) (sym z) ∙ p .on;
+            place = p .place;
+            number = p .number;
+            rest = p .rest;
+          }
+
+  -- a refusal that is not what `last` says: the event at which it comes
+  pub record StoppedAt (i k : ℕ) (es : List YamlEvent) (st : State) (m n : ℕ) : Type 0 where
+    pub before : List YamlEvent
+    pub event : YamlEvent
+    pub after : List YamlEvent
+    pub split : es ≡ before ++ (event ∷ after)
+    pub number : n ≡ k + length before
+    pub here : State
+    pub to-here : through i before st ≡ go here
+    pub stops : stepOf (placed (i + length (encodeAll before)) event) here ≡ stop m
+
+  pub stopped-at : (last : ℕ → State → Outcome) (m : ℕ) → ((k n : ℕ) (st : State) → last k st ≡ refused m n → ⊥) → (i k : ℕ) (es : List YamlEvent) (st : State) (n : ℕ)
+      → over last i k es st ≡ refused m n → StoppedAt i k es st m n
+  unfolding reached runEvents encodeAll
+  stopped-at last m never i k [] st n h = absurd (never k n st h)
+  stopped-at last m never i k (x ∷ es) st n h = by (stepOf (placed i x) st) refl h (λ s f. stopped-at last m never (i + length (encode x)) (k + 1) es s n f)
+    where
+      by : (t : Next) → stepOf (placed i x) st ≡ t → follow t (λ (s : State). over last (i + length (encode x)) (k + 1) es s) k ≡ refused m n
+          → ((s : State) → over last (i + length (encode x)) (k + 1) es s ≡ refused m n → StoppedAt (i + length (encode x)) (k + 1) es s m n) → StoppedAt i k (x ∷ es) st m n
+      by (stop j) is f more =
+          let a : j ≡ m = cc in
+          let b : k ≡ n = cc in
+          let z : i + 0 ≡ i = omega arith in
+          record { before = []; event = x; after = es; split = refl; number = omega arith; here = st; to-here = refl; stops = ap (λ (p : ℕ). stepOf (placed p x) st) z ∙ is ∙ ap stop a }
+      by (go s) is f more =
+          let p = more s f in
+          let b = p .before in
+          let z : i + length (encode x ++ encodeAll (p .before)) ≡ i + length (encode x) + length (encodeAll (p .before)) = rw (length-append) (omega arith) in
+          let num = p .number in
+          record {
+            before = x ∷ p .before;
+            event = p .event;
+            after = p .after;
+            split = ap (λ (l : List YamlEvent). x ∷ l) (p .split);
+            number = omega arith;
+            here = p .here;
+            to-here = ap (λ (t : Next). goOn t (λ (u : State). through (i + length (encode x)) (p .before) u)) is ∙ p .to-here;
+            stops = ap (λ (j : ℕ). stepOf (placed j (p .event)) (p .here)) z ∙ p .stops;
+          }

@@ -15,3 +15,7 @@ mod Heads
 mod Wholes
 -- the run over a list of events
 pub mod EventRun
+-- what a step adds to nodes and pieces
+mod Growths
+-- demand 3 at the public calls
+pub mod Demand

@@ -17,6 +17,8 @@ pub mod EventRun
 pub mod Layout
 -- the two public calls
 pub mod Call
+-- demand 3 at the two public calls
+pub mod Demand
 -- how many nodes and pieces a call comes to at most, and which places and numbers
 pub mod Bounds
 -- what the code's values hold of the machine's state: for the inner calls

@@ -82,7 +82,7 @@ module _ (r : Rules) {reach : Reach} (fair : FairTable (r .escapes) reach) (text
   abbrev src : List ℕ
   src = drop first text
 
-  listed-only : {X : Type 0} → (listFrom r text first value ≡ none → X) → (Boundary text first → (ts : List Step) → Reading r src value ts → listFrom r text first value ≡ some (piecesOf first ts) → X) → X
+  pub listed-only : {X : Type 0} → (listFrom r text first value ≡ none → X) → (Boundary text first → (ts : List Step) → Reading r src value ts → listFrom r text first value ≡ some (piecesOf first ts) → X) → X
   unfolding listFrom piecesIf
   listed-only {X} f g =
       by-answer (isBoundary text first)
@@ -93,7 +93,7 @@ module _ (r : Rules) {reach : Reach} (fair : FairTable (r .escapes) reach) (text
       go b none e = f (rw (b, e))
       go b (some ts) e = g (is-boundary b) ts (found-is-reading r fair src value ts e) (rw (b, e))
 
-  listed-if : Boundary text first → (ts : List Step) → Reading r src value ts → listFrom r text first value ≡ some (piecesOf first ts)
+  pub listed-if : Boundary text first → (ts : List Step) → Reading r src value ts → listFrom r text first value ≡ some (piecesOf first ts)
   unfolding listFrom piecesIf
   listed-if b ts h = rw (boundary-is b, reading-is-found r fair src value ts h)
 

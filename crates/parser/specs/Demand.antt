@@ -1,0 +1,151 @@
+-- Demand 3 at the public calls, in document 01's terms: the marker index, the event that stands in the event bytes, the record and the piece
+-- numbers that are handed back. proofs/Demand.antt proves `ScalarDemand3` of `scalar` and `BuildDemand3` of `build`.
+use Prim.Native.Nat.{ℕ, zero, suc, _+_, _-_, _*_, _≤_, _<_}
+use mathlib.Core.Path.{_≡_}
+use mathlib.Core.Logic.{_⊎_}
+use mathlib.Core.Bool.{Bool, false}
+use mathlib.Core.List.{List, [], _∷_, _++_}
+use lib.Dec.{eqb}
+use lib.ListN.{length, getD, drop}
+use Rattle.text.specs.AdmissionLaws.{Sound}
+use Rattle.text.specs.Boundary.{Boundary}
+use Rattle.text.specs.Offset.{byteOffset}
+use Rattle.measure.specs.Scalar.{scalarLen}
+use Rattle.event.specs.Read.{eventsLimit}
+use Rattle.event.specs.Encode.{Tag, YamlEvent, scalar}
+use Rattle.event.specs.Meaning.{StandsAt}
+use Rattle.event.specs.EventList.{encodeAll, AllSound}
+use Rattle.provenance.specs.Escape.{escapesReach}
+use Rattle.provenance.specs.Grammar.{rulesOf}
+use Rattle.provenance.specs.Reading.{Reading, Piece, piece, piecesOf}
+use Rattle.provenance.specs.Start.{walkStart}
+use Rattle.provenance.specs.Layout.{walkedNumber}
+use Rattle.provenance.specs.Demand.{Demand3}
+use Rattle.provenance.specs.declared.step.Step.{Step}
+use Rattle.provenance.specs.declared.walk.Walked.{Walked}
+use Rattle.provenance.specs.declared.walk.Walked.the-variants.{Listed, NoRoom, NoList}
+use Rattle.parser.specs.Pick.{pick}
+use Rattle.parser.specs.Record.{absent, noList}
+use Rattle.parser.specs.Scalar.{scalarStart}
+use Rattle.parser.specs.Collection.{awaitsValue}
+use Rattle.parser.specs.Machine.{State, empty, go, Outcome, built, refused, rootDone}
+use Rattle.parser.specs.EventRun.{reached}
+use Rattle.parser.specs.Layout.{pieceWidth, laidPieces, recordRoom, pieceRoom}
+use Rattle.parser.specs.Call as call
+use Rattle.parser.specs.Call.{recordOf, building}
+use Rattle.parser.specs.declared.record.Node.{Node}
+use Rattle.parser.specs.declared.record.PieceList.{PieceList}
+
+-- ---- from the marker index to the walk's first byte (P1, S1, S14)
+
+abbrev pub startAt : List ℕ → Bool → ℕ → ℕ → List ℕ → ℕ
+startAt text awaited index style value = scalarStart text (byteOffset text index) value style awaited
+
+-- the span that is measured from the start on decides only where a block header has no newline
+unfoldable pub walkFirst : List ℕ → Bool → ℕ → ℕ → ℕ → Bool → List ℕ → ℕ
+walkFirst text awaited index column style emptySpan value =
+    walkStart text (startAt text awaited index style value)
+    (scalarLen (drop (startAt text awaited index style value) text) value style emptySpan column)
+    value style
+
+-- ---- from a record to its pieces (E2, E3, N1)
+
+-- how the walk ended, as the record of its scalar tells
+abbrev pub walkedBy : PieceList → Walked
+walkedBy l = pick (eqb (l .first) absent) NoList (Listed (l .count))
+
+-- n pieces of four numbers each
+unfoldable pub readPieces : ℕ → List ℕ → List Piece
+readPieces zero b = []
+readPieces (suc n) b = piece (getD b 0 0) (getD b 1 0) (getD b 2 0) (getD b 3 0) ∷ readPieces n (drop pieceWidth b)
+
+-- what a record's first piece and count find in the piece buffer
+abbrev pub listIn : List ℕ → PieceList → List Piece
+listIn pieces l = readPieces (l .count) (drop (pieceWidth * l .first) pieces)
+
+-- ---- the call on one scalar
+
+abbrev pub numberOf : Outcome → ℕ
+numberOf (built xs ps) = 0
+numberOf (refused number place) = number
+
+abbrev pub walkedIn : Outcome → Walked
+walkedIn (built xs ps) = walkedBy (recordOf (built xs ps) .list)
+walkedIn (refused number place) = NoRoom
+
+pub record ScalarDemand3 (text : List ℕ) (index column style : ℕ) (emptySpan : Bool) (value : List ℕ) (size : ℕ) (o : Outcome) : Type 0 where
+  -- the table's number is the walk's
+  pub number : numberOf o ≡ walkedNumber (walkedIn o)
+  -- the record's list finds the pieces of demand 3 in the buffer
+  pub demand3 :
+      Demand3 (rulesOf style column) escapesReach text (walkFirst text false index column style emptySpan value) value (pieceRoom size)
+      (walkedIn o) (listIn (call.piecesOf size o) (recordOf o .list))
+  -- and every other number is zero
+  pub all-numbers : call.piecesOf size o ≡ laidPieces size (listIn (call.piecesOf size o) (recordOf o .list))
+
+-- ---- a document
+
+-- the lists of the nodes, in their order, take the entries from a to e, one after the other
+unfoldable pub Consecutive : ℕ → List Node → ℕ → Type 0
+Consecutive a [] e = a ≡ e
+Consecutive a (x ∷ xs) e =
+    ((x .list ≡ noList) × Consecutive a xs e) ⊎ ((x .list .first ≡ a) × (a < absent) × Consecutive (a + x .list .count) xs e)
+
+-- the scalar event that comes after the events `before`, in a document of the nodes xs and the pieces buffer p
+pub record ScalarListed (text events : List ℕ) (room pieceRoom : ℕ) (before : List YamlEvent) (index column style : ℕ) (emptySpan : Bool) (value : List ℕ) (xs : List Node) (p : List ℕ) : Type 0 where
+  -- the events before it are let through to this state
+  pub st : State
+  pub let-through : reached text events room pieceRoom 0 before empty ≡ go st
+  -- its record comes after theirs
+  pub node : Node
+  pub later : List Node
+  pub place : drop (length (st .nodes)) xs ≡ node ∷ later
+  -- the record's list finds the pieces of demand 3 in the buffer; those kept so far take up room
+  pub demand3 :
+      Demand3 (rulesOf style column) escapesReach text (walkFirst text (awaitsValue (st .opens)) index column style emptySpan value) value
+      (pieceRoom - length (st .pieces)) (walkedBy (node .list)) (listIn p (node .list))
+
+-- a document that is built
+pub record ListsBuilt (text events : List ℕ) (size pieceSize : ℕ) (xs : List Node) (ps : List Piece) : Type 0 where
+  -- its event bytes are the encodings of sound events
+  pub list : List YamlEvent
+  pub sound : AllSound list
+  pub bytes : events ≡ encodeAll list
+  pub each : (before after : List YamlEvent) (index column style : ℕ) (emptySpan : Bool) (tag : Tag) (value : List ℕ)
+      → list ≡ before ++ (scalar index column style emptySpan tag value ∷ after)
+      → ScalarListed text events (recordRoom size) (pieceRoom pieceSize) before index column style emptySpan value xs (laidPieces pieceSize ps)
+  -- the lists are all the pieces there are
+  pub all-pieces : Consecutive 0 xs (length ps)
+
+-- row 8 at event number k: rows 1 and 2 and the events before k let it pass, and rows 3, 5 and 7 let event k pass (4 is for ends, 6 for starts)
+pub record NoRoomAt (text events : List ℕ) (size pieceSize k : ℕ) : Type 0 where
+  pub text-sound : Sound text
+  pub events-short : length events ≤ eventsLimit
+  pub before : List YamlEvent
+  pub sound : AllSound before
+  pub rest : List ℕ
+  pub bytes : events ≡ encodeAll before ++ rest
+  pub number : length before ≡ k
+  pub st : State
+  pub let-through : reached text events (recordRoom size) (pieceRoom pieceSize) 0 before empty ≡ go st
+  pub index : ℕ
+  pub column : ℕ
+  pub style : ℕ
+  pub emptySpan : Bool
+  pub tag : Tag
+  pub value : List ℕ
+  pub stands : StandsAt events (length (encodeAll before)) (scalar index column style emptySpan tag value)
+  pub before-root : rootDone st ≡ false
+  pub record-room : length (st .nodes) < recordRoom size
+  -- the walk can start, and has a reading whose pieces and those kept so far are more than the room
+  pub first : ℕ
+  pub first-is : first ≡ walkFirst text (awaitsValue (st .opens)) index column style emptySpan value
+  pub can-start : Boundary text first
+  pub steps : List Step
+  pub reading : Reading (rulesOf style column) (drop first text) value steps
+  pub too-many : pieceRoom pieceSize < length (st .pieces) + length (piecesOf first steps)
+
+pub record BuildDemand3 (text events : List ℕ) (size pieceSize : ℕ) : Type 0 where
+  pub lists : (xs : List Node) (ps : List Piece) → building text events size pieceSize ≡ built xs ps → ListsBuilt text events size pieceSize xs ps
+  pub no-room-only : (k : ℕ) → building text events size pieceSize ≡ refused (walkedNumber NoRoom) k → NoRoomAt text events size pieceSize k
+  pub no-room-if : (k : ℕ) → NoRoomAt text events size pieceSize k → building text events size pieceSize ≡ refused (walkedNumber NoRoom) k
