@@ -8,3 +8,4 @@ pub mod libyaml;
 pub mod marked;
 pub mod quote;
 pub mod table;
+pub mod visible;

@@ -2,6 +2,7 @@
 
 use catalogue::document::with_document;
 use catalogue::failure::Failure;
+use catalogue::visible::{visible, visible_name};
 use catalogue::{json, marked, table};
 use quarto_yaml::call::TEXT_LIMIT;
 use std::env;
@@ -21,7 +22,8 @@ written, and the pieces: from which bytes every stretch of its value came.
   --json      a JSON object for each node, one to a line
   --marked    the file with marks below each line, or in colours on a terminal
 
-FILE - is standard input. Without a FILE it shows examples/chapter.yaml of the repository.
+FILE - is standard input. Without a FILE it shows examples/chapter.yaml of the repository, whatever standard input is,
+and says so on standard error.
 ";
 
 const CHAPTER_NAME: &str = "examples/chapter.yaml";
@@ -94,16 +96,19 @@ fn write(bytes: &[u8], form: Form) -> Result<io::Result<()>, Failure> {
     })
 }
 
-/// A name on one line.
-fn plain(name: &str) -> String {
-    name.chars().map(|c| if c.is_control() { '?' } else { c }).collect()
+/// A line on standard error, if that takes it.
+fn say(words: &str) {
+    let _ = writeln!(io::stderr(), "catalogue: {}", visible(words));
 }
 
 fn show(form: Form, file: Option<OsString>) -> Result<(), String> {
     let (name, bytes) = match file {
-        None => (CHAPTER_NAME.to_string(), CHAPTER.to_vec()),
+        None => {
+            say(&format!("no FILE is given: this is {CHAPTER_NAME}; FILE - reads standard input"));
+            (CHAPTER_NAME.to_string(), CHAPTER.to_vec())
+        }
         Some(file) => {
-            let name = if file == "-" { "standard input".to_string() } else { plain(&file.to_string_lossy()) };
+            let name = if file == "-" { "standard input".to_string() } else { visible_name(&file) };
             let bytes = read(&file).map_err(|error| format!("{name}: cannot be read: {error}"))?;
             (name, bytes)
         }
@@ -126,12 +131,12 @@ fn main() -> ExitCode {
         Ok(Request::Show { form, file }) => match show(form, file) {
             Ok(()) => ExitCode::SUCCESS,
             Err(line) => {
-                eprintln!("catalogue: {line}");
+                say(&line);
                 ExitCode::FAILURE
             }
         },
         Err(words) => {
-            eprintln!("catalogue: {words}; --help says more");
+            say(&format!("{words}; --help says more"));
             ExitCode::from(2)
         }
     }

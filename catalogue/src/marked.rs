@@ -1,9 +1,10 @@
 //! The file itself with each scalar marked where it stands: by a line of marks below each line of the file, or in colours.
 //!
 //! Every byte has at most one mark: a piece's before a scalar's, a scalar's before a tag's. A scalar of no bytes is marked at its
-//! place, on a line of its own where that has a mark already.
+//! place, on a line of its own where that has a mark already. A hidden character is shown by its code point, and all of that is marked.
 
 use crate::document::Document;
+use crate::visible::{code_point, is_hidden};
 use quarto_yaml::{PieceKind, Span};
 use std::collections::HashSet;
 use std::io::{self, Write};
@@ -93,14 +94,33 @@ fn lines<'a>(document: &Document<'a>, marks: &Marks) -> Vec<(usize, &'a str)> {
     lines
 }
 
+/// How many characters stand before a line's text: its number, with at least five digits' room, and ` | `.
+fn gutter(lines: usize) -> usize {
+    lines.to_string().len().max(5) + 3
+}
+
+/// The characters of a line and those of its break, a newline with the carriage return before it. Any other is a character.
+fn split_break(line: &str) -> (&str, &str) {
+    let text = line.strip_suffix("\r\n").or(line.strip_suffix('\n')).unwrap_or(line);
+    line.split_at(text.len())
+}
+
+/// What a character is shown as. A tab is left to the terminal.
+fn cells(c: char) -> String {
+    if is_hidden(c) && c != '\t' { code_point(c) } else { c.to_string() }
+}
+
 /// Writes the file with lines of marks.
 pub fn write_plain(document: &Document, out: &mut dyn Write) -> io::Result<()> {
     let marks = Marks::new(document);
-    for (i, (start, line)) in lines(document, &marks).into_iter().enumerate() {
-        writeln!(out, "{}", format!("{:5} | {}", i + 1, line.trim_end_matches(['\n', '\r'])).trim_end())?;
-        for signs in signs(&marks, start, line) {
+    let lines = lines(document, &marks);
+    let gutter = gutter(lines.len());
+    for (i, (start, line)) in lines.into_iter().enumerate() {
+        let text: String = split_break(line).0.chars().map(cells).collect();
+        writeln!(out, "{}", format!("{:1$} | {text}", i + 1, gutter - 3).trim_end())?;
+        for signs in signs(&marks, start, line, gutter) {
             if !signs.trim_end().is_empty() {
-                writeln!(out, "      | {}", signs.trim_end())?;
+                writeln!(out, "{:1$}| {2}", "", gutter - 2, signs.trim_end())?;
             }
         }
     }
@@ -109,28 +129,30 @@ pub fn write_plain(document: &Document, out: &mut dyn Write) -> io::Result<()> {
 }
 
 /// The marks below a line, and those of no bytes that have no room among them.
-fn signs(marks: &Marks, start: usize, line: &str) -> [String; 2] {
+fn signs(marks: &Marks, start: usize, line: &str, gutter: usize) -> [String; 2] {
     let mut below = [String::new(), String::new()];
+    let text = split_break(line).0.len();
     let end = (start + line.len() == marks.bytes.len() - 1 && !line.ends_with('\n')).then_some((line.len(), ' '));
     for (offset, c) in line.char_indices().chain(end) {
-        let mark = marks.bytes[start + offset];
-        let (first, second) = match (mark, marks.empty.contains(&(start + offset))) {
-            (Mark::Nothing, true) => (EMPTY, ' '),
-            (_, true) => (mark.sign(), EMPTY),
-            (_, false) => (mark.sign(), ' '),
+        let sign = marks.bytes[start + offset].sign();
+        let [first, second] = match (sign, marks.empty.contains(&(start + offset))) {
+            (' ', true) => [EMPTY, ' '],
+            (_, true) => [sign, EMPTY],
+            (_, false) => [sign, ' '],
         };
-        let width = width(c, below[0].len());
-        below[0].extend(std::iter::repeat_n(first, width));
+        let width = if offset < text { width(c, gutter + below[0].len()) } else { 1 };
+        below[0].extend(std::iter::once(first).chain(std::iter::repeat(sign)).take(width));
         below[1].extend(std::iter::once(second).chain(std::iter::repeat(' ')).take(width));
     }
     below
 }
 
-/// How many columns a terminal gives a character that starts at this column.
+/// How many columns a terminal gives what a character at this column is shown as.
 fn width(c: char, column: usize) -> usize {
     match u32::from(c) {
         0x9 => 8 - column % 8,
-        0x300..=0x36F | 0x200B..=0x200F | 0xFE00..=0xFE0F | 0xFEFF => 0,
+        _ if is_hidden(c) => code_point(c).len(),
+        0x300..=0x36F => 0,
         0x1100..=0x115F | 0x2E80..=0xA4CF | 0xAC00..=0xD7A3 | 0xF900..=0xFAFF | 0xFE30..=0xFE6F => 2,
         0xFF00..=0xFF60 | 0xFFE0..=0xFFE6 | 0x1F300..=0x1F64F | 0x1F900..=0x1F9FF | 0x20000..=0x3FFFD => 2,
         _ => 1,
@@ -140,15 +162,18 @@ fn width(c: char, column: usize) -> usize {
 /// Writes the file in colours. A line break that is replaced shows as a blank, what has no bytes as a point.
 pub fn write_coloured(document: &Document, out: &mut dyn Write) -> io::Result<()> {
     let marks = Marks::new(document);
-    for (i, (start, line)) in lines(document, &marks).into_iter().enumerate() {
-        write!(out, "\x1b[2m{:5} |\x1b[0m ", i + 1)?;
+    let lines = lines(document, &marks);
+    let gutter = gutter(lines.len());
+    for (i, (start, line)) in lines.into_iter().enumerate() {
+        write!(out, "\x1b[2m{:1$} |\x1b[0m ", i + 1, gutter - 3)?;
+        let text = split_break(line).0.len();
         for (offset, c) in line.char_indices() {
             write_point(&marks, start + offset, out)?;
             match (c, marks.bytes[start + offset]) {
-                ('\n', Mark::Replaced) => coloured(' ', Mark::Replaced, out)?,
-                ('\n' | '\r', _) => {}
-                (c, Mark::Nothing) => write!(out, "{c}")?,
-                (c, mark) => coloured(c, mark, out)?,
+                ('\n', Mark::Replaced) => coloured(" ", Mark::Replaced, out)?,
+                _ if offset >= text => {}
+                (c, Mark::Nothing) => write!(out, "{}", cells(c))?,
+                (c, mark) => coloured(&cells(c), mark, out)?,
             }
         }
         if !line.ends_with('\n') {
@@ -168,8 +193,8 @@ pub fn write_coloured(document: &Document, out: &mut dyn Write) -> io::Result<()
     writeln!(out, "\x1b[7m{EMPTY}\x1b[0m scalar of no bytes")
 }
 
-fn coloured(c: char, mark: Mark, out: &mut dyn Write) -> io::Result<()> {
-    write!(out, "\x1b[{}m{c}\x1b[0m", mark.colour())
+fn coloured(cells: &str, mark: Mark, out: &mut dyn Write) -> io::Result<()> {
+    write!(out, "\x1b[{}m{cells}\x1b[0m", mark.colour())
 }
 
 fn write_point(marks: &Marks, byte: usize, out: &mut dyn Write) -> io::Result<()> {

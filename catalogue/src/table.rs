@@ -1,7 +1,7 @@
 //! The catalogue as a table: a row for each scalar, and one more for each further piece.
 
 use crate::document::{Document, Stretch};
-use crate::quote::quoted;
+use crate::quote::{quoted, word};
 use quarto_yaml::{Node, PieceKind, Span};
 use std::io::{self, Write};
 
@@ -38,7 +38,7 @@ fn range(span: Span) -> String {
 fn rows_of(document: &Document, node: Node) -> Vec<Row> {
     let span = node.span();
     let tag = match node.tag() {
-        Some(tag) => format!("{} {}", range(tag.span), node.tag_suffix().unwrap_or_default()),
+        Some(tag) => format!("{} {}", range(tag.span), word(node.tag_suffix().unwrap_or_default())),
         None => "-".to_string(),
     };
     let first = [document.position(span.start).to_string(), node.kind().name().to_string(), range(span), tag];

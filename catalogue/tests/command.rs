@@ -23,6 +23,25 @@ fn shown(arguments: &[&str]) -> String {
     String::from_utf8(output.stdout).unwrap()
 }
 
+/// What it writes on standard output where no file is given, after it has said so.
+#[track_caller]
+fn shown_without_file(arguments: &[&str], input: &[u8]) -> String {
+    let output = run_with_input(arguments, input);
+    assert!(output.status.success(), "{output:?}");
+    let line = "catalogue: no FILE is given: this is examples/chapter.yaml; FILE - reads standard input\n";
+    assert_eq!(String::from_utf8(output.stderr).unwrap(), line);
+    String::from_utf8(output.stdout).unwrap()
+}
+
+fn run_with_input(arguments: &[&str], input: &[u8]) -> Output {
+    let mut command = command(arguments);
+    command.stdin(Stdio::piped()).stdout(Stdio::piped()).stderr(Stdio::piped());
+    let mut child = command.spawn().unwrap();
+    // it need not read all of it, or any
+    let _ = child.stdin.take().unwrap().write_all(input);
+    child.wait_with_output().unwrap()
+}
+
 /// A file of the tests' own.
 fn file(name: &str, bytes: &[u8]) -> String {
     let folder = PathBuf::from(env!("CARGO_TARGET_TMPDIR"));
@@ -54,33 +73,44 @@ const CHAPTER: &str = concat!(env!("CARGO_MANIFEST_DIR"), "/../examples/chapter.
 #[test]
 fn the_chapter_as_a_table() {
     let golden = include_str!("golden/chapter.table.txt");
-    assert_eq!(shown(&[]), golden);
-    assert_eq!(shown(&["--table"]), golden);
+    assert_eq!(shown_without_file(&[], b""), golden);
+    assert_eq!(shown_without_file(&["--table"], b""), golden);
     assert_eq!(shown(&[CHAPTER]), golden);
 }
 
 #[test]
 fn the_chapter_as_json_lines() {
     let golden = include_str!("golden/chapter.jsonl");
-    assert_eq!(shown(&["--json"]), golden);
+    assert_eq!(shown_without_file(&["--json"], b""), golden);
     assert_eq!(shown(&[CHAPTER, "--json"]), golden);
 }
 
 #[test]
 fn the_chapter_marked() {
     let golden = include_str!("golden/chapter.marked.txt");
-    assert_eq!(shown(&["--marked"]), golden);
+    assert_eq!(shown_without_file(&["--marked"], b""), golden);
     assert_eq!(shown(&["--marked", "--", CHAPTER]), golden);
 }
 
 #[test]
 fn standard_input() {
-    let mut child = command(&["--json", "-"]).stdin(Stdio::piped()).stdout(Stdio::piped()).spawn().unwrap();
-    child.stdin.take().unwrap().write_all(b"7").unwrap();
-    let output = child.wait_with_output().unwrap();
     let expected = "{\"record\":0,\"kind\":\"integer\",\"line\":1,\"column\":1,\"span\":[0,1],\"tag\":null,\"text\":\"7\",\"value\":7,\
                     \"pieces\":[{\"kind\":\"verbatim\",\"source\":[0,1],\"content\":1}]}\n";
-    assert_eq!(String::from_utf8(output.stdout).unwrap(), expected);
+    for arguments in [["--json", "-"], ["-", "--json"]] {
+        let output = run_with_input(&arguments, b"7");
+        assert!(output.status.success() && output.stderr.is_empty(), "{output:?}");
+        assert_eq!(String::from_utf8(output.stdout).unwrap(), expected);
+    }
+    let refused = run_with_input(&["-"], b"[");
+    let line = "catalogue: standard input:1:2: while parsing a flow node: did not find expected node content\n";
+    assert_eq!((refused.status.code(), String::from_utf8(refused.stderr).unwrap().as_str()), (Some(1), line));
+}
+
+/// A file that is piped in and not asked for is not read, and not passed over without a word.
+#[test]
+fn standard_input_without_a_file() {
+    assert_eq!(shown_without_file(&[], b"7"), include_str!("golden/chapter.table.txt"));
+    assert_eq!(shown_without_file(&["--json"], b"["), include_str!("golden/chapter.jsonl"));
 }
 
 #[test]
@@ -171,7 +201,7 @@ fn files_that_cannot_be_read() {
     let missing = run(&["no such\nfile.yaml"]);
     let line = String::from_utf8(missing.stderr).unwrap();
     assert_eq!(missing.status.code(), Some(1));
-    assert_eq!(line, "catalogue: no such?file.yaml: cannot be read: No such file or directory (os error 2)\n");
+    assert_eq!(line, "catalogue: no such<U+000A>file.yaml: cannot be read: No such file or directory (os error 2)\n");
     let folder = run(&[env!("CARGO_TARGET_TMPDIR")]);
     assert_eq!((folder.status.code(), folder.stdout.len()), (Some(1), 0));
     assert!(String::from_utf8(folder.stderr).unwrap().ends_with(": cannot be read: Is a directory (os error 21)\n"));
@@ -185,6 +215,7 @@ fn arguments() {
         String::from_utf8(output.stderr).unwrap()
     };
     assert_eq!(refused(&["--csv"]), "catalogue: unknown option --csv; --help says more\n");
+    assert_eq!(refused(&["--\x1b[2J\n"]), "catalogue: unknown option --<U+001B>[2J<U+000A>; --help says more\n");
     assert_eq!(refused(&["a", "b"]), "catalogue: more than one file; --help says more\n");
     let forms = "catalogue: more than one of --table, --json and --marked; --help says more\n";
     assert_eq!(refused(&["--json", "--table"]), forms);

@@ -51,6 +51,27 @@ fn carriage_returns() {
 }
 
 #[test]
+fn carriage_returns_that_end_no_line() {
+    let lines = ["a: 'b<U+000D>c'<U+000D>", "=  ------------", "d: e<U+000D>", "=  ="];
+    plain("a: 'b\rc'\r\r\nd: e\r", &lines);
+}
+
+/// Marks stand below all that a hidden character is shown as, and go on in the right column after it.
+#[test]
+fn hidden_characters() {
+    plain("a\u{202e}b: c", &["a<U+202E>b: c", "==========  ="]);
+    plain("\"\u{e0041}\tb\" # d", &["\"<U+E0041>\tb\" # d", "-================-"]);
+    plain("- !t\n- \u{200b}", &["- !t", "  !!.", "- <U+200B>", "  ========"]);
+    plain("\u{feff}a: b", &["<U+FEFF>a: b", "        =  ="]);
+}
+
+/// A value of no bytes has one point, however wide what stands there is.
+#[test]
+fn a_value_of_no_bytes_at_a_wide_place() {
+    plain("a:\t\nb: c", &["a:", "= .", "b: c", "=  ="]);
+}
+
+#[test]
 fn a_scalar_without_a_list() {
     plain("\"\\U0001F600\"", &["\"\\U0001F600\"", "------------"]);
 }
