@@ -43,13 +43,17 @@
  *            in the events (0 in a call on one scalar), and its length. Array: items, and 0. Hash: pairs, and 0. Else 0 and 0
  *
  * The children of a hash are its keys and values in turn; every pair is kept, equal keys too. An alias is a null of span length 0. A
- * scalar whose pieces cannot be found has no list; one with an empty value has a list of no pieces.
+ * scalar whose pieces cannot be found has no list. One with an empty value has a list of no pieces, if its walk can start: a quoted
+ * one's starts a byte after the span does, so it has no list where that is past the text or inside a character.
  *
  * PIECES. Four `uint32_t` each: 1 verbatim or 2 replacement, first byte in the text, the byte after the last, and the length in bytes
  * of the content that they stand for; of a verbatim piece the bytes are the content. Piece n, from 0, starts at `pieces[4 * n]`. A
  * scalar's pieces in order stand for its value from the front. Of an escape the content is as long as what it names and is not
  * compared with the value, so the last content can reach past the value; and an escape that the text's end cuts off still claims its
  * whole length, so a piece can end up to 4 bytes past the text: compare with the text's length before you use an end.
+ *
+ * A span can end early or late, even inside a character, a tag's span can lie in the content, pieces can reach past the span: which
+ * files do this, and what one would expect there, is in docs/DIFFERENCES.md, "What an entry can get wrong".
  */
 #ifndef QUARTO_YAML_H
 #define QUARTO_YAML_H
@@ -163,8 +167,8 @@ quarto_yaml_answer quarto_yaml_build(const uint8_t *text, size_t text_len, const
                                      uint32_t *records, size_t records_len, uint32_t *pieces, size_t pieces_len);
 
 /*
- * One scalar with no tag, as its event would give it. Answers 0, 1, and how many pieces; the record comes back by value, and the
- * pieces as `quarto_yaml_build` leaves them. Otherwise 1, 2, 3 (the style) or 8, 0, 0, and the record and the pieces are 0.
+ * One scalar with no tag, as its event would give it. Answers 0, 1 (the nodes), and how many pieces; the record comes back by value, the
+ * pieces stand as `quarto_yaml_build` leaves them. Otherwise 1, 2, 3 (the style) or 8, 0, 0, and the record and the pieces are 0.
  */
 quarto_yaml_scalar_answer quarto_yaml_scalar(const uint8_t *text, size_t text_len, uint32_t index, uint32_t column, uint8_t style,
                                              bool empty_span, const uint8_t *value, size_t value_len, uint32_t *pieces,
@@ -182,6 +186,10 @@ quarto_yaml_answer quarto_yaml_scan_error(const uint8_t *text, size_t text_len, 
  * `records` is a buffer that `quarto_yaml_build` filled, or any other: nothing is assumed of it. `n`, `c` are record numbers. A record
  * exists if it lies whole in the buffer and its kind is 1 to 8. Where a record, child or pair on the way does not exist the answer is
  * none: QUARTO_YAML_NONE, or a struct whose `present` is 0, and its other fields too. Nothing is written.
+ *
+ * Children are found from the last to the first: the one before c is the record c less c's subtree count. A count of 0 that is met on
+ * the way answers none; that of the record at the way's end, and of the collection itself, is not looked at. (From a pair's value one
+ * more step leads to its key.) A wrong count is followed, to any record that exists: no call notices.
  */
 
 /* The record of the root, where `nodes` records were built: the record before number `nodes`. */

@@ -1,6 +1,6 @@
 /* Every exported call against known numbers: the worked cases K1 to K12 of the scope document, the worked records of
- * crates/node/specs/Examples.antt, each row of the table, and the layout of every struct. Lent buffers hold another number beforehand
- * and have guards on both sides. Exit code 0 if all is as expected. */
+ * crates/node/specs/Examples.antt, each row of the table, what docs/DIFFERENCES.md says that an entry can get wrong, and the layout of
+ * every struct. Lent buffers hold another number beforehand and have guards on both sides. Exit code 0 if all is as expected. */
 #include "quarto_yaml.h"
 #include <stdio.h>
 #include <stdlib.h>
@@ -160,12 +160,53 @@ static void scalars(void) {
     CHECK(scalar(BYTES("a: |\n  b"), 7, 2, QUARTO_YAML_STYLE_FOLDED, true, BYTES("b\n"), 0, 1, 2)); /* an empty span */
     CHECK(record_is(NUMBERS(5, 7, 7, NONE, NONE, NONE, NONE, 1, 0, 2, 0, 2)));
 
+    /* an empty value: a list of no pieces, from the next free entry; none where a quoted one's walk would start past the text or
+     * inside a character. One node all the same */
+    CHECK(scalar(BYTES(""), 0, 0, QUARTO_YAML_STYLE_PLAIN, false, BYTES(""), 0, 1, 0) && is_zero(&pieces));
+    CHECK(record_is(NUMBERS(1, 0, 0, NONE, NONE, NONE, NONE, 1, 0, 0, 0, 0)));
+    CHECK(scalar(BYTES("''"), 0, 0, QUARTO_YAML_STYLE_SINGLE_QUOTED, false, BYTES(""), 0, 1, 0) && is_zero(&pieces));
+    CHECK(record_is(NUMBERS(5, 0, 2, NONE, NONE, NONE, NONE, 1, 0, 0, 0, 0)));
+    CHECK(scalar(BYTES(""), 0, 0, QUARTO_YAML_STYLE_DOUBLE_QUOTED, false, BYTES(""), 0, 1, 0) && is_zero(&pieces));
+    CHECK(record_is(NUMBERS(5, 0, 0, NONE, NONE, NONE, NONE, 1, NONE, 0, 0, 0)));
+    CHECK(scalar(BYTES("\xC3\xA9"), 0, 0, QUARTO_YAML_STYLE_SINGLE_QUOTED, false, BYTES(""), 0, 1, 0) && is_zero(&pieces));
+    CHECK(record_is(NUMBERS(5, 0, 0, NONE, NONE, NONE, NONE, 1, NONE, 0, 0, 0)));
+    CHECK(scalar(BYTES("\xC3\xA9"), 1, 1, QUARTO_YAML_STYLE_LITERAL, false, BYTES(""), 0, 1, 0) && is_zero(&pieces));
+    CHECK(record_is(NUMBERS(5, 2, 2, NONE, NONE, NONE, NONE, 1, 0, 0, 0, 0)));
+
     CHECK(scalar(BYTES("a"), 0, 0, 5, false, BYTES("a"), QUARTO_YAML_MALFORMED, 0, 0) && is_zero(&pieces));
     CHECK(record_is(NUMBERS(0, 0, 0, 0, 0, 0, 0, 0, 0, 0, 0, 0)));
     CHECK(scalar(BYTES("a"), 0, 0, 0, false, BYTES("\xFF"), QUARTO_YAML_NOT_UTF8, 0, 0) && is_zero(&pieces));
     scalar_answer = quarto_yaml_scalar(BYTES("a"), 0, 0, 0, false, BYTES("a"), lend(&pieces, 3), 3);
     CHECK(told(scalar_answer.answer, QUARTO_YAML_NO_PIECE_ROOM, 0, 0) && is_zero(&pieces));
     CHECK(record_is(NUMBERS(0, 0, 0, 0, 0, 0, 0, 0, 0, 0, 0, 0)));
+}
+
+/* ---- what an entry can get wrong (docs/DIFFERENCES.md), without a tag */
+
+/* The span of the last scalar, and its pieces; no list where there are no numbers. */
+static bool entry_is(uint32_t start, uint32_t end, const uint32_t *list, size_t count) {
+    const uint32_t *r = scalar_answer.record;
+    bool listed = r[QUARTO_YAML_AT_FIRST_PIECE] == (count == 0 ? NONE : 0) && r[QUARTO_YAML_AT_PIECE_COUNT] == count / 4;
+    return r[QUARTO_YAML_AT_START] == start && r[QUARTO_YAML_AT_END] == end && listed && holds(&pieces, list, count);
+}
+
+static void wrong_entries(void) {
+    enum { PLAIN = QUARTO_YAML_STYLE_PLAIN, LITERAL = QUARTO_YAML_STYLE_LITERAL };
+    /* a plain span from the value's length: two blank lines inside; U+00A0 first on a line, with the span's end inside it */
+    CHECK(scalar(BYTES("a\n\n\nb"), 0, 0, PLAIN, false, BYTES("a\n\nb"), 0, 1, 3));
+    CHECK(entry_is(0, 4, NUMBERS(1, 0, 1, 1, 2, 1, 4, 2, 1, 4, 5, 1)));
+    CHECK(scalar(BYTES("a\n \xC2\xA0"), 0, 0, PLAIN, false, BYTES("a \xC2\xA0"), 0, 1, 3));
+    CHECK(entry_is(0, 4, NUMBERS(1, 0, 1, 1, 2, 1, 3, 1, 1, 3, 5, 2)));
+    /* pieces past the span: a block's last newline; the next line's indentation */
+    CHECK(scalar(BYTES("|\n x\n"), 3, 1, LITERAL, false, BYTES("x\n"), 0, 1, 1) && entry_is(3, 4, NUMBERS(1, 3, 5, 2)));
+    CHECK(scalar(BYTES("- - |\n   x\n  -"), 9, 3, LITERAL, false, BYTES("x\n"), 0, 1, 2));
+    CHECK(entry_is(9, 10, NUMBERS(1, 9, 10, 1, 2, 10, 13, 1)));
+    /* no list: a blank line that is wider than the indentation; an empty line before the content */
+    CHECK(scalar(BYTES("|\n a\n   \n"), 3, 1, LITERAL, false, BYTES("a\n  \n"), 0, 1, 0) && entry_is(3, 4, NULL, 0));
+    CHECK(scalar(BYTES("|\n\n a"), 4, 1, LITERAL, false, BYTES("\na"), 0, 1, 0) && entry_is(4, 5, NULL, 0));
+    /* a carriage return without a newline: no list, the span too short, or over the next item */
+    CHECK(scalar(BYTES("a\r b"), 0, 0, PLAIN, false, BYTES("a b"), 0, 1, 0) && entry_is(0, 3, NULL, 0));
+    CHECK(scalar(BYTES("- |\r a\r- b"), 5, 1, LITERAL, false, BYTES("a\n"), 0, 1, 0) && entry_is(5, 10, NULL, 0));
 }
 
 /* ---- quarto_yaml_build: its events, each row of the table */
@@ -177,6 +218,23 @@ static void scalars(void) {
 #define ALIAS(at) "\6\0\4\0\0\0" at
 #define SCALAR1(at, value) "\5\0\14\0\0\0" at "\0\0\0\0\0\0\0" value /* plain, no tag, one byte */
 
+/* a tag `!t` on a scalar of one byte: the handle `!`, the suffix `t` */
+#define STYLED(at, column, style, value) "\5\0\22\0\0\0" at "\0\0\0" column style "\0\1\0\1!\0\1t" value
+#define TAGGED(at, value) STYLED(at, "\0", "\0", value)
+
+static bool tag_is(uint32_t n, uint32_t start, uint32_t end) {
+    quarto_yaml_tag_info tag = quarto_yaml_tag(records.numbers + GUARD, records.len, n);
+    return tag.present == 1 && tag.start == start && tag.end == end;
+}
+
+/* What an entry can get wrong (docs/DIFFERENCES.md): a tag that is not found, its span guessed where the content stands. */
+static void wrong_tags(void) {
+    CHECK(told(build(BYTES("!t |\n x"), BYTES(STYLED("\6", "\1", "\3", "x")), 12, 4), 0, 1, 1) && tag_is(0, 6, 7));
+    CHECK(told(build(BYTES("!t #\nx"), BYTES(TAGGED("\5", "x")), 12, 4), 0, 1, 1) && tag_is(0, 5, 6));
+    CHECK(told(build(BYTES("!t # !\nx"), BYTES(TAGGED("\7", "x")), 12, 4), 0, 1, 1) && tag_is(0, 5, 6));
+    CHECK(told(build(BYTES("!t x"), BYTES(TAGGED("\3", "x")), 12, 4), 0, 1, 1) && tag_is(0, 0, 2));
+}
+
 static void documents(void) {
     CHECK(told(build(BYTES("k: *a"), BYTES(MAP_START("\0") SCALAR1("\0", "k") ALIAS("\3") MAP_END("\5")), 50, 9), 0, 3, 1));
     CHECK(holds(&records, NUMBERS(5, 0, 1, NONE, NONE, NONE, NONE, 1, 0, 1, 22, 1,         /* `k`, byte 22 of the events */
@@ -184,8 +242,7 @@ static void documents(void) {
                                   8, 0, 5, NONE, NONE, NONE, NONE, 3, NONE, 0, 1, 0)));    /* the hash, one pair */
     CHECK(holds(&pieces, NUMBERS(1, 0, 1, 1)));
 
-    /* K12: tag `!t` of the second item, by the handle `!` and the suffix `t` */
-#define TAGGED(at, value) "\5\0\22\0\0\0" at "\0\0\0\0\0\0\1\0\1!\0\1t" value
+    /* K12: tag `!t` of the second item */
     CHECK(told(build(BYTES("[a,!t b]"), BYTES(SEQ_START("\0") SCALAR1("\1", "a") TAGGED("\6", "b") SEQ_END("\7")), 36, 8), 0, 3, 2));
     CHECK(holds(&records, NUMBERS(5, 1, 2, NONE, NONE, NONE, NONE, 1, 0, 1, 22, 1,
                                   5, 6, 7, 6, 8, 42, 1, 1, 1, 1, 43, 1,
@@ -277,14 +334,31 @@ static void accessors(void) {
     CHECK(quarto_yaml_root(NUMBERS(ROW(0, 0, 0, 1, 0, 0)), 1) == NONE && quarto_yaml_root(NUMBERS(ROW(9, 0, 0, 1, 0, 0)), 1) == NONE);
     CHECK(quarto_yaml_child_before(NUMBERS(ROW(1, 0, 0, 1, 0, 0), ROW(1, 0, 0, 0, 0, 0)), 1) == NONE);
     CHECK(quarto_yaml_child_before(NUMBERS(ROW(1, 0, 0, 1, 0, 0), ROW(1, 0, 0, 2, 0, 0)), 1) == NONE);
-    /* a damaged count is told as it is, and not followed */
+    /* a count of 0 answers none where a step is taken from it, and is not met in what is answered, or in the collection asked: the
+     * only item of an array is found, and the last of two */
+    CHECK(quarto_yaml_get_array_item(NUMBERS(ROW(1, 0, 0, 0, 0, 0), ROW(7, 0, 0, 0, 1, 0)), 1, 0) == 0);
+    CHECK(quarto_yaml_last_child(NUMBERS(ROW(1, 0, 0, 0, 0, 0), ROW(7, 0, 0, 0, 1, 0)), 1) == 0);
+#define ZERO_LAST NUMBERS(ROW(1, 0, 0, 1, 0, 0), ROW(1, 0, 0, 0, 0, 0), ROW(7, 0, 0, 3, 2, 0))
+    CHECK(quarto_yaml_get_array_item(ZERO_LAST, 2, 1) == 1 && quarto_yaml_get_array_item(ZERO_LAST, 2, 0) == NONE);
+    /* of a pair the value's is met, and the key's if a pair stands before it */
+#define KEY_ZERO NUMBERS(ROW(5, 0, 1, 0, 0, 1), ROW(1, 2, 3, 1, 0, 0), ROW(8, 0, 3, 3, 1, 0))
+#define VALUE_ZERO NUMBERS(ROW(5, 0, 1, 1, 0, 1), ROW(1, 2, 3, 0, 0, 0), ROW(8, 0, 3, 3, 1, 0))
+    CHECK(quarto_yaml_hash_entry(KEY_ZERO, 2, 0).present == 1 && no_entry(quarto_yaml_hash_entry(VALUE_ZERO, 2, 0)));
+    CHECK(quarto_yaml_get_hash_value(KEY_ZERO, BYTES("k"), 2, BYTES("k")) == 1);
+    CHECK(quarto_yaml_get_hash_value(VALUE_ZERO, BYTES("k"), 2, BYTES("k")) == NONE);
+    /* a wrong count is followed, here from the second item to a record outside the array */
+#define WRONG NUMBERS(ROW(1, 0, 0, 1, 0, 0), ROW(1, 0, 0, 1, 0, 0), ROW(1, 0, 0, 2, 0, 0), ROW(7, 0, 0, 3, 2, 0))
+    CHECK(quarto_yaml_get_array_item(WRONG, 3, 0) == 0 && quarto_yaml_child_before(WRONG, 2) == 0);
+    /* a damaged number of children is told as it is */
     CHECK(quarto_yaml_len(NUMBERS(ROW(7, 0, 0, 1, NONE, 0)), 0) == NONE && quarto_yaml_is_empty(NUMBERS(ROW(7, 0, 0, 1, NONE, 0)), 0) == 0);
     CHECK(quarto_yaml_get_array_item(NUMBERS(ROW(7, 0, 0, 1, NONE, 0)), 0, 0) == NONE);
 }
 
 int main(void) {
     scalars();
+    wrong_entries();
     documents();
+    wrong_tags();
     errors();
     accessors();
     printf("%d checked, %d failed\n", checked, failed);

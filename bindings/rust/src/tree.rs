@@ -95,7 +95,8 @@ impl<'a> Node<'a> {
         sys::is_empty(self.tree.records, self.number) == 1
     }
 
-    /// The bytes of the text that it occupies: quotes are counted in, the header of a block scalar is not.
+    /// The bytes of the text that it occupies, as the builder finds them: quotes are counted in, the header of a block scalar only where
+    /// its marker is on it. docs/DIFFERENCES.md says where they are not what one would expect.
     pub fn span(self) -> Span {
         let sys::Span { start, end, .. } = sys::source_info(self.tree.records, self.number);
         Span { start, end }
@@ -134,8 +135,9 @@ impl<'a> Node<'a> {
         (list.present == 1).then_some(PieceList { first: list.first, count: list.count })
     }
 
-    /// The pieces of a scalar in order: their contents, one after the other, are its value. None where it has no list, as an alias,
-    /// a scalar whose pieces cannot be found, and a collection.
+    /// The pieces of a scalar in order: their contents, one after the other, stand for its value from the front, and reach past its end
+    /// only with an escape that is not the value's. None where it has no list, as an alias, a scalar whose pieces cannot be found, and a
+    /// collection.
     pub fn pieces(self) -> Option<Pieces<'a>> {
         Pieces::new(self.tree.pieces, self.piece_list()?)
     }
