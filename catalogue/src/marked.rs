@@ -99,10 +99,9 @@ fn gutter(lines: usize) -> usize {
     lines.to_string().len().max(5) + 3
 }
 
-/// The characters of a line and those of its break, a newline with the carriage return before it. Any other is a character.
-fn split_break(line: &str) -> (&str, &str) {
-    let text = line.strip_suffix("\r\n").or(line.strip_suffix('\n')).unwrap_or(line);
-    line.split_at(text.len())
+/// A line without its break, a newline with the carriage return before it. Any other carriage return is a character.
+fn without_break(line: &str) -> &str {
+    line.strip_suffix("\r\n").or(line.strip_suffix('\n')).unwrap_or(line)
 }
 
 /// What a character is shown as. A tab is left to the terminal.
@@ -116,7 +115,7 @@ pub fn write_plain(document: &Document, out: &mut dyn Write) -> io::Result<()> {
     let lines = lines(document, &marks);
     let gutter = gutter(lines.len());
     for (i, (start, line)) in lines.into_iter().enumerate() {
-        let text: String = split_break(line).0.chars().map(cells).collect();
+        let text: String = without_break(line).chars().map(cells).collect();
         writeln!(out, "{}", format!("{:1$} | {text}", i + 1, gutter - 3).trim_end())?;
         for signs in signs(&marks, start, line, gutter) {
             if !signs.trim_end().is_empty() {
@@ -131,7 +130,7 @@ pub fn write_plain(document: &Document, out: &mut dyn Write) -> io::Result<()> {
 /// The marks below a line, and those of no bytes that have no room among them.
 fn signs(marks: &Marks, start: usize, line: &str, gutter: usize) -> [String; 2] {
     let mut below = [String::new(), String::new()];
-    let text = split_break(line).0.len();
+    let text = without_break(line).len();
     let end = (start + line.len() == marks.bytes.len() - 1 && !line.ends_with('\n')).then_some((line.len(), ' '));
     for (offset, c) in line.char_indices().chain(end) {
         let sign = marks.bytes[start + offset].sign();
@@ -166,7 +165,7 @@ pub fn write_coloured(document: &Document, out: &mut dyn Write) -> io::Result<()
     let gutter = gutter(lines.len());
     for (i, (start, line)) in lines.into_iter().enumerate() {
         write!(out, "\x1b[2m{:1$} |\x1b[0m ", i + 1, gutter - 3)?;
-        let text = split_break(line).0.len();
+        let text = without_break(line).len();
         for (offset, c) in line.char_indices() {
             write_point(&marks, start + offset, out)?;
             match (c, marks.bytes[start + offset]) {
