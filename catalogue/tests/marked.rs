@@ -45,6 +45,17 @@ fn wide_characters_and_tabs() {
     plain("\"a\tb\"\n", &["\"a\tb\"", "-========-"]);
 }
 
+/// Six digits move text, marks and tab stops alike: `b` stands at column 16.
+#[test]
+fn a_hundred_thousand_lines() {
+    let mut out = Vec::new();
+    let text = "#\n".repeat(99_999) + "a:\tb";
+    with_document(text.as_bytes(), |document| write_plain(document, &mut out)).unwrap().unwrap();
+    let out = String::from_utf8(out).unwrap();
+    assert!(out.starts_with("     1 | #\n     2 | #\n"));
+    assert!(out.contains("\n100000 | a:\tb\n       | =      =\n\n"));
+}
+
 #[test]
 fn carriage_returns() {
     plain("a: b\r\n  c\r\n", &["a: b", "=  =~~", "  c", "~~="]);
