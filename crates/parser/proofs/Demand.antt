@@ -22,10 +22,11 @@ use Rattle.text.specs.Utf8Laws.{utf8-complete, boundary-is}
 use Rattle.text.specs.Offset.{byteOffset, isAscii}
 use Rattle.text.specs.OffsetLaws.{offset-boundary}
 use Rattle.schema.specs.Tag.{resolveScalar}
+use Rattle.schema.specs.declared.plain.Resolved.{Resolved}
 use Rattle.measure.specs.Scalar.{folded}
 use Rattle.event.specs.Number.{Bytes}
 use Rattle.event.specs.Read.{eventsLimit, part, partOf, readEvent}
-use Rattle.event.specs.Encode.{Tag, YamlEvent, sequenceStart, sequenceEnd, mappingStart, mappingEnd, scalar, alias, encodeTag, encode}
+use Rattle.event.specs.Encode.{Tag, untagged, tagged, YamlEvent, sequenceStart, sequenceEnd, mappingStart, mappingEnd, scalar, alias, encodeTag, encode}
 use Rattle.event.specs.Meaning.{StandsAt, placedTag, placed, says, saidTag, said}
 use Rattle.event.specs.EventList.{encodeAll, AllSound, Stand, Front}
 use Rattle.event.specs.EventListLaws.{event-takes, encode-all-append, all-stand, front-of, sound-split, one-stands}
@@ -56,7 +57,8 @@ use Rattle.parser.specs.EventRun.{goOn, reached, runEvents, malformed, E
 use Rattle.parser.specs.Layout.{laidPieces, recordRoom, pieceRoom}
 use Rattle.parser.specs.Call as call
 use Rattle.parser.specs.Call.{recordOf, admitted, building, oneScalar, readingScalar}
-use Rattle.parser.specs.Demand.{startAt, walkFirst, walkedBy, readPieces, listIn, numberOf, walkedIn, ScalarDemand3, Consecutive, ScalarListed, ListsBuilt, NoRoomAt, BuildDemand3}
+use Rattle.parser.specs.Demand.{startAt, walkFirst, resolvedAs, EntrySays, TagSays, walkedBy, readPieces, listIn, numberOf, walkedIn, ScalarDemand3, ScalarRecord, Consecutive, ScalarListed, ListsBuilt, NoRoomAt, BuildDemand3}
+use Rattle.parser.specs.declared.record.TagInfo.{TagInfo}
 use Rattle.parser.specs.declared.record.Node.{Node}
 use Rattle.parser.specs.declared.record.PieceList.{PieceList}
 use Rattle.parser.specs.declared.stack.Open.{Open}
@@ -81,6 +83,19 @@ module _ (text : List ℕ) (sound : Sound text) (awaited : Bool) (index column s
   pub walk-demand3 : (most : ℕ)
       → Demand3 (rulesOf style column) escapesReach text (walkFirst text awaited index column style emptySpan value) value most (answerOf most found) (leftOf most found)
   walk-demand3 most = demand3 (rulesOf style column) (style-fair style) text (walkFirst text awaited index column style emptySpan value) value most
+
+  -- a record that differs from the machine's in its list only
+  pub entry-says : (place : ℕ) (t : TagInfo) (r : Resolved) (x : Node) → withList x absent 0 ≡ withList (scalarNode text (scalarAt text awaited index column style emptySpan value place) t r) absent 0
+      → EntrySays text awaited index column style emptySpan value r place t x
+  unfolding scalarNode spanLen
+  entry-says place t r x e =
+      record {
+        kind = ap (λ (y : Node). y .kind) e;
+        span = ap (λ (y : Node). y .extent) e ∙ rw (boundary-is start-boundary) refl;
+        tag = ap (λ (y : Node). y .tag) e;
+        subtree = ap (λ (y : Node). y .subtree) e;
+        payload = ap (λ (y : Node). y .payload) e;
+      }
 
 -- ---- what a record's list finds in the buffer
 
@@ -119,27 +134,29 @@ none-found b l e = ap (λ (n : ℕ). readPieces n (drop (4 * l .first) b)) e
 -- ---- what is kept of a scalar whose walk gives the list o, where `used` pieces are kept and at most `most` are let in
 
 -- of the record and the pieces that are added
-record Keeps (most : ℕ) (o : Option (List Piece)) (st : State) (st′ : State) : Type 0 where
+record Keeps (most : ℕ) (x : Node) (o : Option (List Piece)) (st : State) (st′ : State) : Type 0 where
   node : Node
   nodes : st′ .nodes ≡ st .nodes ++ (node ∷ [])
+  same : withList node absent 0 ≡ withList x absent 0
   answer : walkedBy (node .list) ≡ answerOf (most - length (st .pieces)) o
   pieces : st′ .pieces ≡ st .pieces ++ leftOf (most - length (st .pieces)) o
   finds : (size : ℕ) (rest : List Piece) → listIn (laidPieces size ((st .pieces ++ leftOf (most - length (st .pieces)) o) ++ rest)) (node .list) ≡ leftOf (most - length (st .pieces)) o
 
 module _ (most : ℕ) (small : most < absent) (x : Node) (un : x .list ≡ noList) (st : State) where
-  keeps-none : Keeps most none st (completed x st)
+  keeps-none : Keeps most x none st (completed x st)
   unfolding completed answerOf leftOf
   keeps-none =
       record {
         node = x;
         nodes = refl;
+        same = refl;
         answer = ap walkedBy un;
         pieces = sym (append-nil (st .pieces));
         finds = λ size rest. none-found _ (x .list) (ap (λ (l : PieceList). l .count) un);
       }
 
   keeps-some : (ps : List Piece) → length (st .pieces) + length ps ≤ most
-      → Keeps most (some ps) st (completed (withList x (length (st .pieces)) (length ps)) (record { nodes = st .nodes; opens = st .opens; pieces = st .pieces ++ ps }))
+      → Keeps most x (some ps) st (completed (withList x (length (st .pieces)) (length ps)) (record { nodes = st .nodes; opens = st .opens; pieces = st .pieces ++ ps }))
   unfolding completed answerOf leftOf
   keeps-some ps fits =
       let le : leb (length ps) (most - length (st .pieces)) ≡ true = le-leb (length ps) (most - length (st .pieces)) (omega arith) in
@@ -147,17 +164,18 @@ module _ (most : ℕ) (small : most < absent) (x : Node) (un : x .list ≡ noLis
       record {
         node = withList x (length (st .pieces)) (length ps);
         nodes = refl;
+        same = refl;
         answer = rw (ne, le) refl;
         pieces = rw le refl;
         finds = λ size rest. rw le (list-found size (st .pieces) ps rest);
       }
 
-  keeps : (o : Option (List Piece)) (st′ : State) → keeping most x o st ≡ go st′ → Keeps most o st st′
+  keeps : (o : Option (List Piece)) (st′ : State) → keeping most x o st ≡ go st′ → Keeps most x o st st′
   unfolding keeping
-  keeps none st′ e = subst (λ (s : State). Keeps most none st s) (go-is _ st′ e) keeps-none
+  keeps none st′ e = subst (λ (s : State). Keeps most x none st s) (go-is _ st′ e) keeps-none
   keeps (some ps) st′ e =
       let w = gate (ltb most (length (st .pieces) + length ps)) 8 _ st′ e in
-      subst (λ (s : State). Keeps most (some ps) st s) (go-is _ st′ (w .1)) (keeps-some ps (ltb-false most (length (st .pieces) + length ps) (w .0)))
+      subst (λ (s : State). Keeps most x (some ps) st s) (go-is _ st′ (w .1)) (keeps-some ps (ltb-false most (length (st .pieces) + length ps) (w .0)))
 
 -- ---- the call on one scalar
 
@@ -234,6 +252,25 @@ module _ (text : List ℕ) (sound : Sound text) (index column style : ℕ) (empt
             all-numbers = k .all-numbers ∙ ap (laidPieces size) (sym (k .finds));
           }
 
+  alone-same : (o : Option (List Piece)) (xs : List Node) (ps : List Piece) → keptAlone size aloneNode o ≡ built xs ps → withList (recordOf (keptAlone size aloneNode o)) absent 0 ≡ withList aloneNode absent 0
+  unfolding keeping completed
+  alone-same none xs ps e = refl
+  alone-same (some qs) xs ps e = by (ltb (pieceRoom size) (0 + length qs)) e
+    where
+      by : (t : Bool) → follow (pick t (stop 8) (go (completed (withList aloneNode 0 (length qs)) (record { nodes = []; opens = []; pieces = qs })))) (λ (st : State). built (st .nodes) (st .pieces)) 0 ≡ built xs ps
+          → withList (recordOf (follow (pick t (stop 8) (go (completed (withList aloneNode 0 (length qs)) (record { nodes = []; opens = []; pieces = qs })))) (λ (st : State). built (st .nodes) (st .pieces)) 0)) absent 0 ≡ withList aloneNode absent 0
+      by true f = absurd (refused-not-built 8 0 xs ps f)
+      by false f = refl
+
+  -- and its record, or zeros
+  pub scalar-record : ScalarRecord text index column style emptySpan value (readingScalar text index column style emptySpan value size)
+  scalar-record =
+      record {
+        entry = λ xs ps e. entry-says text sound false index column style emptySpan value 0 noTag (resolveScalar value style false [] []) _
+            (ap (λ (o : Outcome). withList (recordOf o) absent 0) scalar-is ∙ alone-same _ xs ps (sym scalar-is ∙ e));
+        zero = λ number place e. ap recordOf e;
+      }
+
 -- ---- a document: the calls' first rows
 
 module _ (text events : List ℕ) (size pieceSize : ℕ) where
@@ -305,6 +342,30 @@ value-found events i index column style emptySpan tag value p =
     ≡ says (scalar index column style emptySpan tag value) = parts-are events i (scalar index column style emptySpan tag value) p in
     cc
 
+tag-found : (events : List ℕ) (i index column style : ℕ) (emptySpan : Bool) (tag : Tag) (value : List ℕ) → StandsAt events i (scalar index column style emptySpan tag value)
+    → saidTag events (placedTag (i + 3 + 4 + 6) tag) ≡ tag
+unfolding placed said
+tag-found events i index column style emptySpan tag value p =
+    let e : says (scalar index column style emptySpan (saidTag events (placedTag (i + 3 + 4 + 6) tag)) (partOf events (part (i + 3 + 4 + 6 + length (encodeTag tag)) (length value))))
+    ≡ says (scalar index column style emptySpan tag value) = parts-are events i (scalar index column style emptySpan tag value) p in
+    cc
+
+-- a scalar is what its event's handle and suffix make of it
+resolved-found : (events : List ℕ) (j : ℕ) (tag : Tag) (value : List ℕ) (style : ℕ) → saidTag events (placedTag j tag) ≡ tag → resolvedBy events value style (placedTag j tag) ≡ resolvedAs tag value style
+unfolding resolvedBy
+resolved-found events j untagged value style e = refl
+resolved-found events j (tagged h x) value style e =
+    let eh : partOf events (part (j + 1 + 2) (length h)) ≡ h = cc in
+    let ex : partOf events (part (j + 1 + 2 + length h + 2) (length x)) ≡ x = cc in
+    rw (eh, ex) refl
+
+tag-says : (text events : List ℕ) (start j : ℕ) (tag : Tag) → saidTag events (placedTag j tag) ≡ tag → TagSays text events start tag (tagInfo text start (suffixOf (placedTag j tag)))
+unfolding tagInfo
+tag-says text events start j untagged e = refl
+tag-says text events start j (tagged h x) e =
+    let ex : partOf events (part (j + 1 + 2 + length h + 2) (length x)) ≡ x = cc in
+    (j + 1 + 2 + length h + 2, ex, refl)
+
 module _ (text events : List ℕ) (sound : Sound text) (room most : ℕ) (small : most < absent)
     (i index column style : ℕ) (emptySpan : Bool) (tag : Tag) (value : List ℕ) (stands : StandsAt events i (scalar index column style emptySpan tag value)) (st : State) where
   abbrev awaited : Bool
@@ -339,10 +400,20 @@ module _ (text events : List ℕ) (sound : Sound text) (room most : ℕ) (small 
   stepHere = step text events room most (placed i (scalar index column style emptySpan tag value)) st
 
   -- it leads on: what is kept
-  leads : (st′ : State) → stepHere ≡ go st′ → Keeps most foundHere st st′
+  leads : (st′ : State) → stepHere ≡ go st′ → Keeps most nodeHere foundHere st st′
   unfolding placed scalared
   leads st′ e =
       keeps most small nodeHere no-list-yet st foundHere st′ (sym kept-is ∙ past-room room st _ st′ (past-root st _ st′ e .1) .1)
+
+  entry-here : (x : Node) → withList x absent 0 ≡ withList nodeHere absent 0
+      → EntrySays text awaited index column style emptySpan value (resolvedAs tag value style) valueAt (tagInfo text (startAt text awaited index style value) (suffixOf tagAt)) x
+  entry-here x e =
+      subst (λ (r : Resolved). EntrySays text awaited index column style emptySpan value r valueAt (tagInfo text (startAt text awaited index style value) (suffixOf tagAt)) x)
+      (resolved-found events (i + 3 + 4 + 6) tag value style (tag-found events i index column style emptySpan tag value stands))
+      (entry-says text sound awaited index column style emptySpan value valueAt _ _ x e)
+
+  tag-here : TagSays text events (startAt text awaited index style value) tag (tagInfo text (startAt text awaited index style value) (suffixOf tagAt))
+  tag-here = tag-says text events (startAt text awaited index style value) (i + 3 + 4 + 6) tag (tag-found events i index column style emptySpan tag value stands)
 
   -- row 8 refuses it
   pub record TooMany : Type 0 where
@@ -410,9 +481,39 @@ module _ (text events : List ℕ) (size pieceSize : ℕ) where
 
   module _ (sound : Sound text) (es : List YamlEvent) (ok : AllSound es) (bytes : events ≡ encodeAll es) (xs : List Node) (ps : List Piece)
       (runs : runEvents text events recordsIn most ending 0 0 es empty ≡ built xs ps) where
+    listed : (before : List YamlEvent) (index column style : ℕ) (emptySpan : Bool) (tag : Tag) (value : List ℕ) (here next : State)
+        → reached text events recordsIn most 0 before empty ≡ go here → (stands : StandsAt events (length (encodeAll before)) (scalar index column style emptySpan tag value))
+        → Keeps most (nodeHere text events sound recordsIn most (room-small pieceSize) (length (encodeAll before)) index column style emptySpan tag value stands here)
+        (found text sound (awaitsValue (here .opens)) index column style emptySpan value) here next → Grown most next (record { nodes = xs; opens = []; pieces = ps })
+        → ScalarListed text events recordsIn most before index column style emptySpan tag value xs (laidPieces pieceSize ps)
+    listed before index column style emptySpan tag value here next to-here stands k g =
+        let o : Option (List Piece) = found text sound (awaitsValue (here .opens)) index column style emptySpan value in
+        let room : ℕ = most - length (here .pieces) in
+        let left : List Piece = leftOf room o in
+        let i : ℕ = length (encodeAll before) in
+        let all-pieces : ps ≡ (here .pieces ++ left) ++ g .left = g .pieces ∙ ap (λ (l : List Piece). l ++ g .left) (k .pieces) in
+        let finds : listIn (laidPieces pieceSize ps) (k .node .list) ≡ left = ap (λ (l : List Piece). listIn (laidPieces pieceSize l) (k .node .list)) all-pieces ∙ k .finds pieceSize (g .left) in
+        let first : ℕ = walkFirst text (awaitsValue (here .opens)) index column style emptySpan value in
+        record {
+          st = here;
+          let-through = to-here;
+          node = k .node;
+          later = g .own;
+          place = drop-front (here .nodes) (k .node) (g .own) xs (g .nodes ∙ ap (λ (l : List Node). l ++ g .own) (k .nodes));
+          value-place = i + 3 + 4 + 6 + length (encodeTag tag);
+          value-there = value-found events i index column style emptySpan tag value stands;
+          tag-info = tagInfo text (startAt text (awaitsValue (here .opens)) index style value) (suffixOf (placedTag (i + 3 + 4 + 6) tag));
+          tag-there = tag-here text events sound recordsIn most (room-small pieceSize) i index column style emptySpan tag value stands here;
+          entry = entry-here text events sound recordsIn most (room-small pieceSize) i index column style emptySpan tag value stands here (k .node) (k .same);
+          demand3 =
+              subst (λ (w : Walked). Demand3 (rulesOf style column) escapesReach text first value room w (listIn (laidPieces pieceSize ps) (k .node .list))) (sym (k .answer))
+              (subst (λ (l : List Piece). Demand3 (rulesOf style column) escapesReach text first value room (answerOf room o) l) (sym finds)
+              (walk-demand3 text sound (awaitsValue (here .opens)) index column style emptySpan value room));
+        }
+
     each-scalar : (before after : List YamlEvent) (index column style : ℕ) (emptySpan : Bool) (tag : Tag) (value : List ℕ)
         → es ≡ before ++ (scalar index column style emptySpan tag value ∷ after)
-        → ScalarListed text events recordsIn most before index column style emptySpan value xs (laidPieces pieceSize ps)
+        → ScalarListed text events recordsIn most before index column style emptySpan tag value xs (laidPieces pieceSize ps)
     each-scalar before after index column style emptySpan tag value split =
         let e : YamlEvent = scalar index column style emptySpan tag value in
         let p = passing text events recordsIn most ending 0 0 before e after empty xs ps (ap (λ (l : List YamlEvent). runEvents text events recordsIn most ending 0 0 l empty) (sym split) ∙ runs) in
@@ -423,30 +524,7 @@ module _ (text events : List ℕ) (size pieceSize : ℕ) where
         ap (λ (j : ℕ). step text events recordsIn most (placed j e) (p .here)) (sym z) ∙ p .on in
         let k = leads text events sound recordsIn most (room-small pieceSize) (length (encodeAll before)) index column style emptySpan tag value stands (p .here) (p .next) on in
         let g = run-grown text events recordsIn most (room-small pieceSize) (p .place) (p .number) after (p .next) xs ps (p .rest) in
-        listed before index column style emptySpan value (p .here) (p .next) (p .to-here) k g
-      where
-        listed : (before : List YamlEvent) (index column style : ℕ) (emptySpan : Bool) (value : List ℕ) (here next : State)
-            → reached text events recordsIn most 0 before empty ≡ go here
-            → Keeps most (found text sound (awaitsValue (here .opens)) index column style emptySpan value) here next → Grown most next (record { nodes = xs; opens = []; pieces = ps })
-            → ScalarListed text events recordsIn most before index column style emptySpan value xs (laidPieces pieceSize ps)
-        listed before index column style emptySpan value here next to-here k g =
-            let o : Option (List Piece) = found text sound (awaitsValue (here .opens)) index column style emptySpan value in
-            let room : ℕ = most - length (here .pieces) in
-            let left : List Piece = leftOf room o in
-            let all-pieces : ps ≡ (here .pieces ++ left) ++ g .left = g .pieces ∙ ap (λ (l : List Piece). l ++ g .left) (k .pieces) in
-            let finds : listIn (laidPieces pieceSize ps) (k .node .list) ≡ left = ap (λ (l : List Piece). listIn (laidPieces pieceSize l) (k .node .list)) all-pieces ∙ k .finds pieceSize (g .left) in
-            let first : ℕ = walkFirst text (awaitsValue (here .opens)) index column style emptySpan value in
-            record {
-              st = here;
-              let-through = to-here;
-              node = k .node;
-              later = g .own;
-              place = drop-front (here .nodes) (k .node) (g .own) xs (g .nodes ∙ ap (λ (l : List Node). l ++ g .own) (k .nodes));
-              demand3 =
-                  subst (λ (w : Walked). Demand3 (rulesOf style column) escapesReach text first value room w (listIn (laidPieces pieceSize ps) (k .node .list))) (sym (k .answer))
-                  (subst (λ (l : List Piece). Demand3 (rulesOf style column) escapesReach text first value room (answerOf room o) l) (sym finds)
-                  (walk-demand3 text sound (awaitsValue (here .opens)) index column style emptySpan value room));
-            }
+        listed before index column style emptySpan tag value (p .here) (p .next) (p .to-here) stands k g
 
     lists-all : Consecutive 0 xs (length ps)
     lists-all =

@@ -3,16 +3,20 @@
 use Prim.Native.Nat.{ℕ, zero, suc, _+_, _-_, _*_, _≤_, _<_}
 use mathlib.Core.Path.{_≡_}
 use mathlib.Core.Logic.{_⊎_}
-use mathlib.Core.Bool.{Bool, false}
+use mathlib.Core.Bool.{Bool, true, false}
 use mathlib.Core.List.{List, [], _∷_, _++_}
 use lib.Dec.{eqb}
 use lib.ListN.{length, getD, drop}
 use Rattle.text.specs.AdmissionLaws.{Sound}
 use Rattle.text.specs.Boundary.{Boundary}
 use Rattle.text.specs.Offset.{byteOffset}
+use Rattle.schema.specs.Tag.{resolveScalar}
+use Rattle.schema.specs.Record.{kindNumber, payloadOf}
+use Rattle.schema.specs.declared.plain.Resolved.{Resolved}
 use Rattle.measure.specs.Scalar.{scalarLen}
-use Rattle.event.specs.Read.{eventsLimit}
-use Rattle.event.specs.Encode.{Tag, YamlEvent, scalar}
+use Rattle.tag.specs.Tag.{tagSpan}
+use Rattle.event.specs.Read.{eventsLimit, part, partOf}
+use Rattle.event.specs.Encode.{Tag, untagged, tagged, YamlEvent, scalar}
 use Rattle.event.specs.Meaning.{StandsAt}
 use Rattle.event.specs.EventList.{encodeAll, AllSound}
 use Rattle.provenance.specs.Escape.{escapesReach}
@@ -25,14 +29,15 @@ use Rattle.provenance.specs.declared.step.Step.{Step}
 use Rattle.provenance.specs.declared.walk.Walked.{Walked}
 use Rattle.provenance.specs.declared.walk.Walked.the-variants.{Listed, NoRoom, NoList}
 use Rattle.parser.specs.Pick.{pick}
-use Rattle.parser.specs.Record.{absent, noList}
-use Rattle.parser.specs.Scalar.{scalarStart}
+use Rattle.parser.specs.Record.{absent, extent, noTag, noList, zeroNode}
+use Rattle.parser.specs.Scalar.{scalarStart, withSpan}
 use Rattle.parser.specs.Collection.{awaitsValue}
 use Rattle.parser.specs.Machine.{State, empty, go, Outcome, built, refused, rootDone}
 use Rattle.parser.specs.EventRun.{reached}
 use Rattle.parser.specs.Layout.{pieceWidth, laidPieces, recordRoom, pieceRoom}
 use Rattle.parser.specs.Call as call
 use Rattle.parser.specs.Call.{recordOf, building}
+use Rattle.parser.specs.declared.record.TagInfo.{TagInfo}
 use Rattle.parser.specs.declared.record.Node.{Node}
 use Rattle.parser.specs.declared.record.PieceList.{PieceList}
 
@@ -47,6 +52,30 @@ walkFirst text awaited index column style emptySpan value =
     walkStart text (startAt text awaited index style value)
     (scalarLen (drop (startAt text awaited index style value) text) value style emptySpan column)
     value style
+
+-- ---- what the record of a scalar says beside its list (E2, S4, S9, S10)
+
+-- what a scalar is, by its event's tag, its value and its style
+abbrev pub resolvedAs : Tag → List ℕ → ℕ → Resolved
+resolvedAs untagged value style = resolveScalar value style false [] []
+resolvedAs (tagged handle suffix) value style = resolveScalar value style true handle suffix
+
+-- the scalar starts at its marker, spans what is measured from there, and is of this kind; its value stands at `place` of the event bytes
+pub record EntrySays (text : List ℕ) (awaited : Bool) (index column style : ℕ) (emptySpan : Bool) (value : List ℕ) (r : Resolved) (place : ℕ) (t : TagInfo) (x : Node) : Type 0 where
+  pub kind : x .kind ≡ kindNumber r
+  pub span :
+      x .extent
+      ≡ extent (startAt text awaited index style value)
+      (startAt text awaited index style value + scalarLen (drop (startAt text awaited index style value) text) value style emptySpan column)
+  pub tag : x .tag ≡ t
+  pub subtree : x .subtree ≡ 1
+  pub payload : x .payload ≡ payloadOf r place (length value)
+
+-- the tag's numbers: its span, searched from the node's start on, and where its suffix stands in the event bytes
+abbrev pub TagSays : List ℕ → List ℕ → ℕ → Tag → TagInfo → Type 0
+TagSays text events start untagged t = t ≡ noTag
+TagSays text events start (tagged handle suffix) t =
+    (place : ℕ) × (partOf events (part place (length suffix)) ≡ suffix) × (t ≡ withSpan (tagSpan text start (length suffix)) place (length suffix))
 
 -- ---- from a record to its pieces (E2, E3, N1)
 
@@ -83,6 +112,11 @@ pub record ScalarDemand3 (text : List ℕ) (index column style : ℕ) (emptySpan
   -- and every other number is zero
   pub all-numbers : call.piecesOf size o ≡ laidPieces size (listIn (call.piecesOf size o) (recordOf o .list))
 
+-- and the record that is handed back: no tag, and its value's place is 0
+pub record ScalarRecord (text : List ℕ) (index column style : ℕ) (emptySpan : Bool) (value : List ℕ) (o : Outcome) : Type 0 where
+  pub entry : (xs : List Node) (ps : List Piece) → o ≡ built xs ps → EntrySays text false index column style emptySpan value (resolvedAs untagged value style) 0 noTag (recordOf o)
+  pub zero : (number place : ℕ) → o ≡ refused number place → recordOf o ≡ zeroNode
+
 -- ---- a document
 
 -- the lists of the nodes, in their order, take the entries from a to e, one after the other
@@ -92,7 +126,7 @@ Consecutive a (x ∷ xs) e =
     ((x .list ≡ noList) × Consecutive a xs e) ⊎ ((x .list .first ≡ a) × (a < absent) × Consecutive (a + x .list .count) xs e)
 
 -- the scalar event that comes after the events `before`, in a document of the nodes xs and the pieces buffer p
-pub record ScalarListed (text events : List ℕ) (room pieceRoom : ℕ) (before : List YamlEvent) (index column style : ℕ) (emptySpan : Bool) (value : List ℕ) (xs : List Node) (p : List ℕ) : Type 0 where
+pub record ScalarListed (text events : List ℕ) (room pieceRoom : ℕ) (before : List YamlEvent) (index column style : ℕ) (emptySpan : Bool) (tag : Tag) (value : List ℕ) (xs : List Node) (p : List ℕ) : Type 0 where
   -- the events before it are let through to this state
   pub st : State
   pub let-through : reached text events room pieceRoom 0 before empty ≡ go st
@@ -100,6 +134,12 @@ pub record ScalarListed (text events : List ℕ) (room pieceRoom : ℕ) (before 
   pub node : Node
   pub later : List Node
   pub place : drop (length (st .nodes)) xs ≡ node ∷ later
+  -- it says what document 01 says of this event
+  pub value-place : ℕ
+  pub value-there : partOf events (part value-place (length value)) ≡ value
+  pub tag-info : TagInfo
+  pub tag-there : TagSays text events (startAt text (awaitsValue (st .opens)) index style value) tag tag-info
+  pub entry : EntrySays text (awaitsValue (st .opens)) index column style emptySpan value (resolvedAs tag value style) value-place tag-info node
   -- the record's list finds the pieces of demand 3 in the buffer; those kept so far take up room
   pub demand3 :
       Demand3 (rulesOf style column) escapesReach text (walkFirst text (awaitsValue (st .opens)) index column style emptySpan value) value
@@ -113,7 +153,7 @@ pub record ListsBuilt (text events : List ℕ) (size pieceSize : ℕ) (xs : List
   pub bytes : events ≡ encodeAll list
   pub each : (before after : List YamlEvent) (index column style : ℕ) (emptySpan : Bool) (tag : Tag) (value : List ℕ)
       → list ≡ before ++ (scalar index column style emptySpan tag value ∷ after)
-      → ScalarListed text events (recordRoom size) (pieceRoom pieceSize) before index column style emptySpan value xs (laidPieces pieceSize ps)
+      → ScalarListed text events (recordRoom size) (pieceRoom pieceSize) before index column style emptySpan tag value xs (laidPieces pieceSize ps)
   -- the lists are all the pieces there are
   pub all-pieces : Consecutive 0 xs (length ps)
 
