@@ -1,15 +1,22 @@
--- The run over event bytes is the run over the list of the events that stand in them (`events-as-list`), and what follows of a run over a list:
--- the events before a refused one are let through, and its number is theirs.
+-- The run over event bytes is the run over the list of the events that stand in them (`events-as-list`), what comes of bytes that are no such
+-- list (`faulty-bytes`), and what follows of a run over a list: the events before a refused one are let through, and its number is how many
+-- they are.
 use mathlib.Core.Path.{_≡_, refl, sym, ap, _∙_, subst}
+use mathlib.Core.Bool.{Bool, true, false}
+use mathlib.Core.Logic.{_⊎_, inl, inr, ⊎-elim}
 use mathlib.Core.List.{List, [], _∷_, _++_, append-nil}
 use Prim.Native.Nat.{ℕ, zero, suc, _+_, _-_, _≤_, _<_}
 use native.Mathlib.Omega.{arith}
-use lib.ListN.{length, drop, length-append}
+use lib.Dec.{ltb}
+use lib.ListN.{length, length-append}
 use Rattle.provenance.specs.Reading.{Piece}
 use Rattle.event.specs.Number.{Bytes}
 use Rattle.event.specs.Encode.{YamlEvent, sequenceStart, sequenceEnd, mappingStart, mappingEnd, scalar, alias, encode}
 use Rattle.event.specs.Meaning.{StandsAt, placed, eventNumber}
-use Rattle.event.specs.Read.{readEvent}
+use Rattle.event.specs.Read.{eventsLimit, readEvent}
+use Rattle.text.specs.Admission.{admission}
+use Rattle.text.specs.declared.admission.Admission.{Admission}
+use Rattle.text.specs.declared.admission.Admission.the-variants.{Admitted, TooLong, NotUtf8}
 use Rattle.event.specs.EventList.{encodeAll, AllSound, Stand}
 use Rattle.event.specs.EventListLaws.{event-takes, all-stand}
 use Rattle.event.specs.EncodeLaws.{stands-inside}
@@ -19,7 +26,9 @@ use Rattle.event.specs.declared.read.Event.the-variants.{Malformed}
 use Rattle.parser.specs.Machine.{State, empty, Next, go, stop, Outcome, built, refused, step, nextPlace, ending, follow, run, runAll}
 use Rattle.parser.specs.RunLaws.{run-ended, run-on, run-stopped, stop-not-go}
 use Rattle.parser.specs.declared.record.Node.{Node}
-use Rattle.parser.specs.EventRun.{goOn, reached, runEvents, malformed, EventsAsList}
+use Rattle.parser.specs.EventRun.{goOn, reached, runEvents, malformed, EventsAsList, FaultyBytes}
+use Rattle.parser.specs.Layout.{recordRoom, pieceRoom}
+use Rattle.parser.specs.Call.{building}
 
 -- the next event comes after an event's bytes
 placed-next : (i : ℕ) (e : YamlEvent) → nextPlace (placed i e) ≡ i + length (encode e)
@@ -191,3 +200,38 @@ module _ (text events : List ℕ) (room pieceRoom : ℕ) where
             to-here = ap (λ (t : Next). goOn t (λ (u : State). through (i + length (encode x)) (p .before) u)) is ∙ p .to-here;
             stops = ap (λ (j : ℕ). stepOf (placed j (p .event)) (p .here)) z ∙ p .stops;
           }
+
+  -- ---- bytes that are no list of events
+
+  abbrev Ends : ℕ → ℕ → Outcome → Type 0
+  Ends k n o = (m : ℕ) × (p : ℕ) × (o ≡ refused m p) × (((m ≡ eventNumber Malformed) × (p ≡ k + n)) ⊎ (p < k + n))
+
+  faulty-ends : (i k : ℕ) (es : List YamlEvent) (st : State) → Ends k (length es) (over malformed i k es st)
+  unfolding runEvents
+  faulty-ends i k [] st = (eventNumber Malformed, k, refl, inl (refl, omega arith))
+  faulty-ends i k (x ∷ es) st = by (stepOf (placed i x) st) (λ s. faulty-ends (i + length (encode x)) (k + 1) es s)
+    where
+      by : (n : Next) → ((s : State) → Ends (k + 1) (length es) (over malformed (i + length (encode x)) (k + 1) es s)) → Ends k (length (x ∷ es)) (follow n (λ (s : State). over malformed (i + length (encode x)) (k + 1) es s) k)
+      by (stop m) more = (m, k, refl, inr (omega arith))
+      by (go s) more = let r = more s in (r .0, r .1, r .2, ⊎-elim (λ w. inl (w .0, omega arith)) (λ w. inr (omega arith)) (r .3))
+
+pub faulty-bytes : (text events : List ℕ) (size pieceSize : ℕ) → Bytes events → (es : List YamlEvent) (rest : List ℕ) → AllSound es → events ≡ encodeAll es ++ rest
+    → 0 < length rest → ((e : YamlEvent) → StandsAt events (length (encodeAll es)) e → ⊥) → FaultyBytes text events size pieceSize (length es)
+unfolding building
+faulty-bytes text events size pieceSize bytes es rest ok is some bad = by (ltb eventsLimit (length events)) refl (admission text) refl
+  where
+    runs : runAll text events (recordRoom size) (pieceRoom pieceSize) ≡ runEvents text events (recordRoom size) (pieceRoom pieceSize) malformed 0 0 es empty
+    runs = events-as-list text events (recordRoom size) (pieceRoom pieceSize) bytes es rest ok is .faulty some bad
+
+    by : (t : Bool) → ltb eventsLimit (length events) ≡ t → (a : Admission) → admission text ≡ a → FaultyBytes text events size pieceSize (length es)
+    by true l a ad = record { number = 1; place = 0; refuses = rw l refl; rows = inl (refl, refl) }
+    by false l TooLong ad = record { number = 1; place = 0; refuses = rw (l, ad) refl; rows = inl (refl, refl) }
+    by false l NotUtf8 ad = record { number = 2; place = 0; refuses = rw (l, ad) refl; rows = inr (inl (refl, refl)) }
+    by false l (Admitted x) ad =
+        let r = faulty-ends text events (recordRoom size) (pieceRoom pieceSize) 0 0 es empty in
+        record {
+          number = r .0;
+          place = r .1;
+          refuses = rw (l, ad) (runs ∙ r .2);
+          rows = ⊎-elim (λ w. inr (inr (inl (w .0, omega arith)))) (λ w. inr (inr (inr (omega arith)))) (r .3);
+        }

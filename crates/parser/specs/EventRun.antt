@@ -1,7 +1,9 @@
 -- The machine over a list of events (E1, R3): it takes the events in order, and an event's number is its index in the list. That the run
--- over event bytes is this run over the events that stand in them is `EventsAsList`, proved in proofs/EventRun.antt.
+-- over event bytes is this run over the events that stand in them is `EventsAsList`, and what comes of other bytes `FaultyBytes`; both are
+-- proved in proofs/EventRun.antt.
 use Prim.Native.Nat.{ℕ, _+_, _<_}
 use mathlib.Core.Path.{_≡_}
+use mathlib.Core.Logic.{_⊎_}
 use mathlib.Core.List.{List, [], _∷_, _++_}
 use lib.ListN.{length}
 use Rattle.event.specs.Encode.{YamlEvent, encode}
@@ -9,6 +11,7 @@ use Rattle.event.specs.Meaning.{StandsAt, placed, eventNumber}
 use Rattle.event.specs.EventList.{encodeAll, AllSound}
 use Rattle.event.specs.declared.read.Event.the-variants.{Malformed}
 use Rattle.parser.specs.Machine.{State, empty, Next, go, stop, Outcome, refused, step, ending, follow, runAll}
+use Rattle.parser.specs.Call.{building}
 
 abbrev pub goOn : Next → (State → Next) → Next
 goOn (go st) f = f st
@@ -38,3 +41,10 @@ pub record EventsAsList (text events : List ℕ) (room pieceRoom : ℕ) (es : Li
   pub faulty :
       0 < length rest → ((e : YamlEvent) → StandsAt events (length (encodeAll es)) e → ⊥)
       → runAll text events room pieceRoom ≡ runEvents text events room pieceRoom malformed 0 0 es empty
+
+-- what a call comes to whose event bytes are n sound events and then something else: rows 1 and 2, row 3 at number n, or a row at a smaller one
+pub record FaultyBytes (text events : List ℕ) (size pieceSize n : ℕ) : Type 0 where
+  pub number : ℕ
+  pub place : ℕ
+  pub refuses : building text events size pieceSize ≡ refused number place
+  pub rows : ((number ≡ 1) × (place ≡ 0)) ⊎ ((number ≡ 2) × (place ≡ 0)) ⊎ ((number ≡ eventNumber Malformed) × (place ≡ n)) ⊎ (place < n)

@@ -11,12 +11,12 @@ pub mod Collection
 pub mod Machine
 -- the equations of the run
 pub mod RunLaws
--- the machine over a list of events
-pub mod EventRun
 -- nodes and pieces laid out in the buffers
 pub mod Layout
 -- the two public calls
 pub mod Call
+-- the machine over a list of events
+pub mod EventRun
 -- demand 3 at the two public calls
 pub mod Demand
 -- how many nodes and pieces a call comes to at most, and which places and numbers

@@ -206,3 +206,20 @@ buffer-left size (some ps) =
     by-order (room size) (length ps)
     (λ lt. rw (lt-leb _ _ lt) (no-pieces size))
     (λ le. rw (le-leb _ _ le))
+
+-- ---- what a reader of the pieces that are left may conclude, whatever the answer is
+
+module _ (r : Rules) (reach : Reach) (text : List ℕ) (first : ℕ) (value : List ℕ) (most : ℕ) (left : List Piece) where
+  -- the file bytes of a verbatim piece are its content
+  pub verbatim-is-content : (answer : Walked) → Demand3 r reach text first value most answer left → AllCopied text value 0 left
+  unfolding AllCopied
+  verbatim-is-content (Listed n) d = d .listed n refl .3 .copied
+  verbatim-is-content NoRoom d = subst (λ (l : List Piece). AllCopied text value 0 l) (sym (d .nothing-left no-room-listed)) tt
+  verbatim-is-content NoList d = subst (λ (l : List Piece). AllCopied text value 0 l) (sym (d .nothing-left no-list-listed)) tt
+
+  -- no piece ends further past the text than an escape reaches
+  pub ends-near-text : (answer : Walked) → Demand3 r reach text first value most answer left → EndBy (length text + reach .past) left
+  unfolding EndBy
+  ends-near-text (Listed n) d = d .listed n refl .3 .ends
+  ends-near-text NoRoom d = subst (λ (l : List Piece). EndBy (length text + reach .past) l) (sym (d .nothing-left no-room-listed)) tt
+  ends-near-text NoList d = subst (λ (l : List Piece). EndBy (length text + reach .past) l) (sym (d .nothing-left no-list-listed)) tt
