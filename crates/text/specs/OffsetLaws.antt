@@ -1,5 +1,6 @@
--- The laws of marker offsets that callers go by: an offset is a boundary within the text; a cursor that stands goes on and back by
--- one character; what is told of it is told of `cursorAt`; and ASCII texts, where indices are offsets. Assumes nothing.
+-- The laws of marker offsets that callers go by: an offset is a boundary within the text, and an index past the text has its length; a
+-- cursor that stands goes on and back by one character; what is told of it is told of `cursorAt`; and ASCII texts, where indices are
+-- offsets. Assumes nothing.
 use mathlib.Core.Path.{_≡_, refl, sym, _∙_, ap, subst}
 use mathlib.Core.Bool.{Bool, true, false, _&&_}
 use mathlib.Core.List.{List, [], _∷_, _++_, append-nil}
@@ -14,7 +15,7 @@ use Rattle.text.specs.Utf8.{ScalarValue, ScalarValues, Utf8, encode, enc
 use Rattle.text.specs.Boundary.{Boundary}
 use Rattle.text.specs.Offset.{byteOffset, cursorAt, Stands, isAscii}
 use Rattle.text.specs.Tests.{and-left, and-right}
-use Rattle.text.specs.Utf8Laws.{Place, place-front, place-back, place-boundary, codes-encode, codes-scalars, codes-encodeAll, encodeAll-append, scalars-front, scalars-back, encode-some, read, last-of, first-char-ascii, codes-step, utf8-on}
+use Rattle.text.specs.Utf8Laws.{Place, place-front, place-back, place-boundary, codes-are, codes-encode, codes-scalars, codes-encodeAll, encodeAll-append, scalars-front, scalars-back, encode-some, read, last-of, first-char-ascii, codes-step, utf8-on}
 use Rattle.text.specs.declared.utf8.Char.{Char}
 use Rattle.text.specs.declared.offset.Cursor.{Cursor}
 
@@ -65,6 +66,33 @@ scalar-at : (cs : List ℕ) (k : ℕ) → ScalarValues cs → k < length cs → 
 scalar-at [] k v h = absurd (omega arith)
 scalar-at (c ∷ cs) zero v h = v .0
 scalar-at (c ∷ cs) (suc k) v h = scalar-at cs k (v .1) (omega arith)
+
+-- before the last character's end
+offset-inside : {s : List ℕ} → Utf8 s → (k : ℕ) → k < length (codes s) → byteOffset s k < length s
+offset-inside {s} u k h =
+    let next = offset-next s k h in
+    let within = offset-within u (suc k) in
+    let some = encode-some (getD (codes s) k 0) (scalar-at (codes s) k (codes-scalars u) h) in
+    omega arith
+
+-- ---- in document 01's words (P1): a text is the encodings of its characters, one after the other
+
+-- the offset of index k is the bytes of the first k characters
+pub offset-of-characters : {s : List ℕ} (u : Utf8 s) (k : ℕ) → byteOffset s k ≡ length (encodeAll (take k (u .codes)))
+unfolding byteOffset
+offset-of-characters u k = rw (codes-are u)
+
+-- an index past the text gives the text's length
+pub offset-past-text : {s : List ℕ} (u : Utf8 s) (k : ℕ) → length (u .codes) ≤ k → byteOffset s k ≡ length s
+offset-past-text u k h = offset-of-characters u k ∙ rw (take-all k (u .codes) h) (sym (ap length (u .encoded)))
+
+-- and at every other a character begins
+pub record CharacterAt (s : List ℕ) (i : ℕ) : Type 0 where
+  pub inside : i < length s
+  pub begins : Boundary s i
+
+pub offset-in-text : {s : List ℕ} (u : Utf8 s) (k : ℕ) → k < length (u .codes) → CharacterAt s (byteOffset s k)
+offset-in-text u k h = record { inside = offset-inside u k (rw (codes-are u) h); begins = offset-boundary u k }
 
 -- ---- the cursor
 
@@ -145,13 +173,7 @@ stands-end {s} {k} {i} u h l m g =
   where
     all : Dec (k < length (codes s)) → k ≡ length (codes s)
     all (no p) = let c = h .counted in omega arith
-    all (yes p) =
-        absurd
-        (let o = offset-next s k p in
-        let w = offset-within u (suc k) in
-        let b = encode-some (getD (codes s) k 0) (scalar-at (codes s) k (codes-scalars u) p) in
-        let e = h .placed in
-        omega arith)
+    all (yes p) = absurd (let e = h .placed in let o = offset-inside u k p in omega arith)
 
 -- the cursor at an index stands
 pub cursor-stands : (s : List ℕ) (k : ℕ) → Stands s (cursorAt s k .chars) (cursorAt s k .offset)
