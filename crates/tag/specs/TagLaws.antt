@@ -1,19 +1,19 @@
 -- What callers may count on: a property found lies before the node and within the text and begins with `!`, a guess lies within the
 -- text, and no span ends before it starts. Assumes nothing.
-use mathlib.Core.Path.{_≡_, refl, sym, _∙_, subst}
+use mathlib.Core.Path.{_≡_, refl, sym, _∙_, ap, subst}
 use mathlib.Core.Bool.{Bool, true, false}
 use mathlib.Core.List.{List, []}
 use Prim.Native.Nat.{ℕ, zero, suc, _+_, _-_, _≤_, _<_}
 use native.Mathlib.Omega.{arith}
 use borrow.Author.Tests.{eqb-true}
 use lib.Dec.{eqb}
-use lib.ListN.{length, drop, getD}
+use lib.ListN.{length, drop, getD, length-take, length-drop}
 use lib.Seq.{getD-take, getD-drop}
 use Rattle.text.specs.Utf8.{Utf8}
 use Rattle.text.specs.Boundary.{Boundary}
 use Rattle.tag.specs.declared.property.Span.{Span}
 use Rattle.tag.specs.Tokens.{withWord, tokens, tokensBefore}
-use Rattle.tag.specs.Tag.{span, Found, found, none, pickFound, firstTag, tagAt, foundOr, propertySpan, part, tagProperty, guess, tagSpan}
+use Rattle.tag.specs.Tag.{span, Found, found, none, pickFound, firstTag, tagAt, foundOr, propertySpan, part, tagProperty, tagOffset, guess, tagSpan}
 use Rattle.tag.specs.TokenLaws.{before-start}
 use Rattle.tag.specs.SearchLaws.{Last-property, last-property}
 
@@ -110,7 +110,7 @@ found-begins {s} {i} {p} u b e =
     rw e (getD-take (p .end - p .start) (drop (p .start) s) 0 0 (omega arith) ∙ getD-drop (p .start) s 0 0 ∙ rw z (t .bang))
 
 -- a span of the property that is not empty is the tag's span, and where it is empty the span is guessed
-pub some-found : (s : List ℕ) (i n : ℕ) → propertySpan s i .start < propertySpan s i .end → propertySpan s i ≡ tagSpan s i n
+some-found : (s : List ℕ) (i n : ℕ) → propertySpan s i .start < propertySpan s i .end → propertySpan s i ≡ tagSpan s i n
 unfolding propertySpan tagSpan
 some-found s i n h = go (tagAt s i) h
   where
@@ -118,10 +118,34 @@ some-found s i n h = go (tagAt s i) h
     go (found p) h = refl
     go none h = absurd (omega arith)
 
-pub empty-guessed : {s : List ℕ} {i : ℕ} → Utf8 s → Boundary s i → (n : ℕ) → propertySpan s i .end ≤ propertySpan s i .start → guess s i n ≡ tagSpan s i n
+empty-guessed : {s : List ℕ} {i : ℕ} → Utf8 s → Boundary s i → (n : ℕ) → propertySpan s i .end ≤ propertySpan s i .start → guess s i n ≡ tagSpan s i n
 unfolding propertySpan tagSpan
 empty-guessed {s} {i} u b n h = go (tagAt s i) refl h
   where
     go : (f : Found) → tagAt s i ≡ f → foundOr f (span i i) .end ≤ foundOr f (span i i) .start → guess s i n ≡ foundOr f (guess s i n)
     go (found p) e h = absurd (let l = found-tagged u b e .some in omega arith)
     go none e h = refl
+
+-- from its offset on, the part handed back is as long as the property's span
+part-ends : {s : List ℕ} {i : ℕ} → Utf8 s → Boundary s i → tagOffset s i + length (tagProperty s i) ≡ propertySpan s i .end
+unfolding tagOffset tagProperty part
+part-ends {s} {i} u b =
+    let p = propertySpan s i in
+    let order = property-within u b .order in
+    let end = property-within u b .end in
+    rw (length-take (p .end - p .start) (drop (p .start) s), length-drop (p .start) s) (omega arith)
+
+pub part-within : {s : List ℕ} {i : ℕ} → Utf8 s → Boundary s i → tagOffset s i + length (tagProperty s i) ≤ length s
+part-within u b = rw (part-ends u b) (property-within u b .end)
+
+-- where that part is not empty it is the tag's span, and where it is empty the span is guessed
+pub part-found : {s : List ℕ} {i : ℕ} → Utf8 s → Boundary s i → (n : ℕ) → 0 < length (tagProperty s i)
+    → span (tagOffset s i) (tagOffset s i + length (tagProperty s i)) ≡ tagSpan s i n
+unfolding tagOffset
+part-found {s} {i} u b n h =
+    let ends = part-ends u b in
+    ap (span (tagOffset s i)) ends ∙ some-found s i n (omega arith)
+
+pub part-empty : {s : List ℕ} {i : ℕ} → Utf8 s → Boundary s i → (n : ℕ) → length (tagProperty s i) ≤ 0 → guess s i n ≡ tagSpan s i n
+unfolding tagOffset
+part-empty {s} {i} u b n h = let ends = part-ends u b in empty-guessed u b n (omega arith)

@@ -66,16 +66,21 @@ pub fn find_tag_offset(text: &[u8], node: usize) -> usize
     found.start
 }
 
-// The span of the tag of the node that starts at byte `node`, its suffix being `suffix` bytes long: the property before the node, or
-// else a guess, 1 plus the suffix's bytes from the node's start, cut to the text left.
+// The span of the tag of the node that starts at byte `node`, its suffix being `suffix` bytes long: the property before the node, as
+// long as the part handed back, or else a guess, 1 plus the suffix's bytes from the node's start, cut to the text left. Only a property
+// that was found is searched for again, for its offset.
 pub fn make_tag_info(text: &[u8], node: usize, suffix: usize) -> Span
     requires { ⌜ Utf8 (now text) ⌝ }
     requires { ⌜ Boundary (now text) node ⌝ }
     ensures { λ r. ⌜ r ≡ tagSpan (now (text .entry)) node suffix ⌝ }
 {
-    let found = find_property(text, node);
-    if found.start < found.end {
-        return found;
+    let property = find_tag_span(text, node);
+    if 0 < property.len() {
+        let start = find_tag_offset(text, node);
+        return Span {
+            start,
+            end: start + property.len(),
+        };
     }
     let left = text.len() - node;
     if suffix < left {

@@ -1,53 +1,69 @@
--- `tag::property::make_tag_info` meets its contract: a property found is not empty; else the guess is compared with the text left before
--- it is added. Assumes nothing.
+-- `tag::property::make_tag_info` meets its contract: a part that is not empty is the property from its offset on; else the guess is
+-- compared with the text left before it is added. Assumes nothing.
 use mathlib.Core.Path.{_≡_, _∙_, ap}
 use mathlib.Core.List.{List}
-use Prim.Native.Nat.{ℕ, _+_, _-_, _≤_, min}
+use Prim.Native.Nat.{ℕ, _+_, _-_, _≤_, _<_, min}
 use native.Mathlib.Omega.{arith}
 use borrow.Author.Needs.{needs}
 use lib.ListN.{length}
 use Rattle.text.specs.Utf8.{Utf8}
 use Rattle.text.specs.Boundary.{Boundary}
-use Rattle.tag.specs.declared.property.Span.{Span}
-use Rattle.tag.specs.Tag.{span, propertySpan, guess, tagSpan}
-use Rattle.tag.specs.TagLaws.{some-found, empty-guessed}
+use Rattle.tag.specs.Tag.{span, tagProperty, tagOffset, guess, tagSpan}
+use Rattle.tag.specs.TagLaws.{part-within, part-found, part-empty}
 use Rattle.tag.proofs.property.make_tag_info.Statement.{statement}
 use Rattle.tag.proofs.property.make_tag_info.Tie as tie
 
--- no property was found, and the guess ends at byte e
-guessed : {s : List ℕ} {i : ℕ} {p : Span} → Utf8 s → Boundary s i → p ≡ propertySpan s i → p .end ≤ p .start
-    → (n e : ℕ) → e ≡ i + min (1 + n) (length s - i) → span i e ≡ tagSpan s i n
-unfolding guess
-guessed {s} {i} u b is h n e end = ap (span i) end ∙ empty-guessed u b n (rw is at h)
+-- the part p was handed back with the offset o
+module _ {s p : List ℕ} {i : ℕ} (u : Utf8 s) (b : Boundary s i) (part : p ≡ tagProperty s i) where
+  fits : {o : ℕ} → o ≡ tagOffset s i → o + length p ≤ length s
+  fits offset = rw (part, offset) (part-within u b)
 
-find-property-requires : tie.Need-find-property-requires
-find-property-requires c κs = search needs
+  found : {o : ℕ} → o ≡ tagOffset s i → 0 < length p → (n : ℕ) → span o (o + length p) ≡ tagSpan s i n
+  found offset h n = rw (part, offset) (part-found u b n (rw part at h))
+
+  -- it is empty, and the guess ends at byte e
+  guessed : length p ≤ 0 → (n e : ℕ) → e ≡ i + min (1 + n) (length s - i) → span i e ≡ tagSpan s i n
+  unfolding guess
+  guessed h n e end = ap (span i) end ∙ part-empty u b n (rw part at h)
+
+find-tag-span-requires : tie.Need-find-tag-span-requires
+find-tag-span-requires c κs = search needs
+
+find-tag-offset-requires : tie.Need-find-tag-offset-requires
+find-tag-offset-requires c κs = search needs
+
+add-t10 : tie.Need-add-t10
+add-t10 c =
+    let pre = c .before .before .before .before .pre in
+    let within = fits (pre .0) (pre .1) (c .before .before .find-tag-span .ensures) (c .find-tag-offset .ensures) in
+    omega arith
 
 returns : tie.Need-returns
 returns c =
-    let is = c .before .before .find-property .ensures in
-    is ∙ some-found _ _ _ (rw is at (c .if1 .taken))
+    let pre = c .before .before .before .before .pre in
+    found (pre .0) (pre .1) (c .before .before .find-tag-span .ensures) (c .find-tag-offset .ensures) (c .before .if1 .taken) _
 
 sub-left : tie.Need-sub-left
 sub-left c = search needs
 
-add-t8 : tie.Need-add-t8
-add-t8 c = search needs
+add-t11 : tie.Need-add-t11
+add-t11 c = search needs
 
-add-t9 : tie.Need-add-t9
-add-t9 c = search needs
+add-t12 : tie.Need-add-t12
+add-t12 c = search needs
 
 returns-2 : tie.Need-returns-2
 returns-2 c =
-    let pre = c .before .before .before .before .before .pre in
-    guessed (pre .0) (pre .1) (c .before .before .before .find-property .ensures) (c .before .if1 .left) _ _ (omega arith)
+    let pre = c .before .before .before .before .pre in
+    guessed (pre .0) (pre .1) (c .before .before .find-tag-span .ensures) (c .before .if1 .left) _ _ (omega arith)
 
 returns-3 : tie.Need-returns-3
 returns-3 c =
-    let pre = c .before .before .before .before .before .pre in
+    let pre = c .before .before .before .before .pre in
     let within = pre .1 .within in
-    guessed (pre .0) (pre .1) (c .before .before .before .find-property .ensures) (c .before .if1 .left) _ _ (omega arith)
+    guessed (pre .0) (pre .1) (c .before .before .find-tag-span .ensures) (c .before .if1 .left) _ _ (omega arith)
 
 pub make-tag-info-spec : {M : Type 1} → statement M
 make-tag-info-spec =
-    tie.close (tie.spec find-property-requires returns sub-left add-t8 add-t9 returns-2 returns-3)
+    tie.close
+    (tie.spec find-tag-span-requires find-tag-offset-requires add-t10 returns sub-left add-t11 add-t12 returns-2 returns-3)
