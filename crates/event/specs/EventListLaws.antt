@@ -1,5 +1,5 @@
--- The laws of event bytes as a list of events: where the events of a list stand, and that of any bytes so many sound events stand from the
--- front as there are (`front-of`).
+-- The laws of event bytes as a list of events: no two lists have the same bytes, where the events of a list stand, and that of any bytes so many
+-- sound events stand from the front as there are (`front-of`).
 use Prim.{tt}
 use mathlib.Core.Path.{_≡_, refl, sym, ap, _∙_, subst}
 use mathlib.Core.Logic.{_⊎_, inl, inr}
@@ -15,7 +15,7 @@ use Rattle.event.specs.Read.{readEvent}
 use Rattle.event.specs.Meaning.{StandsAt, Answers}
 use Rattle.event.specs.EventList.{encodeAll, AllSound, Stand, Front}
 use Rattle.event.specs.EncodeLaws.{stands-after, stands-inside, body-length, event-length}
-use Rattle.event.specs.ReadLaws.{malformed-or-answers, malformed-none-stands}
+use Rattle.event.specs.ReadLaws.{malformed-or-answers, malformed-none-stands, encode-prefix-free}
 use Rattle.event.specs.declared.read.Event.the-variants.{Malformed}
 
 -- an event takes a header and a marker index at least
@@ -26,6 +26,21 @@ pub encode-all-append : (es fs : List YamlEvent) → encodeAll (es ++ fs) ≡ en
 unfolding encodeAll
 encode-all-append [] fs = refl
 encode-all-append (e ∷ es) fs = ap (λ (l : List ℕ). encode e ++ l) (encode-all-append es fs) ∙ sym (append-assoc (encode e) (encodeAll es) (encodeAll fs))
+
+-- no two lists of sound events have the same bytes
+pub encode-all-injective : (xs ys : List YamlEvent) → AllSound xs → AllSound ys → encodeAll xs ≡ encodeAll ys → xs ≡ ys
+unfolding encodeAll AllSound
+encode-all-injective [] [] p q h = refl
+encode-all-injective [] (y ∷ ys) p q h =
+    absurd (let n = event-takes y in let m : 0 ≡ length (encode y) + length (encodeAll ys) = ap length h ∙ length-append (encode y) (encodeAll ys) in omega arith)
+encode-all-injective (x ∷ xs) [] p q h =
+    absurd (let n = event-takes x in let m : length (encode x) + length (encodeAll xs) ≡ 0 = sym (length-append (encode x) (encodeAll xs)) ∙ ap length h in omega arith)
+encode-all-injective (x ∷ xs) (y ∷ ys) p q h =
+    let first : x ≡ y = encode-prefix-free x y (encodeAll xs) (encodeAll ys) (p .0) (q .0) h in
+    let same : encode x ++ encodeAll xs ≡ encode x ++ encodeAll ys = h ∙ rw first in
+    let others : encodeAll xs ≡ encodeAll ys
+    = sym (drop-append-seam (encode x) (encodeAll xs)) ∙ ap (drop (length (encode x))) same ∙ drop-append-seam (encode x) (encodeAll ys) in
+    rw (first, encode-all-injective xs ys (p .1) (q .1) others)
 
 -- ---- where they stand
 

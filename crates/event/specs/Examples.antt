@@ -76,6 +76,8 @@ pub record Refused : Type 0 where
   pub tag-byte-0 : readEvent (0 ∷ 0 ∷ 4 ∷ 0 ∷ 0 ∷ 0 ∷ 5 ∷ []) 0 ≡ Malformed
   -- an unknown tag
   pub tag-byte-7 : readEvent (7 ∷ 0 ∷ 4 ∷ 0 ∷ 0 ∷ 0 ∷ 5 ∷ []) 0 ≡ Malformed
+  -- a known tag with the high bit set
+  pub tag-byte-129 : readEvent (129 ∷ 0 ∷ 5 ∷ 0 ∷ 0 ∷ 0 ∷ 5 ∷ 0 ∷ []) 0 ≡ Malformed
   -- an unknown style
   pub style-5 : readEvent (5 ∷ 0 ∷ 13 ∷ 0 ∷ 0 ∷ 0 ∷ 3 ∷ 0 ∷ 0 ∷ 0 ∷ 2 ∷ 5 ∷ 0 ∷ 0 ∷ 195 ∷ 169 ∷ []) 0 ≡ Malformed
   -- an empty span of 2
@@ -86,6 +88,8 @@ pub record Refused : Type 0 where
   pub handle-past-the-body : readEvent (5 ∷ 0 ∷ 18 ∷ 0 ∷ 0 ∷ 0 ∷ 3 ∷ 0 ∷ 0 ∷ 0 ∷ 2 ∷ 4 ∷ 0 ∷ 1 ∷ 1 ∷ 1 ∷ 33 ∷ 0 ∷ 1 ∷ 116 ∷ 97 ∷ []) 0 ≡ Malformed
   -- a suffix that takes one byte of the next event
   pub suffix-past-the-body : readEvent (1 ∷ 0 ∷ 11 ∷ 0 ∷ 0 ∷ 0 ∷ 0 ∷ 1 ∷ 0 ∷ 1 ∷ 33 ∷ 0 ∷ 2 ∷ 116 ∷ 0 ∷ []) 0 ≡ Malformed
+  -- a scalar whose suffix is the first byte of the next event
+  pub scalar-suffix-past-the-body : readEvent (5 ∷ 0 ∷ 15 ∷ 0 ∷ 0 ∷ 0 ∷ 3 ∷ 0 ∷ 0 ∷ 0 ∷ 2 ∷ 4 ∷ 0 ∷ 1 ∷ 0 ∷ 0 ∷ 0 ∷ 1 ∷ 6 ∷ []) 0 ≡ Malformed
   -- the value ends inside a character
   pub value-not-utf8 : readEvent (5 ∷ 0 ∷ 13 ∷ 0 ∷ 0 ∷ 0 ∷ 3 ∷ 0 ∷ 0 ∷ 0 ∷ 2 ∷ 2 ∷ 0 ∷ 0 ∷ 195 ∷ 97 ∷ []) 0 ≡ Malformed
   -- the handle is a continuation byte
@@ -107,11 +111,13 @@ refused =
       scalar-short = refl;
       tag-byte-0 = refl;
       tag-byte-7 = refl;
+      tag-byte-129 = refl;
       style-5 = refl;
       empty-span-2 = refl;
       tag-flag-2 = refl;
       handle-past-the-body = refl;
       suffix-past-the-body = refl;
+      scalar-suffix-past-the-body = refl;
       value-not-utf8 = refl;
       handle-not-utf8 = refl;
       suffix-not-utf8 = refl;

@@ -1,23 +1,36 @@
 -- `tag::property::find_tag_span` meets its contract: the property's span lies within the text, and its part is handed back.
 -- Assumes nothing.
-use mathlib.Core.Path.{ap}
+use mathlib.Core.Path.{_≡_, ap}
+use mathlib.Core.List.{List}
+use Prim.Native.Nat.{ℕ}
+use native.Mathlib.Omega.{arith}
 use borrow.Author.Needs.{needs}
-use Rattle.tag.specs.Tag.{part, tagProperty}
-use Rattle.tag.specs.TagLaws.{property-within}
+use Rattle.text.specs.Utf8.{Utf8}
+use Rattle.text.specs.Boundary.{Boundary}
+use Rattle.tag.specs.declared.property.Span.{Span}
+use Rattle.tag.specs.Tag.{propertySpan, part, tagProperty}
+use Rattle.tag.specs.TagLaws.{Within, property-within}
 use Rattle.tag.proofs.property.find_tag_span.Statement.{statement}
 use Rattle.tag.proofs.property.find_tag_span.Tie as tie
 
 find-property-requires : tie.Need-find-property-requires
 find-property-requires c κs = search needs
 
+inside : {s : List ℕ} {i : ℕ} {p : Span} → Utf8 s → Boundary s i → p ≡ propertySpan s i → Within s p
+inside u b is = rw is (property-within u b)
+
 sub-result : tie.Need-sub-result
-sub-result c = rw (c .find-property .ensures) (property-within (c .before .before .pre .0) (c .before .before .pre .1) .order)
+sub-result c = let order = inside (c .before .before .pre .0) (c .before .before .pre .1) (c .find-property .ensures) .order in omega arith
 
 part-result-start : tie.Need-part-result-start
 part-result-start c = sub-result c
 
 part-result-end : tie.Need-part-result-end
-part-result-end c = rw (c .find-property .ensures) (property-within (c .before .before .pre .0) (c .before .before .pre .1) .end)
+part-result-end c =
+    let within = inside (c .before .before .pre .0) (c .before .before .pre .1) (c .find-property .ensures) in
+    let order = within .order in
+    let end = within .end in
+    omega arith
 
 returns : tie.Need-returns
 unfolding tagProperty part
