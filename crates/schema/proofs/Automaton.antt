@@ -16,11 +16,16 @@ use Rattle.text.proofs.Table.{all, all-at, both, same}
 use Rattle.schema.specs.Ascii.{bytes}
 use Rattle.schema.specs.Regex.{Regex, none, empty, range, seq, alt, star, Regex-discrete}
 use Rattle.schema.specs.Matcher.{pick, isNone, isEmpty, join, either, nullable, derivative}
-use Rattle.schema.specs.Rows.{nullWord, nothing, trueWord, falseWord, decimal, octal, hexadecimal, number, infinity, notANumber}
+use Rattle.schema.specs.Rows.{trueWord}
+use Rattle.schema.specs.Standard.{Row, table}
 use Rattle.schema.proofs.Bools.{both-of, both-left, both-right, same-is}
 
+abbrev pub expressions : List Row → List Regex
+expressions rs = map (λ r. r .expression) rs
+
+-- the table's expressions in its order, and at last the words that are true, which tell the booleans apart
 abbrev pub rows : List Regex
-rows = nullWord ∷ nothing ∷ trueWord ∷ falseWord ∷ decimal ∷ octal ∷ hexadecimal ∷ number ∷ infinity ∷ notANumber ∷ []
+rows = expressions table ++ (trueWord ∷ [])
 
 -- a text that leads to each state; "?" leads to the one that awaits nothing
 unfoldable pub texts : List String
@@ -140,7 +145,7 @@ right q rs k =
     (sameRows (awaits (getD next (q * 32 + k) 0 - 44)) (map (derivative (getD samples k 0)) rs)))
 
 all-right : T (all 48 (λ q. all 32 (right q (awaits q))))
-unfolding right awaits texts samples next derivative nullable ℕ-discrete
+unfolding right awaits table texts samples next derivative nullable ℕ-discrete
 all-right = tt
 
 -- ---- bytes of one symbol: every range of the rows holds both or neither, so that their derivatives are the same
@@ -221,7 +226,7 @@ sampled : ℕ → Bool
 sampled b = both (leb 46 (getD symbols b 0)) (both (ltb (symbolOf b) 32) (alikeRows b (getD samples (symbolOf b) 0) rows))
 
 all-sampled : T (all 256 sampled)
-unfolding sampled symbols samples
+unfolding sampled table symbols samples
 all-sampled = tt
 
 -- ---- a step

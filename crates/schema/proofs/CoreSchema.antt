@@ -1,42 +1,47 @@
--- The core schema by the meaning of its expressions (P2). `first-row-decides`: of every byte list the schema answers what
--- the first row that matches reads, and a string where none does; `first-row-only`: it answers nothing else. `rows-apart`:
--- no two rows match the same scalar but the decimal integer's and the number's, and there the first lies inside the second
--- (`decimal-is-number`). `null-reads` to `not-a-number-reads`: what a scalar is that a row matches, which is the row's kind;
--- but an integer beyond 64 signed bits is a real in base 10 and a string in base 8 or 16 (`in-range`, `beyond-range`).
--- Assumes nothing.
+-- The core schema by the meaning of its expressions (P2). `standard-schema`: of every byte list the standard reads what the
+-- first row that matches reads, a string where none does, and nothing else; and but for digit runs the order of the rows does
+-- not matter. `core-schema-is-limited-standard`: the schema is that, but for the range of integers. `any-order`: a standard
+-- tag reads what any row of its kind reads that matches. What is said of two rows, or of a row behind others, is one computed
+-- test over the automaton's states. Assumes nothing.
 use mathlib.Core.Path.{_≡_, refl, sym, _∙_, ap}
 use mathlib.Core.Bool.{Bool, true, false, _&&_, _||_}
-use mathlib.Core.List.{List, [], _∷_, map}
-use Prim.Native.Nat.{ℕ, _<_}
+use mathlib.Core.List.{List, [], _∷_, _++_}
+use Prim.Native.Nat.{ℕ, zero, suc, _<_}
+use native.Mathlib.Nat.{le-of-suc-le-suc, not-suc-le-zero}
+use native.Mathlib.Omega.{arith}
+use borrow.Author.Tests.{eqb-true}
 use lib.Dec.{T, eqb, lit<}
-use lib.IntN.{ℤ, pos}
-use lib.ListN.{drop, getD, List·getD-map}
+use lib.IntN.{ℤ}
+use lib.ListN.{length, getD}
+use Rattle.text.specs.Tests.{clash, and-left, and-right}
 use Rattle.text.proofs.Table.{all, all-at}
+use Rattle.schema.specs.Ascii.{bytes, Bytes, sameBytes}
 use Rattle.schema.specs.Regex.{Regex, none, Matches}
 use Rattle.schema.specs.Matcher.{nullable, derivative, accepts}
-use Rattle.schema.specs.Rows.{nullWord, nothing, trueWord, falseWord, decimal, octal, hexadecimal, number, infinity, notANumber}
-use Rattle.schema.specs.Integer.{valueOf, signedValue, inRange, held}
-use Rattle.schema.specs.CoreSchema.{Row, table, firstMatch, coreSchema, FirstRow, no-row, this-row, later-row, pickResolved, integerOr}
+use Rattle.schema.specs.Rows.{trueWord, decimal, number}
+use Rattle.schema.specs.Integer.{Base, ten, eight, sixteen, inRange, held}
+use Rattle.schema.specs.Standard.{Kind, null, Row, row, table, rowAt, decimalPlace, numberPlace, Meaning, integer, reads, pickMeaning, firstMatch, standard}
+use Rattle.schema.specs.Standard.{FirstRow, no-row, this-row, later-row, StandardSchema}
+use Rattle.schema.specs.CoreSchema.{limited, coreSchema, CoreSchema}
+use Rattle.schema.specs.Kinds.{tagName, hasName, rowsOf, readAs, isReal, coreReal, AnyOrder}
 use Rattle.schema.specs.declared.form.Form.{Form}
-use Rattle.schema.specs.declared.form.Form.the-variants as form
-use Rattle.schema.specs.declared.plain.Resolved.{Resolved}
-use Rattle.schema.specs.declared.plain.Resolved.the-variants.{Null, Boolean, Integer, Real, Str}
+use Rattle.schema.specs.declared.plain.Resolved.the-variants.{Integer, Real, Str}
+use Rattle.schema.proofs.Bools.{implies, implied, passes, or-cases}
 use Rattle.schema.proofs.Derivative.{accepts-sound, accepts-complete}
-use Rattle.schema.proofs.Automaton.{rows, awaits, texts}
-use Rattle.schema.proofs.Flags.{Bytes, flags, flagsAt, flag, by-states, formAt, form-is, formNumber, same-number, none-accepts}
-use Rattle.schema.proofs.Forms.{readPlain, core-schema}
-use Rattle.text.specs.Tests.{clash}
-use Rattle.schema.proofs.Bools.{implies, implied, passes, or-cases, same-truth}
+use Rattle.schema.proofs.Automaton.{expressions, awaits, texts}
+use Rattle.schema.proofs.Flags.{accepted, flags, flagsAt, flag, truthPlace, by-states, formBy, formAt, formOfKind, kind-form, form-by, form-is, formNumber, same-number}
+use Rattle.schema.proofs.Forms.{meaningOf, kind-by-form, by-form, standard-by-form}
+use Rattle.schema.proofs.Tags.{same-bytes}
 
 -- ---- the first row that matches
 module _ (r : Row) (rs : List Row) (s : List ℕ) where
   decided : (b : Bool) → accepts (r .expression) s ≡ b → FirstRow rs s (firstMatch rs s)
-      → FirstRow (r ∷ rs) s (pickResolved b (r .reads s) (firstMatch rs s))
+      → FirstRow (r ∷ rs) s (pickMeaning b (reads (r .kind) s) (firstMatch rs s))
   decided true e f = this-row (accepts-sound s (r .expression) e)
   decided false e f = later-row (λ m. clash (sym (accepts-complete s (r .expression) m) ∙ e)) f
 
-  passed : (a : Resolved) (b : Bool) → accepts (r .expression) s ≡ b → (Matches (r .expression) s → ⊥) → a ≡ firstMatch rs s
-      → a ≡ pickResolved b (r .reads s) (firstMatch rs s)
+  passed : (a : Meaning) (b : Bool) → accepts (r .expression) s ≡ b → (Matches (r .expression) s → ⊥) → a ≡ firstMatch rs s
+      → a ≡ pickMeaning b (reads (r .kind) s) (firstMatch rs s)
   passed a true e n p = absurd (n (accepts-sound s (r .expression) e))
   passed a false e n p = p
 
@@ -45,135 +50,181 @@ unfolding firstMatch
 first-match [] s = no-row
 first-match (r ∷ rs) s = decided r rs s (accepts (r .expression) s) refl (first-match rs s)
 
-only-match : {rs : List Row} {s : List ℕ} {a : Resolved} → FirstRow rs s a → a ≡ firstMatch rs s
+only-match : {rs : List Row} {s : List ℕ} {a : Meaning} → FirstRow rs s a → a ≡ firstMatch rs s
 unfolding firstMatch
 only-match no-row = refl
 only-match (this-row {r = r} {s = s} m) = rw (accepts-complete s (r .expression) m)
-only-match (later-row {r = r} {rs = rs} {s = s} {a = a} n f) = passed r rs s a (accepts (r .expression) s) refl n (only-match f)
+only-match (later-row {r = r} {rs = rs} {s = s} {m = a} n f) = passed r rs s a (accepts (r .expression) s) refl n (only-match f)
 
-pub first-row-decides : (s : List ℕ) → FirstRow table s (coreSchema s)
-unfolding coreSchema
-first-row-decides s = first-match table s
+-- ---- the standard, but for the range
+in-range : (base : Base) (z : ℤ) → inRange z ≡ true → limited (integer base z) ≡ Integer z
+unfolding held
+in-range base z e = rw e
 
-pub first-row-only : (s : List ℕ) (a : Resolved) → FirstRow table s a → a ≡ coreSchema s
+decimal-beyond : (z : ℤ) → inRange z ≡ false → limited (integer ten z) ≡ Real
+unfolding held
+decimal-beyond z e = rw e
+
+octal-beyond : (z : ℤ) → inRange z ≡ false → limited (integer eight z) ≡ Str
+unfolding held
+octal-beyond z e = rw e
+
+hexadecimal-beyond : (z : ℤ) → inRange z ≡ false → limited (integer sixteen z) ≡ Str
+unfolding held
+hexadecimal-beyond z e = rw e
+
+pub core-schema-is-limited-standard : CoreSchema
 unfolding coreSchema
-first-row-only s a f = only-match f
+core-schema-is-limited-standard =
+    record {
+      limited-standard = λ s. refl;
+      by-first-row = λ s m f. ap limited (sym (only-match f));
+      in-range = in-range;
+      decimal-beyond = decimal-beyond;
+      octal-beyond = octal-beyond;
+      hexadecimal-beyond = hexadecimal-beyond;
+    }
+
+-- ---- the flags of the table's rows
+flag-among : (rs : List Row) (qs : List Regex) (s : List ℕ) (k : ℕ) → k < length rs
+    → flag k (accepted (expressions rs ++ qs) s) ≡ accepts (getD rs k (row none null) .expression) s
+flag-among [] qs s k h = absurd (not-suc-le-zero h)
+flag-among (r ∷ rs) qs s zero h = refl
+flag-among (r ∷ rs) qs s (suc k) h = flag-among rs qs s k (le-of-suc-le-suc h)
+
+flag-is : (k : ℕ) (s : List ℕ) → k < length table → flag k (flags s) ≡ accepts (rowAt k .expression) s
+unfolding flags
+flag-is k s h = flag-among table (trueWord ∷ []) s k h
+
+truth-is : (s : List ℕ) → flag truthPlace (flags s) ≡ accepts trueWord s
+unfolding flags table
+truth-is s = refl
+
+matched : (k : ℕ) (s : List ℕ) → k < length table → Matches (rowAt k .expression) s → flag k (flags s) ≡ true
+matched k s h m = flag-is k s h ∙ accepts-complete s (rowAt k .expression) m
+
+nine : length table ≡ 9
+unfolding table
+nine = refl
 
 -- ---- which rows overlap
-row-at : (k : ℕ) (s : List ℕ) → flag k (flags s) ≡ accepts (getD rows k none) s
-unfolding flags
-row-at k s =
-    ap (getD (map (λ (r : Regex). accepts r s) rows) k) (sym (none-accepts s)) ∙ List·getD-map (λ (r : Regex). accepts r s) rows k none
-
-refused : (s : List ℕ) (r : Regex) → (Matches r s → ⊥) → accepts r s ≡ false
-refused s r n =
-    same-truth (accepts r s) false (λ e. absurd (n (accepts-sound s r e))) (λ e. absurd (clash (sym e)))
-
-matched : (k : ℕ) (s : List ℕ) → Matches (getD rows k none) s → flag k (flags s) ≡ true
-matched k s m = row-at k s ∙ accepts-complete s (getD rows k none) m
-
--- the rows i and j are the decimal integer's and the number's
 abbrev decimalAndNumber : ℕ → ℕ → Bool
-decimalAndNumber i j = eqb i 4 && eqb j 7
+decimalAndNumber i j = eqb i decimalPlace && eqb j numberPlace
 
 abbrev apart : List Bool → ℕ → ℕ → Bool
 apart fs j i = implies (flag i fs) (implies (flag j fs) (decimalAndNumber i j))
 
-all-apart : T (all 48 (λ q. all 10 (λ j. all j (λ i. apart (flagsAt q) j i))))
-unfolding flagsAt awaits texts derivative nullable
+all-apart : T (all 48 (λ q. all 9 (λ j. all j (λ i. apart (flagsAt q) j i))))
+unfolding flagsAt awaits table texts derivative nullable
 all-apart = tt
 
--- `rows`, in the table's order: 0 null's words, 1 nothing, 2 true's, 3 false's, 4 decimal, 5 octal, 6 hexadecimal, 7 number,
--- 8 infinity, 9 not a number
-pub rows-apart : (i j : ℕ) → i < j → j < 10 → (decimalAndNumber i j ≡ true → ⊥) → (s : List ℕ) → Bytes s
-    → Matches (getD rows i none) s → Matches (getD rows j none) s → ⊥
+rows-apart : (i j : ℕ) → i < j → j < length table → ((i ≡ decimalPlace) × (j ≡ numberPlace) → ⊥) → (s : List ℕ) → Bytes s
+    → Matches (rowAt i .expression) s → Matches (rowAt j .expression) s → ⊥
 rows-apart i j l h n s f a b =
-    let t = by-states (λ (fs : List Bool). all 10 (λ (j : ℕ). all j (λ (i : ℕ). apart fs j i))) all-apart s f in
-    let u = all-at j (λ (i : ℕ). apart (flags s) j i) (all-at 10 (λ (j : ℕ). all j (λ (i : ℕ). apart (flags s) j i)) t j h) i l in
-    let v = implied (flag i (flags s)) (implies (flag j (flags s)) (decimalAndNumber i j)) u (matched i s a) in
-    n (implied (flag j (flags s)) (decimalAndNumber i j) (passes (implies (flag j (flags s)) (decimalAndNumber i j)) v) (matched j s b))
+    let t = by-states (λ (fs : List Bool). all 9 (λ (j : ℕ). all j (λ (i : ℕ). apart fs j i))) all-apart s f in
+    let u = all-at j (λ (i : ℕ). apart (flags s) j i) (all-at 9 (λ (j : ℕ). all j (λ (i : ℕ). apart (flags s) j i)) t j (rw nine at h)) i l in
+    let v = implied (flag i (flags s)) (implies (flag j (flags s)) (decimalAndNumber i j)) u (matched i s (omega arith) a) in
+    let w = implied (flag j (flags s)) (decimalAndNumber i j) (passes (implies (flag j (flags s)) (decimalAndNumber i j)) v) (matched j s h b) in
+    n (
+      eqb-true i decimalPlace (and-left (eqb i decimalPlace) (eqb j numberPlace) w),
+      eqb-true j numberPlace (and-right (eqb i decimalPlace) (eqb j numberPlace) w),
+    )
 
-numbers : T (all 48 (λ q. implies (flag 4 (flagsAt q)) (flag 7 (flagsAt q))))
-unfolding flagsAt awaits texts derivative nullable
+numbers : T (all 48 (λ q. implies (flag decimalPlace (flagsAt q)) (flag numberPlace (flagsAt q))))
+unfolding flagsAt awaits table texts derivative nullable
 numbers = tt
 
-pub decimal-is-number : (s : List ℕ) → Bytes s → Matches decimal s → Matches number s
+decimal-is-number : (s : List ℕ) → Bytes s → Matches decimal s → Matches number s
+unfolding table
 decimal-is-number s f m =
     accepts-sound s number
-    (sym (row-at 7 s)
-    ∙ implied (flag 4 (flags s)) (flag 7 (flags s)) (by-states (λ (fs : List Bool). implies (flag 4 fs) (flag 7 fs)) numbers s f) (matched 4 s m))
+    (sym (flag-is numberPlace s (lit< tt))
+    ∙ implied (flag decimalPlace (flags s)) (flag numberPlace (flags s))
+    (by-states (λ (fs : List Bool). implies (flag decimalPlace fs) (flag numberPlace fs)) numbers s f) (matched decimalPlace s (lit< tt) m))
 
--- ---- what each row reads, with the two exceptions of range
-abbrev formOfRow : ℕ → Form
-formOfRow k =
-    getD
-    (form.Null
-    ∷ form.Null
-    ∷ form.True
-    ∷ form.False
-    ∷ form.Decimal
-    ∷ form.Octal
-    ∷ form.Hexadecimal
-    ∷ form.Float
-    ∷ form.Float
-    ∷ form.Float
-    ∷ []) k form.Other
+-- ---- a row that matches
+-- the kind of a row and the flags tell what the row reads
+kind-means : (k : Kind) (s : List ℕ) → meaningOf (formOfKind k (flag truthPlace (flags s))) s ≡ reads k s
+kind-means k s = ap (λ (f : Form). meaningOf f s) (ap (formOfKind k) (truth-is s) ∙ sym (kind-form k s)) ∙ sym (kind-by-form k s)
 
--- a scalar that the row k matches has the row's form, unless it is a digit run and k the number's row
+abbrev sameForm : Form → Form → Bool
+sameForm f g = eqb (formNumber f) (formNumber g)
+
+-- a scalar that the row k matches has the form of the row's kind, unless it is a digit run and k the number's row
 abbrev hasForm : List Bool → ℕ → Bool
-hasForm fs k = implies (flag k fs) ((eqb k 7 && flag 4 fs) || eqb (formNumber (formAt fs)) (formNumber (formOfRow k)))
+hasForm fs k =
+    implies (flag k fs)
+    ((eqb k numberPlace && flag decimalPlace fs) || sameForm (formAt fs) (formOfKind (rowAt k .kind) (flag truthPlace fs)))
 
-all-have : T (all 48 (λ q. all 10 (hasForm (flagsAt q))))
-unfolding flagsAt formAt awaits texts derivative nullable
+all-have : T (all 48 (λ q. all 9 (hasForm (flagsAt q))))
+unfolding flagsAt formBy awaits table texts derivative nullable
 all-have = tt
 
-module _ (s : List ℕ) (f : Bytes s) where
-  reads-row : (k : ℕ) → k < 10 → eqb k 7 && flag 4 (flags s) ≡ false → Matches (getD rows k none) s
-      → coreSchema s ≡ readPlain (formOfRow k) s
-  reads-row k l n m =
-      let t = by-states (λ (fs : List Bool). all 10 (hasForm fs)) all-have s f in
-      let e = implied (flag k (flags s)) _ (all-at 10 (hasForm (flags s)) t k l) (matched k s m) in
-      core-schema s
-      ∙ ap (λ (g : Form). readPlain g s)
-      (form-is s
-      ∙ or-cases (eqb k 7 && flag 4 (flags s)) (eqb (formNumber (formAt (flags s))) (formNumber (formOfRow k))) e
-      (λ d. absurd (clash (sym d ∙ n)))
-      (λ d. same-number (formAt (flags s)) (formOfRow k) (passes (eqb (formNumber (formAt (flags s))) (formNumber (formOfRow k))) d)))
+no-digit-run : (k : ℕ) (s : List ℕ) → (k ≡ numberPlace → Matches decimal s → ⊥) → eqb k numberPlace && flag decimalPlace (flags s) ≡ true → ⊥
+unfolding table
+no-digit-run k s n e =
+    n (eqb-true k numberPlace (and-left (eqb k numberPlace) (flag decimalPlace (flags s)) e))
+    (accepts-sound s decimal (sym (flag-is decimalPlace s (lit< tt)) ∙ and-right (eqb k numberPlace) (flag decimalPlace (flags s)) e))
 
-  pub null-reads : Matches nullWord s → coreSchema s ≡ Null
-  null-reads m = reads-row 0 (lit< tt) refl m
+any-row-decides : (k : ℕ) → k < length table → (s : List ℕ) → Bytes s → Matches (rowAt k .expression) s
+    → (k ≡ numberPlace → Matches decimal s → ⊥) → standard s ≡ reads (rowAt k .kind) s
+any-row-decides k l s f m n =
+    let g = formOfKind (rowAt k .kind) (flag truthPlace (flags s)) in
+    let t = by-states (λ (fs : List Bool). all 9 (hasForm fs)) all-have s f in
+    let e = implied (flag k (flags s)) _ (all-at 9 (hasForm (flags s)) t k (rw nine at l)) (matched k s l m) in
+    standard-by-form s
+    ∙ ap (λ (g : Form). meaningOf g s)
+    (form-is s
+    ∙ or-cases (eqb k numberPlace && flag decimalPlace (flags s)) (sameForm (formAt (flags s)) g) e
+    (λ d. absurd (no-digit-run k s n d))
+    (λ d. same-number (formAt (flags s)) g (passes (sameForm (formAt (flags s)) g) d)))
+    ∙ kind-means (rowAt k .kind) s
 
-  pub nothing-reads : Matches nothing s → coreSchema s ≡ Null
-  nothing-reads m = reads-row 1 (lit< tt) refl m
+pub standard-schema : StandardSchema
+standard-schema =
+    record {
+      first-row-decides = λ s. first-match table s;
+      first-row-only = λ s m f. only-match f;
+      rows-apart = rows-apart;
+      decimal-is-number = decimal-is-number;
+      any-row-decides = any-row-decides;
+    }
 
-  pub true-reads : Matches trueWord s → coreSchema s ≡ Boolean true
-  true-reads m = reads-row 2 (lit< tt) refl m
+-- ---- a row of a kind that matches
+-- the form by the rows of the kind of row k, of a scalar that it matches
+abbrev kindHasForm : List Bool → ℕ → Bool
+kindHasForm fs k =
+    implies (flag k fs)
+    (sameForm (formBy (hasName (bytes (tagName (rowAt k .kind)))) fs) (formOfKind (rowAt k .kind) (flag truthPlace fs)))
 
-  pub false-reads : Matches falseWord s → coreSchema s ≡ Boolean false
-  false-reads m = reads-row 3 (lit< tt) refl m
+all-kinds-have : T (all 48 (λ q. all 9 (kindHasForm (flagsAt q))))
+unfolding flagsAt formBy awaits table texts derivative nullable sameBytes
+all-kinds-have = tt
 
-  pub decimal-reads : Matches decimal s → coreSchema s ≡ integerOr (held (signedValue s)) Real
-  decimal-reads m = reads-row 4 (lit< tt) refl m
+first-of-kind : (name s : List ℕ) → FirstRow (rowsOf (hasName name) table) s (readAs name s)
+unfolding readAs
+first-of-kind name s = first-match (rowsOf (hasName name) table) s
 
-  pub octal-reads : Matches octal s → coreSchema s ≡ integerOr (held (pos (valueOf 8 (drop 2 s)))) Str
-  octal-reads m = reads-row 5 (lit< tt) refl m
+of-its-kind : (k : ℕ) → k < length table → (s : List ℕ) → Bytes s → Matches (rowAt k .expression) s
+    → readAs (bytes (tagName (rowAt k .kind))) s ≡ reads (rowAt k .kind) s
+unfolding readAs
+of-its-kind k l s f m =
+    let p = hasName (bytes (tagName (rowAt k .kind))) in
+    let g = formOfKind (rowAt k .kind) (flag truthPlace (flags s)) in
+    let t = by-states (λ (fs : List Bool). all 9 (kindHasForm fs)) all-kinds-have s f in
+    let e = implied (flag k (flags s)) (sameForm (formBy p (flags s)) g) (all-at 9 (kindHasForm (flags s)) t k (rw nine at l)) (matched k s l m) in
+    by-form (rowsOf p table) s
+    ∙ ap (λ (g : Form). meaningOf g s) (form-by p s ∙ same-number (formBy p (flags s)) g (passes (sameForm (formBy p (flags s)) g) e))
+    ∙ kind-means (rowAt k .kind) s
 
-  pub hexadecimal-reads : Matches hexadecimal s → coreSchema s ≡ integerOr (held (pos (valueOf 16 (drop 2 s)))) Str
-  hexadecimal-reads m = reads-row 6 (lit< tt) refl m
+any-of-kind : (name s : List ℕ) → Bytes s → (k : ℕ) → k < length table → hasName name (rowAt k .kind) ≡ true
+    → Matches (rowAt k .expression) s → readAs name s ≡ reads (rowAt k .kind) s
+any-of-kind name s f k l e m =
+    ap (λ (w : List ℕ). readAs w s) (sym (same-bytes (bytes (tagName (rowAt k .kind))) name e)) ∙ of-its-kind k l s f m
 
-  pub number-reads : Matches number s → (Matches decimal s → ⊥) → coreSchema s ≡ Real
-  number-reads m n = reads-row 7 (lit< tt) (row-at 4 s ∙ refused s decimal n) m
+digit-run-is-real : (s : List ℕ) → Bytes s → Matches decimal s → coreReal s ≡ true
+unfolding coreReal table sameBytes
+digit-run-is-real s f m = ap isReal (any-of-kind (bytes "float") s f numberPlace (lit< tt) refl (decimal-is-number s f m))
 
-  pub infinity-reads : Matches infinity s → coreSchema s ≡ Real
-  infinity-reads m = reads-row 8 (lit< tt) refl m
-
-  pub not-a-number-reads : Matches notANumber s → coreSchema s ≡ Real
-  not-a-number-reads m = reads-row 9 (lit< tt) refl m
-
-pub in-range : (z : ℤ) (other : Resolved) → inRange z ≡ true → integerOr (held z) other ≡ Integer z
-unfolding held
-in-range z other e = rw e
-
-pub beyond-range : (z : ℤ) (other : Resolved) → inRange z ≡ false → integerOr (held z) other ≡ other
-unfolding held
-beyond-range z other e = rw e
+pub any-order : AnyOrder
+any-order = record { first-of-kind = first-of-kind; any-of-kind = any-of-kind; digit-run-is-real = digit-run-is-real }

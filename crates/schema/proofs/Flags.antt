@@ -1,9 +1,10 @@
--- The flags of a scalar: for each row of the table, the booleans' halves apart, whether it accepts the scalar. They are
--- those of the state in which the automaton ends (`ended`), so that what holds of the flags of every state, by a computed
--- test, holds of every scalar (`by-states`). Assumes nothing.
+-- The flags of a scalar: for each row of the table whether it accepts the scalar, and whether it is a word that is true. They
+-- are those of the state in which the automaton ends (`ended`), so that what holds of the flags of every state, by a computed
+-- test, holds of every scalar (`by-states`). The form of a scalar by some of the rows is read off its flags (`form-by`).
+-- Assumes nothing.
 use mathlib.Core.Path.{_≡_, refl, sym, _∙_, ap, subst}
-use mathlib.Core.Bool.{Bool, true, false}
-use mathlib.Core.List.{List, [], _∷_, map}
+use mathlib.Core.Bool.{Bool, true, false, _&&_}
+use mathlib.Core.List.{List, [], _∷_, _++_, map}
 use Prim.Native.Nat.{ℕ, suc, _+_, _<_, _≤_}
 use native.Mathlib.Numerals.{add-one}
 use native.Mathlib.Omega.{arith}
@@ -12,16 +13,17 @@ use lib.Dec.{T, eqb, eqb→eq}
 use lib.ListN.{length, drop, getD, drop-of-length-le}
 use lib.Seq.{drop-cons}
 use Rattle.text.proofs.Table.{all, all-at}
+use Rattle.schema.specs.Ascii.{Bytes}
 use Rattle.schema.specs.Regex.{Regex, none}
 use Rattle.schema.specs.Matcher.{nullable, derivative, accepts}
-use Rattle.schema.specs.Form.{formOf, pickForm, beginsNoRow}
+use Rattle.schema.specs.Rows.{trueWord}
+use Rattle.schema.specs.Integer.{ten, eight, sixteen}
+use Rattle.schema.specs.Standard.{Kind, null, bool, int, float, Row, table, Meaning, reads, pickMeaning, firstMatch}
+use Rattle.schema.specs.Kinds.{pickRows, rowsOf}
+use Rattle.schema.specs.Form.{formFor, formOf, pickForm, beginsNoRow}
 use Rattle.schema.specs.declared.form.Form.{Form}
 use Rattle.schema.specs.declared.form.Form.the-variants.{Null, True, False, Decimal, Octal, Hexadecimal, Float, Other}
-use Rattle.schema.proofs.Automaton.{rows, awaits, texts, symbols, next, forms, step, step-low, step-is}
-
--- a scalar of bytes
-abbrev pub Bytes : List ℕ → Type 0
-Bytes s = (k : ℕ) → getD s k 0 < 256
+use Rattle.schema.proofs.Automaton.{expressions, rows, awaits, texts, symbols, next, forms, step, step-low, step-is}
 
 abbrev pub accepted : List Regex → List ℕ → List Bool
 accepted rs s = map (λ r. accepts r s) rs
@@ -71,23 +73,65 @@ by-states P t s f =
 abbrev pub flag : ℕ → List Bool → Bool
 flag k fs = getD fs k false
 
-unfoldable pub formAt : List Bool → Form
-formAt fs =
-    pickForm (flag 0 fs) Null
-    (pickForm (flag 1 fs) Null
-    (pickForm (flag 2 fs) True
-    (pickForm (flag 3 fs) False
-    (pickForm (flag 4 fs) Decimal
-    (pickForm (flag 5 fs) Octal
-    (pickForm (flag 6 fs) Hexadecimal
-    (pickForm (flag 7 fs) Float
-    (pickForm (flag 8 fs) Float
-    (pickForm (flag 9 fs) Float
-    Other)))))))))
+-- the form of a scalar whose first row is of this kind, by whether it is a word that is true
+abbrev pub formOfKind : Kind → Bool → Form
+formOfKind null t = Null
+formOfKind bool t = pickForm t True False
+formOfKind (int ten) t = Decimal
+formOfKind (int eight) t = Octal
+formOfKind (int sixteen) t = Hexadecimal
+formOfKind float t = Float
+
+abbrev formAmong : (Kind → Bool) → List Row → Bool → List Bool → Form
+formAmong p [] t fs = Other
+formAmong p (r ∷ rs) t [] = Other
+formAmong p (r ∷ rs) t (f ∷ fs) = pickForm (p (r .kind) && f) (formOfKind (r .kind) t) (formAmong p rs t fs)
+
+-- the place of the last flag, behind the table's nine
+abbrev pub truthPlace : ℕ
+truthPlace = 9
+
+-- the form by the rows of some kinds
+unfoldable pub formBy : (Kind → Bool) → List Bool → Form
+formBy p fs = formAmong p table (flag truthPlace fs) fs
+
+abbrev pub anyKind : Kind → Bool
+anyKind k = true
+
+abbrev pub formAt : List Bool → Form
+formAt fs = formBy anyKind fs
+
+pub kind-form : (k : Kind) (s : List ℕ) → formFor (reads k s) ≡ formOfKind k (accepts trueWord s)
+kind-form null s = refl
+kind-form bool s = refl
+kind-form (int ten) s = refl
+kind-form (int eight) s = refl
+kind-form (int sixteen) s = refl
+kind-form float s = refl
+
+module _ (p : Kind → Bool) (s : List ℕ) where
+  row-form : (c a : Bool) (r : Row) (rs : List Row) (f : Form) → accepts (r .expression) s ≡ a → formFor (firstMatch rs s) ≡ f
+      → formFor (firstMatch (pickRows c (r ∷ rs) rs) s) ≡ pickForm (c && a) (formOfKind (r .kind) (accepts trueWord s)) f
+  unfolding firstMatch
+  row-form true true r rs f e h = rw e (kind-form (r .kind) s)
+  row-form true false r rs f e h = rw e h
+  row-form false a r rs f e h = h
+
+  among : (rs : List Row) (qs : List Regex)
+      → formFor (firstMatch (rowsOf p rs) s) ≡ formAmong p rs (accepts trueWord s) (accepted (expressions rs ++ qs) s)
+  unfolding firstMatch
+  among [] qs = refl
+  among (r ∷ rs) qs =
+      row-form (p (r .kind)) (accepts (r .expression) s) r (rowsOf p rs)
+      (formAmong p rs (accepts trueWord s) (accepted (expressions rs ++ qs) s)) refl (among rs qs)
+
+  pub form-by : formFor (firstMatch (rowsOf p table) s) ≡ formBy p (flags s)
+  unfolding formBy flags table
+  form-by = among table (trueWord ∷ [])
 
 pub form-is : (s : List ℕ) → formOf s ≡ formAt (flags s)
-unfolding formOf formAt flags
-form-is s = refl
+unfolding formOf table
+form-is s = form-by anyKind s
 
 -- ---- the state that awaits nothing
 pub none-accepts : (s : List ℕ) → accepts none s ≡ false
@@ -96,7 +140,7 @@ none-accepts [] = refl
 none-accepts (b ∷ s) = none-accepts s
 
 pub dead : (s t : List ℕ) → accepted (awaits 2) s ≡ flags t → Other ≡ formOf t
-unfolding awaits texts formAt derivative nullable
+unfolding awaits table texts formBy derivative nullable
 dead s t e = sym (form-is t ∙ ap formAt (sym e) ∙ rw none-accepts refl)
 
 -- ---- the letter of a form
@@ -149,7 +193,7 @@ lettered : ℕ → Bool
 lettered q = eqb (formNumber (formOfLetter (getD forms q 0))) (formNumber (formAt (flagsAt q)))
 
 all-lettered : T (all 48 lettered)
-unfolding lettered forms formAt flagsAt awaits texts nullable derivative
+unfolding lettered forms formBy flagsAt awaits table texts nullable derivative
 all-lettered = tt
 
 -- the form of a scalar that ends in a state, by the state's letter

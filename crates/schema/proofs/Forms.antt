@@ -1,41 +1,90 @@
--- The definitions by the form of a scalar: each equals what it reads off the form, since no two forms overlap other than
--- the table's order decides. Each is one computed test over the automaton's states, or follows from the definition alone.
--- Assumes nothing.
+-- The definitions by the form of a scalar: each equals what it reads off the form. What the first row of a list reads is what
+-- its form says (`by-form`), whatever the rows; and the form by the rows of one kind is told by the form by all of them, which
+-- is one computed test over the automaton's states for each kind. Assumes nothing.
 use mathlib.Core.Path.{_≡_, refl, sym, _∙_, ap}
-use mathlib.Core.Bool.{Bool, true, false, _||_}
-use mathlib.Core.List.{List}
+use mathlib.Core.Bool.{Bool, true, false}
+use mathlib.Core.List.{List, [], _∷_}
 use Prim.Native.Nat.{ℕ}
 use lib.Dec.{T, eqb}
-use Rattle.text.proofs.Table.{all, same}
+use Rattle.text.proofs.Table.{all}
+use Rattle.schema.specs.Ascii.{bytes, Bytes, sameBytes}
 use Rattle.schema.specs.Matcher.{nullable, derivative, accepts}
-use Rattle.schema.specs.Rows.{nullWord, nothing, trueWord, falseWord, decimal, octal, hexadecimal, number, infinity, notANumber}
-use Rattle.schema.specs.Form.{formOf, pickForm}
-use Rattle.schema.specs.Integer.{pickParsed}
-use Rattle.schema.specs.CoreSchema.{pickResolved, integerOr, decimalValue, octalValue, hexadecimalValue, table, firstMatch, coreSchema, coreInteger, coreReal, integerOf}
-use Rattle.schema.specs.Tag.{taggedBool, taggedNull}
+use Rattle.schema.specs.Rows.{trueWord, decimal, octal, hexadecimal, number, infinity, notANumber}
+use Rattle.schema.specs.Integer.{ten, eight, sixteen, integerIn}
+use Rattle.schema.specs.Standard.{Kind, null, bool, int, float, Row, table, Meaning, nullValue, truth, integer, real, string, reads, pickMeaning, firstMatch, standard}
+use Rattle.schema.specs.CoreSchema.{pickResolved, integerOr, limited, coreSchema}
+use Rattle.schema.specs.Form.{formFor, formOf, integerOf}
+use Rattle.schema.specs.Kinds.{hasName, rowsOf, readAs, integerRead, isReal, coreInteger, coreReal}
+use Rattle.schema.specs.Tag.{fitted, taggedAs}
 use Rattle.schema.specs.declared.form.Form.{Form}
 use Rattle.schema.specs.declared.form.Form.the-variants.{Null, True, False, Decimal, Octal, Hexadecimal, Float, Other}
-use Rattle.schema.specs.declared.integer.Parsed.the-variants.{Nothing}
 use Rattle.schema.specs.declared.plain.Resolved.{Resolved}
-use Rattle.schema.specs.declared.plain.Resolved.the-variants as resolved
-use Rattle.schema.proofs.Derivative.{accepts-alt}
+use Rattle.schema.specs.declared.plain.Resolved.the-variants.{Real, BadValue}
 use Rattle.schema.proofs.Automaton.{awaits, texts}
-use Rattle.schema.proofs.Flags.{Bytes, flags, flagsAt, flag, formAt, form-is, by-states, formNumber, same-number}
-use Rattle.schema.proofs.Bools.{same-is}
+use Rattle.schema.proofs.Flags.{flags, flagsAt, formBy, formAt, form-by, form-is, by-states, formNumber, same-number}
 
--- two forms read off the flags, equal at every state and so of every scalar
-abbrev SameForms : (List Bool → Form) → (List Bool → Form) → Type 0
-SameForms g h = T (all 48 (λ q. eqb (formNumber (g (flagsAt q))) (formNumber (h (flagsAt q)))))
+-- ---- what a scalar means whose form is known
+abbrev pub meaningOf : Form → List ℕ → Meaning
+meaningOf Null s = nullValue
+meaningOf True s = truth true
+meaningOf False s = truth false
+meaningOf Decimal s = integer ten (integerIn ten s)
+meaningOf Octal s = integer eight (integerIn eight s)
+meaningOf Hexadecimal s = integer sixteen (integerIn sixteen s)
+meaningOf Float s = real
+meaningOf Other s = string
 
-same-forms : (g h : List Bool → Form) → SameForms g h → (s : List ℕ) → Bytes s → g (flags s) ≡ h (flags s)
-same-forms g h t s f =
-    same-number (g (flags s)) (h (flags s))
-    (by-states (λ (fs : List Bool). eqb (formNumber (g fs)) (formNumber (h fs))) t s f)
+truth-form : (b : Bool) (s : List ℕ) → truth b ≡ meaningOf (formFor (truth b)) s
+truth-form true s = refl
+truth-form false s = refl
+
+pub kind-by-form : (k : Kind) (s : List ℕ) → reads k s ≡ meaningOf (formFor (reads k s)) s
+kind-by-form null s = refl
+kind-by-form bool s = truth-form (accepts trueWord s) s
+kind-by-form (int ten) s = refl
+kind-by-form (int eight) s = refl
+kind-by-form (int sixteen) s = refl
+kind-by-form float s = refl
+
+either-form : (b : Bool) (m n : Meaning) (s : List ℕ) → m ≡ meaningOf (formFor m) s → n ≡ meaningOf (formFor n) s
+    → pickMeaning b m n ≡ meaningOf (formFor (pickMeaning b m n)) s
+either-form true m n s e f = e
+either-form false m n s e f = f
+
+pub by-form : (rs : List Row) (s : List ℕ) → firstMatch rs s ≡ meaningOf (formFor (firstMatch rs s)) s
+unfolding firstMatch
+by-form [] s = refl
+by-form (r ∷ rs) s = either-form (accepts (r .expression) s) (reads (r .kind) s) (firstMatch rs s) s (kind-by-form (r .kind) s) (by-form rs s)
+
+-- ---- by all rows
+pub standard-by-form : (s : List ℕ) → standard s ≡ meaningOf (formOf s) s
+unfolding formOf
+standard-by-form s = by-form table s
+
+abbrev pub readPlain : Form → List ℕ → Resolved
+readPlain f s = limited (meaningOf f s)
+
+pub core-schema : (s : List ℕ) → coreSchema s ≡ readPlain (formOf s) s
+unfolding coreSchema
+core-schema s = ap limited (standard-by-form s)
+
+-- ---- by the rows of one kind: the form by them is told by the form by all
+abbrev Told : List ℕ → (Form → Form) → Type 0
+Told name only = T (all 48 (λ q. eqb (formNumber (formBy (hasName name) (flagsAt q))) (formNumber (only (formAt (flagsAt q))))))
+
+module _ (name : List ℕ) (only : Form → Form) (t : Told name only) (s : List ℕ) (f : Bytes s) where
+  only-form : formBy (hasName name) (flags s) ≡ only (formAt (flags s))
+  only-form =
+      same-number (formBy (hasName name) (flags s)) (only (formAt (flags s)))
+      (by-states (λ (fs : List Bool). eqb (formNumber (formBy (hasName name) fs)) (formNumber (only (formAt fs)))) t s f)
+
+  read-as : readAs name s ≡ meaningOf (only (formOf s)) s
+  unfolding readAs
+  read-as =
+      by-form (rowsOf (hasName name) table) s
+      ∙ ap (λ (g : Form). meaningOf g s) (form-by (hasName name) s ∙ only-form ∙ ap only (sym (form-is s)))
 
 -- ---- integers
-abbrev integerAt : List Bool → Form
-integerAt fs = pickForm (flag 4 fs) Decimal (pickForm (flag 5 fs) Octal (pickForm (flag 6 fs) Hexadecimal Other))
-
 abbrev onlyInteger : Form → Form
 onlyInteger Null = Other
 onlyInteger True = Other
@@ -46,75 +95,71 @@ onlyInteger Hexadecimal = Hexadecimal
 onlyInteger Float = Other
 onlyInteger Other = Other
 
-integers : SameForms integerAt (λ fs. onlyInteger (formAt fs))
-unfolding flagsAt formAt awaits texts derivative nullable
+integers : Told (bytes "int") onlyInteger
+unfolding flagsAt formBy awaits table texts derivative nullable sameBytes
 integers = tt
 
-integer-at : (d o x : Bool) (s : List ℕ)
-    → pickParsed d (decimalValue s) (pickParsed o (octalValue s) (pickParsed x (hexadecimalValue s) Nothing))
-    ≡ integerOf (pickForm d Decimal (pickForm o Octal (pickForm x Hexadecimal Other))) s
-integer-at true o x s = refl
-integer-at false true x s = refl
-integer-at false false true s = refl
-integer-at false false false s = refl
-
-only-integer : (f : Form) (s : List ℕ) → integerOf (onlyInteger f) s ≡ integerOf f s
-only-integer Null s = refl
-only-integer True s = refl
-only-integer False s = refl
-only-integer Decimal s = refl
-only-integer Octal s = refl
-only-integer Hexadecimal s = refl
-only-integer Float s = refl
-only-integer Other s = refl
+integer-read : (f : Form) (s : List ℕ) → integerRead (meaningOf (onlyInteger f) s) ≡ integerOf f s
+integer-read Null s = refl
+integer-read True s = refl
+integer-read False s = refl
+integer-read Decimal s = refl
+integer-read Octal s = refl
+integer-read Hexadecimal s = refl
+integer-read Float s = refl
+integer-read Other s = refl
 
 pub core-integer : (s : List ℕ) → Bytes s → coreInteger s ≡ integerOf (formOf s) s
-unfolding coreInteger flags
-core-integer s f =
-    integer-at (accepts decimal s) (accepts octal s) (accepts hexadecimal s) s
-    ∙ ap (λ (g : Form). integerOf g s) (same-forms integerAt (λ (fs : List Bool). onlyInteger (formAt fs)) integers s f)
-    ∙ only-integer (formAt (flags s)) s
-    ∙ ap (λ (g : Form). integerOf g s) (sym (form-is s))
+unfolding coreInteger
+core-integer s f = ap integerRead (read-as (bytes "int") onlyInteger integers s f) ∙ integer-read (formOf s) s
 
--- ---- reals
-abbrev pub isReal : Form → Bool
-isReal Null = false
-isReal True = false
-isReal False = false
-isReal Decimal = true
-isReal Octal = false
-isReal Hexadecimal = false
-isReal Float = true
-isReal Other = false
+fitted-integer : (d o x : Bool) (s : List ℕ)
+    → let m = pickMeaning d (reads (int ten) s) (pickMeaning o (reads (int eight) s) (pickMeaning x (reads (int sixteen) s) string)) in
+    integerOr (integerRead m) BadValue ≡ fitted m
+fitted-integer true o x s = refl
+fitted-integer false true x s = refl
+fitted-integer false false true s = refl
+fitted-integer false false false s = refl
 
-abbrev realAt : List Bool → Bool
-realAt fs = flag 7 fs || (flag 8 fs || flag 9 fs)
+pub tagged-int : (s : List ℕ) → integerOr (coreInteger s) BadValue ≡ taggedAs (bytes "int") s
+unfolding coreInteger taggedAs readAs table firstMatch sameBytes
+tagged-int s = fitted-integer (accepts decimal s) (accepts octal s) (accepts hexadecimal s) s
 
-reals : T (all 48 (λ q. same (realAt (flagsAt q)) (isReal (formAt (flagsAt q)))))
-unfolding flagsAt formAt awaits texts derivative nullable
+-- ---- reals; a digit run is one
+abbrev onlyReal : Form → Form
+onlyReal Null = Other
+onlyReal True = Other
+onlyReal False = Other
+onlyReal Decimal = Float
+onlyReal Octal = Other
+onlyReal Hexadecimal = Other
+onlyReal Float = Float
+onlyReal Other = Other
+
+reals : Told (bytes "float") onlyReal
+unfolding flagsAt formBy awaits table texts derivative nullable sameBytes
 reals = tt
 
-pub core-real : (s : List ℕ) → Bytes s → coreReal s ≡ isReal (formOf s)
-unfolding coreReal flags
-core-real s f =
-    same-is (realAt (flags s)) (isReal (formAt (flags s)))
-    (by-states (λ (fs : List Bool). same (realAt fs) (isReal (formAt fs))) reals s f)
-    ∙ ap isReal (sym (form-is s))
+abbrev pub readReal : Form → List ℕ → Bool
+readReal f s = isReal (meaningOf (onlyReal f) s)
+
+pub core-real : (s : List ℕ) → Bytes s → coreReal s ≡ readReal (formOf s) s
+unfolding coreReal
+core-real s f = ap isReal (read-as (bytes "float") onlyReal reals s f)
+
+fitted-real : (n i a : Bool)
+    → let m = pickMeaning n real (pickMeaning i real (pickMeaning a real string)) in
+    pickResolved (isReal m) Real BadValue ≡ fitted m
+fitted-real true i a = refl
+fitted-real false true a = refl
+fitted-real false false true = refl
+fitted-real false false false = refl
+
+pub tagged-float : (s : List ℕ) → pickResolved (coreReal s) Real BadValue ≡ taggedAs (bytes "float") s
+unfolding coreReal taggedAs readAs table firstMatch sameBytes
+tagged-float s = fitted-real (accepts number s) (accepts infinity s) (accepts notANumber s)
 
 -- ---- booleans and nulls
-abbrev pub readBool : Form → Resolved
-readBool Null = resolved.BadValue
-readBool True = resolved.Boolean true
-readBool False = resolved.Boolean false
-readBool Decimal = resolved.BadValue
-readBool Octal = resolved.BadValue
-readBool Hexadecimal = resolved.BadValue
-readBool Float = resolved.BadValue
-readBool Other = resolved.BadValue
-
-abbrev boolAt : List Bool → Form
-boolAt fs = pickForm (flag 2 fs) True (pickForm (flag 3 fs) False Other)
-
 abbrev onlyBool : Form → Form
 onlyBool Null = Other
 onlyBool True = True
@@ -125,124 +170,34 @@ onlyBool Hexadecimal = Other
 onlyBool Float = Other
 onlyBool Other = Other
 
-bools : SameForms boolAt (λ fs. onlyBool (formAt fs))
-unfolding flagsAt formAt awaits texts derivative nullable
+bools : Told (bytes "bool") onlyBool
+unfolding flagsAt formBy awaits table texts derivative nullable sameBytes
 bools = tt
 
-bool-at : (t f : Bool) → pickResolved (t || f) (resolved.Boolean t) resolved.BadValue ≡ readBool (pickForm t True (pickForm f False Other))
-bool-at true f = refl
-bool-at false true = refl
-bool-at false false = refl
+abbrev pub readBool : Form → List ℕ → Resolved
+readBool f s = fitted (meaningOf (onlyBool f) s)
 
-only-bool : (f : Form) → readBool (onlyBool f) ≡ readBool f
-only-bool Null = refl
-only-bool True = refl
-only-bool False = refl
-only-bool Decimal = refl
-only-bool Octal = refl
-only-bool Hexadecimal = refl
-only-bool Float = refl
-only-bool Other = refl
+pub tagged-bool : (s : List ℕ) → Bytes s → taggedAs (bytes "bool") s ≡ readBool (formOf s) s
+unfolding taggedAs
+tagged-bool s f = ap fitted (read-as (bytes "bool") onlyBool bools s f)
 
-pub tagged-bool : (s : List ℕ) → Bytes s → taggedBool s ≡ readBool (formOf s)
-unfolding taggedBool flags
-tagged-bool s f =
-    ap (λ (b : Bool). pickResolved b (resolved.Boolean (accepts trueWord s)) resolved.BadValue) (accepts-alt trueWord falseWord s)
-    ∙ bool-at (accepts trueWord s) (accepts falseWord s)
-    ∙ ap readBool (same-forms boolAt (λ (fs : List Bool). onlyBool (formAt fs)) bools s f)
-    ∙ only-bool (formAt (flags s))
-    ∙ ap readBool (sym (form-is s))
+abbrev onlyNull : Form → Form
+onlyNull Null = Null
+onlyNull True = Other
+onlyNull False = Other
+onlyNull Decimal = Other
+onlyNull Octal = Other
+onlyNull Hexadecimal = Other
+onlyNull Float = Other
+onlyNull Other = Other
 
-abbrev pub readNull : Form → Resolved
-readNull Null = resolved.Null
-readNull True = resolved.BadValue
-readNull False = resolved.BadValue
-readNull Decimal = resolved.BadValue
-readNull Octal = resolved.BadValue
-readNull Hexadecimal = resolved.BadValue
-readNull Float = resolved.BadValue
-readNull Other = resolved.BadValue
+nulls : Told (bytes "null") onlyNull
+unfolding flagsAt formBy awaits table texts derivative nullable sameBytes
+nulls = tt
 
-pub tagged-null : (s : List ℕ) → taggedNull s ≡ readNull (formOf s)
-unfolding taggedNull formOf
-tagged-null s =
-    null-at (accepts nullWord s) (accepts nothing s) (accepts trueWord s) (accepts falseWord s) (accepts decimal s) (accepts octal s)
-    (accepts hexadecimal s) (accepts number s) (accepts infinity s) (accepts notANumber s)
-  where
-    null-at : (n e t f d o x r i a : Bool)
-        → pickResolved (n || e) resolved.Null resolved.BadValue
-        ≡ readNull
-        (pickForm n Null
-        (pickForm e Null
-        (pickForm t True
-        (pickForm f False
-        (pickForm d Decimal
-        (pickForm o Octal
-        (pickForm x Hexadecimal (pickForm r Float (pickForm i Float (pickForm a Float Other))))))))))
-    null-at true e t f d o x r i a = refl
-    null-at false true t f d o x r i a = refl
-    null-at false false true f d o x r i a = refl
-    null-at false false false true d o x r i a = refl
-    null-at false false false false true o x r i a = refl
-    null-at false false false false false true x r i a = refl
-    null-at false false false false false false true r i a = refl
-    null-at false false false false false false false true i a = refl
-    null-at false false false false false false false false true a = refl
-    null-at false false false false false false false false false true = refl
-    null-at false false false false false false false false false false = refl
+abbrev pub readNull : Form → List ℕ → Resolved
+readNull f s = fitted (meaningOf (onlyNull f) s)
 
--- ---- the core schema
-abbrev pub readPlain : Form → List ℕ → Resolved
-readPlain Null s = resolved.Null
-readPlain True s = resolved.Boolean true
-readPlain False s = resolved.Boolean false
-readPlain Decimal s = integerOr (decimalValue s) resolved.Real
-readPlain Octal s = integerOr (octalValue s) resolved.Str
-readPlain Hexadecimal s = integerOr (hexadecimalValue s) resolved.Str
-readPlain Float s = resolved.Real
-readPlain Other s = resolved.Str
-
-pub core-schema : (s : List ℕ) → coreSchema s ≡ readPlain (formOf s) s
-unfolding coreSchema table firstMatch formOf
-core-schema s =
-    ap (λ (b : Bool). pickResolved (accepts nullWord s) resolved.Null (pickResolved (accepts nothing s) resolved.Null (pickResolved b (resolved.Boolean (accepts trueWord s)) later)))
-    (accepts-alt trueWord falseWord s)
-    ∙ plain-at (accepts nullWord s) (accepts nothing s) (accepts trueWord s) (accepts falseWord s) (accepts decimal s) (accepts octal s)
-    (accepts hexadecimal s) (accepts number s) (accepts infinity s) (accepts notANumber s)
-  where
-    later : Resolved
-    later =
-        pickResolved (accepts decimal s) (integerOr (decimalValue s) resolved.Real)
-        (pickResolved (accepts octal s) (integerOr (octalValue s) resolved.Str)
-        (pickResolved (accepts hexadecimal s) (integerOr (hexadecimalValue s) resolved.Str)
-        (pickResolved (accepts number s) resolved.Real
-        (pickResolved (accepts infinity s) resolved.Real
-        (pickResolved (accepts notANumber s) resolved.Real resolved.Str)))))
-
-    plain-at : (n e t f d o x r i a : Bool)
-        → pickResolved n resolved.Null
-        (pickResolved e resolved.Null
-        (pickResolved (t || f) (resolved.Boolean t)
-        (pickResolved d (integerOr (decimalValue s) resolved.Real)
-        (pickResolved o (integerOr (octalValue s) resolved.Str)
-        (pickResolved x (integerOr (hexadecimalValue s) resolved.Str)
-        (pickResolved r resolved.Real (pickResolved i resolved.Real (pickResolved a resolved.Real resolved.Str))))))))
-        ≡ readPlain
-        (pickForm n Null
-        (pickForm e Null
-        (pickForm t True
-        (pickForm f False
-        (pickForm d Decimal
-        (pickForm o Octal
-        (pickForm x Hexadecimal (pickForm r Float (pickForm i Float (pickForm a Float Other)))))))))) s
-    plain-at true e t f d o x r i a = refl
-    plain-at false true t f d o x r i a = refl
-    plain-at false false true f d o x r i a = refl
-    plain-at false false false true d o x r i a = refl
-    plain-at false false false false true o x r i a = refl
-    plain-at false false false false false true x r i a = refl
-    plain-at false false false false false false true r i a = refl
-    plain-at false false false false false false false true i a = refl
-    plain-at false false false false false false false false true a = refl
-    plain-at false false false false false false false false false true = refl
-    plain-at false false false false false false false false false false = refl
+pub tagged-null : (s : List ℕ) → Bytes s → taggedAs (bytes "null") s ≡ readNull (formOf s) s
+unfolding taggedAs
+tagged-null s f = ap fitted (read-as (bytes "null") onlyNull nulls s f)

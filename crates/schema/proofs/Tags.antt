@@ -8,10 +8,10 @@ use borrow.Author.Tests.{eq-eqb, ne-eqb, eqb-true}
 use lib.Dec.{eqb}
 use lib.ListN.{length, take, drop, length-take, length-drop}
 use lib.Seq.{take-all}
-use Rattle.schema.specs.Ascii.{bytes}
-use Rattle.schema.specs.CoreSchema.{pickResolved, integerOr, coreSchema, coreInteger, coreReal}
-use Rattle.schema.specs.Tag.{sameBytes, standardHandle, startsWith, standardTagSuffix, pickTag, taggedBool, taggedNull, taggedSchema, untagged, resolveScalar}
-use Rattle.schema.specs.declared.plain.Resolved.the-variants.{Real, Str, BadValue}
+use Rattle.schema.specs.Ascii.{bytes, sameBytes}
+use Rattle.schema.specs.CoreSchema.{coreSchema}
+use Rattle.schema.specs.Tag.{standardHandle, startsWith, standardTagSuffix, pickTag, taggedAs, taggedSchema, untagged, resolveScalar}
+use Rattle.schema.specs.declared.plain.Resolved.the-variants.{Str}
 use Rattle.schema.specs.declared.tag.StandardTag.the-variants.{NameAt, NotStandard}
 use Rattle.text.specs.Tests.{clash, and-left, and-right}
 
@@ -113,22 +113,22 @@ module _ (name s : List ℕ) where
   as-str e = rw e
 
   module _ (n1 : sameBytes name (bytes "str") ≡ false) where
-    pub as-bool : sameBytes name (bytes "bool") ≡ true → taggedBool s ≡ taggedSchema name s
+    pub as-bool : sameBytes name (bytes "bool") ≡ true → taggedAs (bytes "bool") s ≡ taggedSchema name s
     unfolding taggedSchema
     as-bool e = rw (n1, e)
 
     module _ (n2 : sameBytes name (bytes "bool") ≡ false) where
-      pub as-int : sameBytes name (bytes "int") ≡ true → integerOr (coreInteger s) BadValue ≡ taggedSchema name s
+      pub as-int : sameBytes name (bytes "int") ≡ true → taggedAs (bytes "int") s ≡ taggedSchema name s
       unfolding taggedSchema
       as-int e = rw (n1, n2, e)
 
       module _ (n3 : sameBytes name (bytes "int") ≡ false) where
-        pub as-float : sameBytes name (bytes "float") ≡ true → pickResolved (coreReal s) Real BadValue ≡ taggedSchema name s
+        pub as-float : sameBytes name (bytes "float") ≡ true → taggedAs (bytes "float") s ≡ taggedSchema name s
         unfolding taggedSchema
         as-float e = rw (n1, n2, n3, e)
 
         module _ (n4 : sameBytes name (bytes "float") ≡ false) where
-          pub as-null : sameBytes name (bytes "null") ≡ true → taggedNull s ≡ taggedSchema name s
+          pub as-null : sameBytes name (bytes "null") ≡ true → taggedAs (bytes "null") s ≡ taggedSchema name s
           unfolding taggedSchema
           as-null e = rw (n1, n2, n3, n4, e)
 

@@ -1,16 +1,18 @@
 -- Worked examples of the definitions, each by computation: K2 to K6 of document 01, those of the standard's section 10.3.2,
--- tags, and record numbers. Assumes nothing.
+-- the integers beyond 64 signed bits, tags, and record numbers. Assumes nothing.
 use Prim.Native.Nat.{ℕ}
 use Prim.Native.String.{String}
 use mathlib.Core.Path.{_≡_, refl}
 use mathlib.Core.Bool.{true, false}
 use mathlib.Core.List.{[]}
 use lib.IntN.{pos, negsuc}
-use Rattle.schema.specs.Ascii.{bytes}
+use Rattle.schema.specs.Ascii.{bytes, sameBytes}
 use Rattle.schema.specs.Matcher.{nullable, derivative, accepts}
-use Rattle.schema.specs.Integer.{digitValue, positional, signedValue, inRange, held}
-use Rattle.schema.specs.CoreSchema.{table, firstMatch, coreSchema, coreInteger, coreReal}
-use Rattle.schema.specs.Tag.{sameBytes, standardTagSuffix, taggedBool, taggedNull, taggedSchema, untagged, resolveScalar}
+use Rattle.schema.specs.Integer.{ten, eight, sixteen, digitValue, positional, signedValue, inRange, held}
+use Rattle.schema.specs.Standard.{Meaning, integer, standard}
+use Rattle.schema.specs.CoreSchema.{table, firstMatch, coreSchema}
+use Rattle.schema.specs.Kinds.{readAs}
+use Rattle.schema.specs.Tag.{standardTagSuffix, taggedAs, taggedSchema, untagged, resolveScalar}
 use Rattle.schema.specs.Record.{payloadOf, both}
 use Rattle.schema.specs.declared.plain.Resolved.{Resolved}
 use Rattle.schema.specs.declared.plain.Resolved.the-variants.{Null, Boolean, Integer, Real, Str, BadValue}
@@ -47,7 +49,7 @@ k2-to-k6 =
     }
 
 -- the standard's examples, and their neighbours
-pub record Standard : Type 0 where
+pub record StandardTexts : Type 0 where
   pub tilde : plain "~" ≡ Null
   pub nothing : coreSchema [] ≡ Null
   pub null-cased : plain "nULL" ≡ Str
@@ -73,9 +75,9 @@ pub record Standard : Type 0 where
   pub nan : plain ".NAN" ≡ Real
   pub rust-inf : plain "inf" ≡ Str
 
-pub standard : Standard
+pub standard-texts : StandardTexts
 unfolding coreSchema table firstMatch accepts derivative nullable held inRange signedValue positional digitValue
-standard =
+standard-texts =
     record {
       tilde = refl;
       nothing = refl;
@@ -103,6 +105,34 @@ standard =
       rust-inf = refl;
     }
 
+-- what the standard reads of an integer just beyond the range, and what the schema makes of it
+abbrev meaning : String → Meaning
+meaning w = standard (bytes w)
+
+pub record Beyond : Type 0 where
+  pub decimal-read : meaning "9223372036854775808" ≡ integer ten (pos 9223372036854775808)
+  pub octal-read : meaning "0o1000000000000000000000" ≡ integer eight (pos 9223372036854775808)
+  pub hexadecimal-read : meaning "0x8000000000000000" ≡ integer sixteen (pos 9223372036854775808)
+  pub decimal-below : plain "-9223372036854775809" ≡ Real
+  pub octal : plain "0o1000000000000000000000" ≡ Str
+  pub octal-last : plain "0o777777777777777777777" ≡ Integer (pos 9223372036854775807)
+  pub hexadecimal : plain "0x8000000000000000" ≡ Str
+  pub hexadecimal-last : plain "0x7fffffffffffffff" ≡ Integer (pos 9223372036854775807)
+
+pub beyond-range : Beyond
+unfolding coreSchema table firstMatch accepts derivative nullable held inRange signedValue positional digitValue
+beyond-range =
+    record {
+      decimal-read = refl;
+      octal-read = refl;
+      hexadecimal-read = refl;
+      decimal-below = refl;
+      octal = refl;
+      octal-last = refl;
+      hexadecimal = refl;
+      hexadecimal-last = refl;
+    }
+
 -- a scalar of a style, with the handle and the suffix of its tag
 abbrev tagged : String → ℕ → String → String → Resolved
 tagged w style handle suffix = resolveScalar (bytes w) style true (bytes handle) (bytes suffix)
@@ -123,7 +153,7 @@ pub record Tagged : Type 0 where
   pub other-tag-quoted : tagged "5" 1 "!" "int" ≡ Str
 
 pub tags : Tagged
-unfolding resolveScalar standardTagSuffix taggedSchema taggedBool taggedNull untagged sameBytes coreInteger coreReal coreSchema table firstMatch accepts derivative nullable held inRange signedValue positional digitValue
+unfolding resolveScalar standardTagSuffix taggedSchema taggedAs readAs untagged sameBytes coreSchema table firstMatch accepts derivative nullable held inRange signedValue positional digitValue
 tags =
     record {
       int = refl;

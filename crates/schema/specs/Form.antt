@@ -4,28 +4,40 @@ use Prim.Native.Nat.{ℕ}
 use mathlib.Core.Bool.{Bool, true, false, _||_}
 use mathlib.Core.List.{List}
 use Rattle.text.specs.Class.{inside}
-use Rattle.schema.specs.Matcher.{accepts}
-use Rattle.schema.specs.Rows.{nullWord, nothing, trueWord, falseWord, decimal, octal, hexadecimal, number, infinity, notANumber}
+use Rattle.schema.specs.Integer.{ten, eight, sixteen, integerIn, held}
+use Rattle.schema.specs.Standard.{Meaning, nullValue, truth, integer, real, string, standard}
 use Rattle.schema.specs.declared.form.Form.{Form}
 use Rattle.schema.specs.declared.form.Form.the-variants.{Null, True, False, Decimal, Octal, Hexadecimal, Float, Other}
+use Rattle.schema.specs.declared.integer.Parsed.{Parsed}
+use Rattle.schema.specs.declared.integer.Parsed.the-variants.{Nothing}
 
 abbrev pub pickForm : Bool → Form → Form → Form
 pickForm true f g = f
 pickForm false f g = g
 
+-- the form of a scalar that means this
+abbrev pub formFor : Meaning → Form
+formFor nullValue = Null
+formFor (truth b) = pickForm b True False
+formFor (integer ten z) = Decimal
+formFor (integer eight z) = Octal
+formFor (integer sixteen z) = Hexadecimal
+formFor real = Float
+formFor string = Other
+
 unfoldable pub formOf : List ℕ → Form
-formOf s =
-    pickForm (accepts nullWord s) Null
-    (pickForm (accepts nothing s) Null
-    (pickForm (accepts trueWord s) True
-    (pickForm (accepts falseWord s) False
-    (pickForm (accepts decimal s) Decimal
-    (pickForm (accepts octal s) Octal
-    (pickForm (accepts hexadecimal s) Hexadecimal
-    (pickForm (accepts number s) Float
-    (pickForm (accepts infinity s) Float
-    (pickForm (accepts notANumber s) Float
-    Other)))))))))
+formOf s = formFor (standard s)
+
+-- the integer of a scalar whose form is known
+abbrev pub integerOf : Form → List ℕ → Parsed
+integerOf Null s = Nothing
+integerOf True s = Nothing
+integerOf False s = Nothing
+integerOf Decimal s = held (integerIn ten s)
+integerOf Octal s = held (integerIn eight s)
+integerOf Hexadecimal s = held (integerIn sixteen s)
+integerOf Float s = Nothing
+integerOf Other s = Nothing
 
 -- a letter that no row begins with: any but f, n and t
 unfoldable pub beginsNoRow : ℕ → Bool

@@ -5,6 +5,7 @@ use mathlib.Core.Bool.{Bool, true, false}
 use mathlib.Core.List.{List, [], _∷_}
 use lib.Dec.{ltb, eqb}
 use lib.IntN.{ℤ, pos, negsuc, negℤ}
+use lib.ListN.{drop}
 use Rattle.text.specs.Class.{inside, isDecimalDigit}
 use Rattle.schema.specs.declared.integer.Parsed.{Parsed}
 use Rattle.schema.specs.declared.integer.Parsed.the-variants.{Value, Nothing}
@@ -44,6 +45,18 @@ signedValue (b ∷ s) =
     pickInteger (eqb b 45) (negℤ (pos (valueOf 10 s)))
     (pickInteger (eqb b 43) (pos (valueOf 10 s))
     (pos (valueOf 10 (b ∷ s))))
+
+-- the bases of the table's three integer rows
+pub data Base : Type 0 where
+  ten : Base
+  eight : Base
+  sixteen : Base
+
+-- the integer that a scalar of a row's form writes; `0o` and `0x` are two bytes
+abbrev pub integerIn : Base → List ℕ → ℤ
+integerIn ten s = signedValue s
+integerIn eight s = pos (valueOf 8 (drop 2 s))
+integerIn sixteen s = pos (valueOf 16 (drop 2 s))
 
 -- from -2^63 to 2^63 - 1; `negsuc m` is -(m + 1)
 unfoldable pub inRange : ℤ → Bool

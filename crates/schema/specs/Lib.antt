@@ -7,12 +7,16 @@ pub mod Regex
 pub mod Matcher
 -- the expressions of the standard's table
 pub mod Rows
--- the form of a scalar
-pub mod Form
 -- the integers that digits write
 pub mod Integer
--- the core schema
+-- the standard's table and what it reads
+pub mod Standard
+-- the core schema: the standard, but for the range of integers
 pub mod CoreSchema
+-- the form of a scalar
+pub mod Form
+-- a scalar by the rows of one kind
+pub mod Kinds
 -- tags, and the whole resolution
 pub mod Tag
 -- the numbers of a record

@@ -1,25 +1,19 @@
 -- Tagged scalars, and the whole of a scalar's resolution (S10). A tag is a handle and a suffix, each a list of bytes.
 -- Assumes nothing.
 use Prim.Native.Nat.{ℕ}
-use mathlib.Core.Bool.{Bool, true, false, _&&_, _||_}
-use mathlib.Core.List.{List, [], _∷_}
+use mathlib.Core.Bool.{Bool, true, false, _&&_}
+use mathlib.Core.List.{List, []}
 use lib.Dec.{eqb}
 use lib.ListN.{length, take, drop}
-use Rattle.schema.specs.Ascii.{bytes}
-use Rattle.schema.specs.Matcher.{accepts}
-use Rattle.schema.specs.Rows.{nullWord, nothing, boolean, trueWord}
-use Rattle.schema.specs.CoreSchema.{pickResolved, integerOr, coreInteger, coreReal, coreSchema}
+use Rattle.schema.specs.Ascii.{bytes, sameBytes}
+use Rattle.schema.specs.Integer.{held}
+use Rattle.schema.specs.Standard.{Meaning, nullValue, truth, integer, real, string}
+use Rattle.schema.specs.CoreSchema.{pickResolved, integerOr, coreSchema}
+use Rattle.schema.specs.Kinds.{readAs}
 use Rattle.schema.specs.declared.plain.Resolved.{Resolved}
 use Rattle.schema.specs.declared.plain.Resolved.the-variants.{Null, Boolean, Real, Str, BadValue}
 use Rattle.schema.specs.declared.tag.StandardTag.{StandardTag}
 use Rattle.schema.specs.declared.tag.StandardTag.the-variants.{NameAt, NotStandard}
-
--- whether two lists hold the same bytes
-unfoldable pub sameBytes : List ℕ → List ℕ → Bool
-sameBytes [] [] = true
-sameBytes [] (c ∷ t) = false
-sameBytes (b ∷ s) [] = false
-sameBytes (b ∷ s) (c ∷ t) = eqb b c && sameBytes s t
 
 abbrev pub standardHandle : List ℕ
 standardHandle = bytes "tag:yaml.org,2002:"
@@ -38,20 +32,26 @@ standardTagSuffix handle suffix =
     (pickTag (sameBytes handle [] && startsWith standardHandle suffix) (NameAt 18)
     NotStandard)
 
-unfoldable pub taggedBool : List ℕ → Resolved
-taggedBool s = pickResolved (accepts boolean s) (Boolean (accepts trueWord s)) BadValue
+-- a misfit is a bad value: no row of the tag matches, or 64 signed bits do not hold the integer
+abbrev pub fitted : Meaning → Resolved
+fitted nullValue = Null
+fitted (truth b) = Boolean b
+fitted (integer base z) = integerOr (held z) BadValue
+fitted real = Real
+fitted string = BadValue
 
-unfoldable pub taggedNull : List ℕ → Resolved
-taggedNull s = pickResolved (accepts nullWord s || accepts nothing s) Null BadValue
+-- a scalar of a standard tag, by the rows of its kind
+unfoldable pub taggedAs : List ℕ → List ℕ → Resolved
+taggedAs name s = fitted (readAs name s)
 
 -- by the tag's name: a misfit is a bad value, a name that is none of the five leaves a string
 unfoldable pub taggedSchema : List ℕ → List ℕ → Resolved
 taggedSchema name s =
     pickResolved (sameBytes name (bytes "str")) Str
-    (pickResolved (sameBytes name (bytes "bool")) (taggedBool s)
-    (pickResolved (sameBytes name (bytes "int")) (integerOr (coreInteger s) BadValue)
-    (pickResolved (sameBytes name (bytes "float")) (pickResolved (coreReal s) Real BadValue)
-    (pickResolved (sameBytes name (bytes "null")) (taggedNull s)
+    (pickResolved (sameBytes name (bytes "bool")) (taggedAs (bytes "bool") s)
+    (pickResolved (sameBytes name (bytes "int")) (taggedAs (bytes "int") s)
+    (pickResolved (sameBytes name (bytes "float")) (taggedAs (bytes "float") s)
+    (pickResolved (sameBytes name (bytes "null")) (taggedAs (bytes "null") s)
     Str))))
 
 -- style 0 is plain; quoted and block values are strings

@@ -4,7 +4,8 @@ ghost use Prim.Native.Nat.{_<_};
 ghost use lib.IntN.{pos, negℤ};
 ghost use lib.ListN.{drop};
 ghost use Rattle.schema.specs.Integer.{digitValue, valueOf, signedValue, held};
-ghost use Rattle.schema.specs.CoreSchema.{integerOf, coreInteger};
+ghost use Rattle.schema.specs.Form.{integerOf};
+ghost use Rattle.schema.specs.Kinds.{coreInteger};
 use crate::form::Form;
 use crate::form::form_of;
 

@@ -1,6 +1,7 @@
 // Untagged plain scalars. (P2.)
 ghost use mathlib.Core.Path.{_≡_};
-ghost use Rattle.schema.specs.CoreSchema.{coreReal, coreSchema, integerOr};
+ghost use Rattle.schema.specs.CoreSchema.{coreSchema, integerOr};
+ghost use Rattle.schema.specs.Kinds.{coreReal};
 use crate::form::Form;
 use crate::form::form_of;
 use crate::integer::Parsed;

@@ -1,6 +1,7 @@
 // Scalars with a standard tag, and the whole of a scalar's resolution. (S10.)
 ghost use mathlib.Core.Path.{_≡_};
-ghost use Rattle.schema.specs.Tag.{standardTagSuffix, taggedBool, taggedNull, taggedSchema, untagged, resolveScalar};
+ghost use Rattle.schema.specs.Ascii.{bytes};
+ghost use Rattle.schema.specs.Tag.{standardTagSuffix, taggedAs, taggedSchema, untagged, resolveScalar};
 use crate::form::Form;
 use crate::form::form_of;
 use crate::integer::parse_core_schema_int;
@@ -38,7 +39,7 @@ pub fn standard_tag_suffix(handle: &[u8], suffix: &[u8]) -> StandardTag
 
 // A scalar tagged as a boolean.
 fn tagged_bool(value: &[u8]) -> Resolved
-    ensures { λ r. ⌜ r ≡ taggedBool (now (value .entry)) ⌝ }
+    ensures { λ r. ⌜ r ≡ taggedAs (bytes "bool") (now (value .entry)) ⌝ }
 {
     let form = form_of(value);
     match form {
@@ -55,7 +56,7 @@ fn tagged_bool(value: &[u8]) -> Resolved
 
 // A scalar tagged as a null.
 fn tagged_null(value: &[u8]) -> Resolved
-    ensures { λ r. ⌜ r ≡ taggedNull (now (value .entry)) ⌝ }
+    ensures { λ r. ⌜ r ≡ taggedAs (bytes "null") (now (value .entry)) ⌝ }
 {
     let form = form_of(value);
     match form {

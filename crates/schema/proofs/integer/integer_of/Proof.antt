@@ -1,7 +1,7 @@
 -- `schema::integer::integer_of` meets its contract: each arm reads the integer of its form. Assumes nothing.
 use borrow.Author.Needs.{needs}
 use mathlib.Core.Path.{_∙_, ap, sym}
-use Rattle.schema.specs.CoreSchema.{integerOf}
+use Rattle.schema.specs.Form.{integerOf}
 use Rattle.schema.specs.declared.form.Form.{Form}
 use Rattle.schema.proofs.integer.integer_of.Statement.{statement}
 use Rattle.schema.proofs.integer.integer_of.Tie as tie

@@ -2,7 +2,7 @@
 -- that it has decides. Assumes nothing.
 use borrow.Author.Needs.{needs}
 use mathlib.Core.Path.{_∙_, ap, sym}
-use Rattle.schema.specs.CoreSchema.{integerOf}
+use Rattle.schema.specs.Form.{integerOf}
 use Rattle.schema.specs.declared.form.Form.{Form}
 use Rattle.schema.proofs.Forms.{core-integer}
 use Rattle.schema.proofs.integer.parse_core_schema_int.Statement.{statement}

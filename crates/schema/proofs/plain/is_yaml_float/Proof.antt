@@ -2,9 +2,9 @@
 -- nothing.
 use borrow.Author.Needs.{needs}
 use mathlib.Core.Path.{_≡_, _∙_, ap, sym}
-use Rattle.schema.specs.CoreSchema.{coreReal}
+use Rattle.schema.specs.Kinds.{coreReal}
 use Rattle.schema.specs.declared.form.Form.{Form}
-use Rattle.schema.proofs.Forms.{isReal, core-real}
+use Rattle.schema.proofs.Forms.{readReal, core-real}
 use Rattle.schema.proofs.plain.is_yaml_float.Statement.{statement}
 use Rattle.schema.proofs.plain.is_yaml_float.Tie as tie
 
@@ -36,9 +36,10 @@ enum-told-8 : tie.Need-enum-told-8
 enum-told-8 c = search needs
 
 -- an arm answers what its form says
-arm : (c : tie.After-form-of) {f : Form} → c .form-of .result ≡ f → isReal f ≡ coreReal (c .before .before .args .value .now)
+arm : (c : tie.After-form-of) {f : Form} → c .form-of .result ≡ f → readReal f (c .before .before .args .value .now) ≡ coreReal (c .before .before .args .value .now)
 arm c e =
-    ap isReal (sym e ∙ c .form-of .ensures) ∙ sym (core-real _ (λ k. c .before .shared-slice-known .given k .fits))
+    let s = c .before .before .args .value .now in
+    ap (λ (f : Form). readReal f s) (sym e ∙ c .form-of .ensures) ∙ sym (core-real s (λ k. c .before .shared-slice-known .given k .fits))
 
 returns : tie.Need-returns
 returns c = arm (c .before .before) (c .enum-told .given .1)

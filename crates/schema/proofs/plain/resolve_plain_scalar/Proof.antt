@@ -1,7 +1,8 @@
 -- `schema::plain::resolve_plain_scalar` meets its contract, by the form of the value. Assumes nothing.
 use borrow.Author.Needs.{needs}
 use mathlib.Core.Path.{_≡_, _∙_, ap, sym}
-use Rattle.schema.specs.CoreSchema.{coreSchema, integerOf, integerOr}
+use Rattle.schema.specs.CoreSchema.{coreSchema, integerOr}
+use Rattle.schema.specs.Form.{integerOf}
 use Rattle.schema.specs.declared.form.Form.{Form}
 use Rattle.schema.specs.declared.integer.Parsed.{Parsed}
 use Rattle.schema.specs.declared.plain.Resolved.the-variants.{Real, Str}

@@ -3,11 +3,11 @@
 use borrow.Author.Needs.{needs}
 use mathlib.Core.Path.{_≡_, _∙_, ap, sym}
 use mathlib.Core.Bool.{Bool, false}
-use Rattle.schema.specs.Ascii.{bytes}
+use Rattle.schema.specs.Ascii.{bytes, sameBytes}
 use Rattle.schema.specs.CoreSchema.{pickResolved, integerOr}
-use Rattle.schema.specs.Tag.{sameBytes}
 use Rattle.schema.specs.declared.integer.Parsed.{Parsed}
 use Rattle.schema.specs.declared.plain.Resolved.the-variants.{Real, BadValue}
+use Rattle.schema.proofs.Forms.{tagged-int, tagged-float}
 use Rattle.schema.proofs.Tags.{told, as-str, as-bool, as-int, as-float, as-null, as-other}
 use Rattle.schema.proofs.tag.resolve_tagged_scalar.Statement.{statement}
 use Rattle.schema.proofs.tag.resolve_tagged_scalar.Tie as tie
@@ -81,6 +81,7 @@ returns-3 c =
     let p = q .before .before .before in
     c .integer-or .ensures
     ∙ ap (λ (i : Parsed). integerOr i BadValue) (c .before .parse-core-schema-int .ensures)
+    ∙ tagged-int _
     ∙ as-int _ _ (not-str (p .before .before .before)) (not-bool p) (sym (is-int (q .before)) ∙ q .if3 .taken)
 
 slice-aggregate-same-4 : tie.Need-slice-aggregate-same-4
@@ -97,6 +98,7 @@ returns-4 c =
     let q = c .before .before in
     let p = q .before .before .before in
     ap (λ (r : Bool). pickResolved r Real BadValue) (sym (c .if5 .taken) ∙ c .before .is-yaml-float .ensures)
+    ∙ tagged-float _
     ∙ as-float _ _ (not-str (p .before .before .before .before .before .before)) (not-bool (p .before .before .before)) (not-int p)
     (sym (is-float (q .before)) ∙ q .if4 .taken)
 
@@ -105,6 +107,7 @@ returns-5 c =
     let q = c .before .before in
     let p = q .before .before .before in
     ap (λ (r : Bool). pickResolved r Real BadValue) (sym (c .if5 .left) ∙ c .before .is-yaml-float .ensures)
+    ∙ tagged-float _
     ∙ as-float _ _ (not-str (p .before .before .before .before .before .before)) (not-bool (p .before .before .before)) (not-int p)
     (sym (is-float (q .before)) ∙ q .if4 .taken)
 

@@ -1,7 +1,8 @@
 -- `schema::tag::tagged_null` meets its contract, by the form of the value. Assumes nothing.
 use borrow.Author.Needs.{needs}
 use mathlib.Core.Path.{_≡_, _∙_, ap, sym}
-use Rattle.schema.specs.Tag.{taggedNull}
+use Rattle.schema.specs.Ascii.{bytes}
+use Rattle.schema.specs.Tag.{taggedAs}
 use Rattle.schema.specs.declared.form.Form.{Form}
 use Rattle.schema.proofs.Forms.{readNull, tagged-null}
 use Rattle.schema.proofs.tag.tagged_null.Statement.{statement}
@@ -35,8 +36,10 @@ enum-told-8 : tie.Need-enum-told-8
 enum-told-8 c = search needs
 
 -- an arm answers what its form says
-arm : (c : tie.After-form-of) {f : Form} → c .form-of .result ≡ f → readNull f ≡ taggedNull (c .before .before .args .value .now)
-arm c e = ap readNull (sym e ∙ c .form-of .ensures) ∙ sym (tagged-null _)
+arm : (c : tie.After-form-of) {f : Form} → c .form-of .result ≡ f → readNull f (c .before .before .args .value .now) ≡ taggedAs (bytes "null") (c .before .before .args .value .now)
+arm c e =
+    let s = c .before .before .args .value .now in
+    ap (λ (f : Form). readNull f s) (sym e ∙ c .form-of .ensures) ∙ sym (tagged-null s (λ k. c .before .shared-slice-known .given k .fits))
 
 returns : tie.Need-returns
 returns c = arm (c .before .before) (c .enum-told .given .1)

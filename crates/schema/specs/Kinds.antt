@@ -1,0 +1,68 @@
+-- A scalar by the table's rows of one kind, as a standard tag asks for it (S10): `!!int` by the integer rows, `!!float` by
+-- the real rows, one of which matches a digit run too. That it does not matter in which order those rows stand is
+-- `AnyOrder`; its proof is in proofs/CoreSchema.antt. Assumes nothing.
+use Prim.Native.Nat.{ℕ, _<_}
+use Prim.Native.String.{String}
+use mathlib.Core.Path.{_≡_}
+use mathlib.Core.Bool.{Bool, true, false}
+use mathlib.Core.List.{List, [], _∷_}
+use lib.ListN.{length}
+use Rattle.schema.specs.Ascii.{bytes, Bytes, sameBytes}
+use Rattle.schema.specs.Regex.{Matches}
+use Rattle.schema.specs.Rows.{decimal}
+use Rattle.schema.specs.Integer.{held}
+use Rattle.schema.specs.Standard.{Kind, null, bool, int, float, Row, table, rowAt, Meaning, nullValue, truth, integer, real, string, reads, firstMatch, FirstRow}
+use Rattle.schema.specs.declared.integer.Parsed.{Parsed}
+use Rattle.schema.specs.declared.integer.Parsed.the-variants.{Nothing}
+
+abbrev pub tagName : Kind → String
+tagName null = "null"
+tagName bool = "bool"
+tagName (int base) = "int"
+tagName float = "float"
+
+abbrev pub hasName : List ℕ → Kind → Bool
+hasName name k = sameBytes (bytes (tagName k)) name
+
+abbrev pub pickRows : Bool → List Row → List Row → List Row
+pickRows true rs qs = rs
+pickRows false rs qs = qs
+
+-- the rows of some kinds, in their order
+abbrev pub rowsOf : (Kind → Bool) → List Row → List Row
+rowsOf p [] = []
+rowsOf p (r ∷ rs) = pickRows (p (r .kind)) (r ∷ rowsOf p rs) (rowsOf p rs)
+
+-- what the rows of a tag read in a scalar; a string where none of them matches
+unfoldable pub readAs : List ℕ → List ℕ → Meaning
+readAs name s = firstMatch (rowsOf (hasName name) table) s
+
+-- the integer of a meaning, where it is one that 64 signed bits hold
+abbrev pub integerRead : Meaning → Parsed
+integerRead nullValue = Nothing
+integerRead (truth b) = Nothing
+integerRead (integer base z) = held z
+integerRead real = Nothing
+integerRead string = Nothing
+
+abbrev pub isReal : Meaning → Bool
+isReal nullValue = false
+isReal (truth b) = false
+isReal (integer base z) = false
+isReal real = true
+isReal string = false
+
+-- the integer of a scalar that an integer row matches
+unfoldable pub coreInteger : List ℕ → Parsed
+coreInteger s = integerRead (readAs (bytes "int") s)
+
+-- whether a real row matches a scalar; one matches a digit run
+unfoldable pub coreReal : List ℕ → Bool
+coreReal s = isReal (readAs (bytes "float") s)
+
+-- what a tag reads is what the first row of its kind reads that matches, and what any row of its kind reads that matches
+pub record AnyOrder : Type 0 where
+  pub first-of-kind : (name s : List ℕ) → FirstRow (rowsOf (hasName name) table) s (readAs name s)
+  pub any-of-kind : (name s : List ℕ) → Bytes s → (k : ℕ) → k < length table → hasName name (rowAt k .kind) ≡ true
+      → Matches (rowAt k .expression) s → readAs name s ≡ reads (rowAt k .kind) s
+  pub digit-run-is-real : (s : List ℕ) → Bytes s → Matches decimal s → coreReal s ≡ true
