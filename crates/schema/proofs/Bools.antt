@@ -19,12 +19,6 @@ pub or-right : (a b : Bool) → b ≡ true → a || b ≡ true
 or-right true b p = refl
 or-right false b p = p
 
--- two that are true together
-pub same-truth : (a b : Bool) → (a ≡ true → b ≡ true) → (b ≡ true → a ≡ true) → a ≡ b
-same-truth true b f g = sym (f refl)
-same-truth false true f g = g refl
-same-truth false false f g = refl
-
 -- ---- computed tests
 pub both-of : (a b : Bool) → T a → T b → T (both a b)
 both-of true b s t = t

@@ -2,7 +2,7 @@
 -- `accepts-complete`). Byte by byte: `Matches r (b ∷ s)` where and only where `Matches (derivative b r) s`, and
 -- `Matches r []` where and only where `nullable r`. Assumes nothing.
 use mathlib.Core.Path.{_≡_, refl, sym, _∙_, ap, subst}
-use mathlib.Core.Bool.{Bool, true, false, _&&_, _||_}
+use mathlib.Core.Bool.{Bool, true, false, _&&_}
 use mathlib.Core.List.{List, [], _∷_, _++_}
 use mathlib.Core.Logic.{_⊎_, inl, inr, ⊎-elim}
 use Prim.Native.Nat.{ℕ, _≤_}
@@ -12,7 +12,7 @@ use lib.Dec.{leb}
 use Rattle.schema.specs.Regex.{Regex, none, empty, range, seq, alt, star, Matches, m-empty, m-range, m-seq, m-left, m-right, m-done, m-more}
 use Rattle.schema.specs.Matcher.{pick, isNone, join, either, nullable, derivative, accepts}
 use Rattle.text.specs.Tests.{clash, and-left, and-right}
-use Rattle.schema.proofs.Bools.{and-both, or-cases, or-left, or-right, same-truth}
+use Rattle.schema.proofs.Bools.{and-both, or-cases, or-left, or-right}
 
 -- ---- lists
 cons-nil : {A : Type 0} {b : ℕ} {s : List ℕ} → b ∷ s ≡ [] → A
@@ -220,15 +220,3 @@ pub accepts-complete : (s : List ℕ) (r : Regex) → Matches r s → accepts r 
 unfolding accepts
 accepts-complete [] r m = nullable-complete m refl
 accepts-complete (b ∷ s) r m = accepts-complete s (derivative b r) (derivative-complete m b s refl)
-
--- ---- a choice accepts what either side accepts
-pub accepts-alt : (r q : Regex) (s : List ℕ) → accepts (alt r q) s ≡ accepts r s || accepts q s
-accepts-alt r q s =
-    same-truth (accepts (alt r q) s) (accepts r s || accepts q s)
-    (λ e.
-    ⊎-elim (λ m. or-left (accepts r s) (accepts q s) (accepts-complete s r m))
-    (λ m. or-right (accepts r s) (accepts q s) (accepts-complete s q m))
-    (inv-alt (accepts-sound s (alt r q) e)))
-    (λ e.
-    accepts-complete s (alt r q)
-    (or-cases (accepts r s) (accepts q s) e (λ p. m-left (accepts-sound s r p)) (λ p. m-right (accepts-sound s q p))))

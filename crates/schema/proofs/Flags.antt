@@ -18,7 +18,7 @@ use Rattle.schema.specs.Regex.{Regex, none}
 use Rattle.schema.specs.Matcher.{nullable, derivative, accepts}
 use Rattle.schema.specs.Rows.{trueWord}
 use Rattle.schema.specs.Integer.{ten, eight, sixteen}
-use Rattle.schema.specs.Standard.{Kind, null, bool, int, float, Row, table, Meaning, reads, pickMeaning, firstMatch}
+use Rattle.schema.specs.Standard.{Kind, null, bool, int, float, Row, table, reads, firstMatch}
 use Rattle.schema.specs.Kinds.{pickRows, rowsOf}
 use Rattle.schema.specs.Form.{formFor, formOf, pickForm, beginsNoRow}
 use Rattle.schema.specs.declared.form.Form.{Form}

@@ -1,6 +1,6 @@
 -- The core schema of document 01 (P2): what the standard reads, but for two exceptions, both of range: a decimal integer
 -- beyond 64 signed bits is a real, one in base 8 or 16 a string. They are `beyond` and stand nowhere else. `CoreSchema`
--- says of `coreSchema` all that is proved of it, in proofs/CoreSchema.antt. Assumes nothing.
+-- says so; its proof is in proofs/CoreSchema.antt. Assumes nothing.
 use Prim.Native.Nat.{ℕ}
 use mathlib.Core.Path.{_≡_}
 use mathlib.Core.Bool.{Bool, true, false}
@@ -39,6 +39,7 @@ limited string = Str
 unfoldable pub coreSchema : List ℕ → Resolved
 coreSchema s = limited (standard s)
 
+-- the standard, but for the range; so what the first row reads that matches, but for the range
 pub record CoreSchema : Type 0 where
   pub limited-standard : (s : List ℕ) → coreSchema s ≡ limited (standard s)
   pub by-first-row : (s : List ℕ) (m : Meaning) → FirstRow table s m → coreSchema s ≡ limited m

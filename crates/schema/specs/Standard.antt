@@ -77,6 +77,7 @@ pub data FirstRow : List Row → List ℕ → Meaning → Type 0 where
 abbrev pub rowAt : ℕ → Row
 rowAt k = getD table k (row none null)
 
+-- the decimal integer's row and the number's
 abbrev pub decimalPlace : ℕ
 decimalPlace = 3
 
