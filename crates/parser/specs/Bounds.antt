@@ -25,7 +25,7 @@ use Rattle.parser.specs.Pick.{pick}
 use Rattle.parser.specs.Record.{withList}
 use Rattle.parser.specs.Scalar.{ScalarAt}
 use Rattle.parser.specs.Collection.{closes}
-use Rattle.parser.specs.Machine.{State, empty, Next, go, stop, Outcome, built, refused, rootDone, beforeRoot, withinDepth, withinRoom}
+use Rattle.parser.specs.Machine.{State, empty, Next, go, stop, Outcome, built, refused, depthLimit, rootDone, beforeRoot, withinDepth, withinRoom}
 use Rattle.parser.specs.Machine.{completed, started, ended, closed, aliased, keeping, scalarAt, scalarKept, scalared}
 use Rattle.parser.specs.Machine.{step, nextPlace, ending, follow, run, runAll}
 use Rattle.parser.specs.RunLaws.{onward, stop-not-go}
@@ -45,10 +45,10 @@ Bounded n r (refused number place) = (number ≤ lastNumber) × (place ≤ n)
 
 -- ---- a step
 
-abbrev Holding : ℕ → ℕ → State → Type 0
+abbrev pub Holding : ℕ → ℕ → State → Type 0
 Holding k r st = (length (st .nodes) ≤ k) × (length (st .pieces) ≤ r)
 
-abbrev Stepped : ℕ → ℕ → Next → Type 0
+abbrev pub Stepped : ℕ → ℕ → Next → Type 0
 Stepped k r (go st) = Holding k r st
 Stepped k r (stop number) = number ≤ lastNumber
 
@@ -63,7 +63,7 @@ module _ (k r : ℕ) where
 
   within-depth : (st : State) (n : Next) → Stepped k r n → Stepped k r (withinDepth st n)
   unfolding withinDepth
-  within-depth st n h = pick-stepped (leb 64 (length (st .opens))) (stop 6) n (omega arith) h
+  within-depth st n h = pick-stepped (leb depthLimit (length (st .opens))) (stop 6) n (omega arith) h
 
   within-room : (room : ℕ) (st : State) (n : Next) → Stepped k r n → Stepped k r (withinRoom room st n)
   unfolding withinRoom
@@ -108,7 +108,7 @@ module _ (text events : List ℕ) (room r k : ℕ) where
   unfolding scalarKept
   scalar-stepped x tag st h = keep-stepped _ _ st h
 
-  stepped : (e : Event) (st : State) → Holding k r st → Stepped (k + 1) r (step text events room r e st)
+  pub stepped : (e : Event) (st : State) → Holding k r st → Stepped (k + 1) r (step text events room r e st)
   unfolding scalared
   stepped (SequenceStart index tag n) st h = start-stepped false index tag st h
   stepped (SequenceEnd index n) st h = end-stepped false index (st .opens) st h

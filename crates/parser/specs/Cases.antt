@@ -35,7 +35,7 @@ use Rattle.event.specs.Encode as event
 use Rattle.event.specs.Encode.{encodeString, encodeTag, encodeRest, encodeBody, encode as encodeEvent}
 use Rattle.event.specs.Read.{readString, readTag, readStartTag, readScalar, readBody, readEvent}
 use Rattle.parser.specs.Record.{extent, noTag, noList, pieceList}
-use Rattle.parser.specs.Scalar.{stepPast, scalarStart, spanLen, listAt, withSpan, tagInfo, resolvedBy, scalarNode}
+use Rattle.parser.specs.Scalar.{stepPast, scalarStart, spanLen, listAt, tagInfo, resolvedBy, scalarNode}
 use Rattle.parser.specs.Collection.{closes, collectionEnd, collectionStart, members, collectionOver, collectionNode}
 use Rattle.parser.specs.Machine.{Outcome, built, rootDone, beforeRoot, withinDepth, withinRoom, completed, started, ended, keeping, scalarKept, scalared, ending, run, runAll}
 use Rattle.parser.specs.Call.{building, oneScalar, readingScalar}
@@ -129,7 +129,17 @@ pub record WorkedCases : Type 0 where
       (piece verbatim 6 7 1 ∷ [])
 
 pub k1-to-k12 : WorkedCases
-unfolding readingScalar oneScalar admissionOfBoth admission isAscii isUtf8 allSome byteOffset codes charsAfter firstChar charOf multiByte twoBytes encode encodeAll building runAll run ending rootDone beforeRoot withinDepth withinRoom completed started ended keeping scalarKept scalared stepPast scalarStart tagInfo resolvedBy scalarNode closes collectionEnd collectionStart members collectionOver collectionNode highFirst numberAt encodeString encodeTag encodeRest encodeBody encodeEvent readString readTag readStartTag readScalar readBody readEvent sameName standardTagSuffix resolveScalar untagged coreSchema table firstMatch accepts derivative nullable held inRange signedValue positional digitValue bytesOf before withWord tokens tokensBefore openings property spanOf decide firstTag tagAt guess tagSpan spanLen listAt isBoundary scalarLen styleLen plainLen plainReach takesRun beginsWith isFold holdsNewline afterRun whiteSpaceRun isWhiteSpace isIn whiteSpace passedTogether toClosing quotedLen quotedOrValueLen lines isBlank trimmedLen endsBlock laterReach blockReach blockLen scalarList listFrom walkStart headerEnd beforeNewline atEmptyBlockHeader piecesIf piecesOf joined stepPieces readingOf readBy step endStep equalStep breakStep opensBreak breakPair sameBytes escapesOf doubleQuoteEscapes backslashEscape oneByteEscapes isOneOf singleQuoteEscapes codeContent radix16 digits digitsFrom whiteRun newlinesIn throughLast cut blankRun onlyNewlines
+unfolding readingScalar oneScalar admissionOfBoth admission isAscii isUtf8 allSome byteOffset codes charsAfter firstChar charOf multiByte twoBytes
+    encode encodeAll building runAll run ending rootDone beforeRoot withinDepth withinRoom completed started ended keeping scalarKept scalared
+    stepPast scalarStart tagInfo resolvedBy scalarNode closes collectionEnd collectionStart members collectionOver collectionNode highFirst
+    numberAt encodeString encodeTag encodeRest encodeBody encodeEvent readString readTag readStartTag readScalar readBody readEvent sameName
+    standardTagSuffix resolveScalar untagged coreSchema table firstMatch accepts derivative nullable held inRange signedValue positional
+    digitValue bytesOf before withWord tokens tokensBefore openings property spanOf decide firstTag tagAt guess tagSpan spanLen listAt
+    isBoundary scalarLen styleLen plainLen plainReach takesRun beginsWith isFold holdsNewline afterRun whiteSpaceRun isWhiteSpace isIn
+    whiteSpace passedTogether toClosing quotedLen quotedOrValueLen lines isBlank trimmedLen endsBlock laterReach blockReach blockLen scalarList
+    listFrom walkStart headerEnd beforeNewline atEmptyBlockHeader piecesIf piecesOf joined stepPieces readingOf readBy step endStep equalStep
+    breakStep opensBreak breakPair sameBytes escapesOf doubleQuoteEscapes backslashEscape oneByteEscapes isOneOf singleQuoteEscapes codeContent
+    radix16 digits digitsFrom whiteRun newlinesIn throughLast cut blankRun onlyNewlines
 k1-to-k12 =
     record {
       k1 = refl;
@@ -151,5 +161,3 @@ k1-to-k12 =
       k12 = refl;
       k12-found = refl;
     }
--- touched 1
--- touched 2

@@ -113,7 +113,15 @@ pub record Rows : Type 0 where
   pub order-3-5 : building [] (alias 0 ++ (0 ∷ [])) 12 0 ≡ refused 3 1
 
 pub rows : Rows
-unfolding building runAll run ending rootDone beforeRoot withinDepth withinRoom completed started ended aliased keeping scalarKept scalared stepPast scalarStart tagInfo resolvedBy scalarNode closes collectionEnd collectionStart members collectionOver collectionNode admission isAscii isUtf8 allSome byteOffset numberAt readString readTag readStartTag readScalar readBody readEvent resolveScalar untagged coreSchema table firstMatch accepts derivative nullable held inRange signedValue positional digitValue spanLen listAt isBoundary scalarLen styleLen plainLen plainReach takesRun beginsWith isFold holdsNewline afterRun whiteSpaceRun isWhiteSpace isIn whiteSpace codes charsAfter firstChar charOf multiByte encode encodeAll passedTogether toClosing quotedLen quotedOrValueLen lines isBlank trimmedLen endsBlock laterReach blockReach blockLen scalarList listFrom walkStart headerEnd beforeNewline atEmptyBlockHeader piecesIf piecesOf joined stepPieces readingOf readBy step endStep equalStep breakStep opensBreak breakPair sameBytes escapesOf doubleQuoteEscapes backslashEscape oneByteEscapes isOneOf singleQuoteEscapes codeContent radix16 digits digitsFrom whiteRun newlinesIn throughLast cut blankRun onlyNewlines
+unfolding building runAll run ending rootDone beforeRoot withinDepth withinRoom completed started ended aliased keeping scalarKept scalared stepPast
+    scalarStart tagInfo resolvedBy scalarNode closes collectionEnd collectionStart members collectionOver collectionNode admission isAscii
+    isUtf8 allSome byteOffset numberAt readString readTag readStartTag readScalar readBody readEvent resolveScalar untagged coreSchema table
+    firstMatch accepts derivative nullable held inRange signedValue positional digitValue spanLen listAt isBoundary scalarLen styleLen plainLen
+    plainReach takesRun beginsWith isFold holdsNewline afterRun whiteSpaceRun isWhiteSpace isIn whiteSpace codes charsAfter firstChar charOf
+    multiByte encode encodeAll passedTogether toClosing quotedLen quotedOrValueLen lines isBlank trimmedLen endsBlock laterReach blockReach
+    blockLen scalarList listFrom walkStart headerEnd beforeNewline atEmptyBlockHeader piecesIf piecesOf joined stepPieces readingOf readBy step
+    endStep equalStep breakStep opensBreak breakPair sameBytes escapesOf doubleQuoteEscapes backslashEscape oneByteEscapes isOneOf
+    singleQuoteEscapes codeContent radix16 digits digitsFrom whiteRun newlinesIn throughLast cut blankRun onlyNewlines
 rows =
     record {
       row-0 = refl;
@@ -135,7 +143,8 @@ rows =
 
 -- 64 open collections pass, and the 65th is a 6
 pub depth : (building [] (deep 64) 0 0 ≡ refused 9 64) × (building [] (deep 65) 0 0 ≡ refused 6 64)
-unfolding deep building runAll run ending rootDone beforeRoot withinDepth started admission isAscii isUtf8 allSome byteOffset codes charsAfter encodeAll numberAt readTag readStartTag readBody readEvent
+unfolding deep building runAll run ending rootDone beforeRoot withinDepth started admission isAscii isUtf8 allSome byteOffset codes charsAfter
+    encodeAll numberAt readTag readStartTag readBody readEvent
 depth = (refl, refl)
 
 -- ---- lists
@@ -144,7 +153,7 @@ pub record Lists : Type 0 where
   -- the text `ab` with the value `ac`: the walk fails after a piece that would not fit, and that is no 8
   pub failed-walk : building (97 ∷ 98 ∷ []) (scalar2 0 97 99) 12 0
       ≡ built (record { kind = 5; extent = extent 0 2; tag = noTag; subtree = 1; list = noList; payload = both 14 2 } ∷ []) []
-  -- `[a, ]`: the list of the empty value has no pieces, and starts at the next free entry
+  -- the text `a`, and a sequence of `a` and an empty value behind it: the list of that has no pieces, and starts at the next free entry
   pub next-free : building (97 ∷ []) (sequence 0 ++ scalar 0 97 ++ empty 1 ++ sequenceEnd 1) 36 4
       ≡ built
       (letter 0 0 22
@@ -166,7 +175,16 @@ pub record Lists : Type 0 where
   pub one-room : readingScalar (97 ∷ []) 0 0 0 false (97 ∷ []) 3 ≡ refused 8 0
 
 pub lists : Lists
-unfolding readingScalar oneScalar admissionOfBoth building runAll run ending rootDone beforeRoot withinDepth withinRoom completed started ended aliased keeping scalarKept scalared stepPast scalarStart tagInfo resolvedBy scalarNode closes collectionEnd collectionStart members collectionOver collectionNode admission isAscii isUtf8 allSome byteOffset numberAt readString readTag readStartTag readScalar readBody readEvent resolveScalar untagged coreSchema table firstMatch accepts derivative nullable held inRange signedValue positional digitValue spanLen listAt isBoundary scalarLen styleLen plainLen plainReach takesRun beginsWith isFold holdsNewline afterRun whiteSpaceRun isWhiteSpace isIn whiteSpace codes charsAfter firstChar charOf multiByte encode encodeAll passedTogether toClosing quotedLen quotedOrValueLen lines isBlank trimmedLen endsBlock laterReach blockReach blockLen scalarList listFrom walkStart headerEnd beforeNewline atEmptyBlockHeader piecesIf piecesOf joined stepPieces readingOf readBy step endStep equalStep breakStep opensBreak breakPair sameBytes escapesOf doubleQuoteEscapes backslashEscape oneByteEscapes isOneOf singleQuoteEscapes codeContent radix16 digits digitsFrom whiteRun newlinesIn throughLast cut blankRun onlyNewlines
+unfolding readingScalar oneScalar admissionOfBoth building runAll run ending rootDone beforeRoot withinDepth withinRoom completed started ended
+    aliased keeping scalarKept scalared stepPast scalarStart tagInfo resolvedBy scalarNode closes collectionEnd collectionStart members
+    collectionOver collectionNode admission isAscii isUtf8 allSome byteOffset numberAt readString readTag readStartTag readScalar readBody
+    readEvent resolveScalar untagged coreSchema table firstMatch accepts derivative nullable held inRange signedValue positional digitValue
+    spanLen listAt isBoundary scalarLen styleLen plainLen plainReach takesRun beginsWith isFold holdsNewline afterRun whiteSpaceRun isWhiteSpace
+    isIn whiteSpace codes charsAfter firstChar charOf multiByte encode encodeAll passedTogether toClosing quotedLen quotedOrValueLen lines
+    isBlank trimmedLen endsBlock laterReach blockReach blockLen scalarList listFrom walkStart headerEnd beforeNewline atEmptyBlockHeader
+    piecesIf piecesOf joined stepPieces readingOf readBy step endStep equalStep breakStep opensBreak breakPair sameBytes escapesOf
+    doubleQuoteEscapes backslashEscape oneByteEscapes isOneOf singleQuoteEscapes codeContent radix16 digits digitsFrom whiteRun newlinesIn
+    throughLast cut blankRun onlyNewlines
 lists =
     record {
       failed-walk = refl;

@@ -21,6 +21,8 @@ pub mod EventRun
 pub mod Demand
 -- how many nodes and pieces a call comes to at most, and which places and numbers
 pub mod Bounds
+-- how much room for records is always enough
+pub mod Room
 -- what the code's values hold of the machine's state: for the inner calls
 pub mod Held
 -- K1 to K12

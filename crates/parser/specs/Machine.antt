@@ -14,6 +14,7 @@ use Rattle.provenance.specs.Reading.{Piece}
 use Rattle.provenance.specs.Layout.{walkedNumber}
 use Rattle.provenance.specs.declared.walk.Walked.the-variants.{NoRoom}
 use Rattle.event.specs.Read.{partOf, readEvent}
+use Rattle.event.specs.Meaning.{eventNumber}
 use Rattle.event.specs.declared.string.Part.{Part}
 use Rattle.event.specs.declared.tag.YamlTag.{YamlTag}
 use Rattle.event.specs.declared.read.Event.{Event}
@@ -127,7 +128,7 @@ step text events room pieceRoom (MappingEnd index n) st = closed text room true 
 step text events room pieceRoom (Scalar index column style emptySpan tag value n) st =
     scalared text events room pieceRoom index column style emptySpan tag value st
 step text events room pieceRoom (Alias index n) st = aliased text room index st
-step text events room pieceRoom Malformed st = stop 3
+step text events room pieceRoom Malformed st = stop (eventNumber Malformed)
 
 -- the place after an event
 abbrev pub nextPlace : Event → ℕ

@@ -1,5 +1,5 @@
 -- The equations of the run, by what its step says, and that the number it counts down does not matter where it is enough. Nothing else
--- looks at that number. Assumes nothing.
+-- looks at that number. From `leads-on` on it is assumed that the events are bytes.
 use mathlib.Core.Path.{_≡_, refl, sym, ap, _∙_}
 use mathlib.Core.List.{List}
 use Prim.Native.Nat.{ℕ, zero, suc, _+_, _-_, _≤_, _<_}

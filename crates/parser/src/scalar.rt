@@ -1,4 +1,4 @@
-// Scalars: their start, span, record and pieces, and the call on one scalar. (01: Reading rules, Start; S1, N1, RS.)
+// Scalars: their start, span and pieces, what they are, and their record without pieces. (01: Reading rules, Start; S1, N1, E2.)
 ghost use mathlib.Core.Path.{_≡_};
 ghost use Prim.Native.Nat.{_+_, _≤_};
 ghost use lib.ListN.{length, replicate};
