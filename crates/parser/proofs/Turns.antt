@@ -23,7 +23,7 @@ use Rattle.parser.specs.Record.{withList}
 use Rattle.schema.specs.declared.plain.Resolved.{Resolved}
 use Rattle.parser.specs.Scalar.{ScalarAt, spanLen, listAt, suffixOf, tagInfo, resolvedBy, scalarNode}
 use Rattle.parser.specs.Collection.{withChild, closes, collectionNode}
-use Rattle.parser.specs.Machine.{State, Next, go, stop, rootDone, beforeRoot, withinDepth, withinRoom, completed, started, ended, closed, keeping, scalarKept}
+use Rattle.parser.specs.Machine.{State, Next, go, stop, depthLimit, rootDone, beforeRoot, withinDepth, withinRoom, completed, started, ended, closed, keeping, scalarKept}
 use Rattle.parser.specs.Layout.{stored}
 use Rattle.parser.specs.Held.{frame, frameNumbers, openOf, Placed, Below, OnBoundaries, Held, Pushable, Moved, Walks}
 use Rattle.parser.specs.declared.record.Node.{Node}
@@ -64,13 +64,13 @@ module _ (text : List ℕ) (size pieceSize : ℕ) (st : State) (c : Counts) (s b
   unfolding beforeRoot
   before-root n e = rw (root-is, e)
 
-  pub too-deep : (n : Next) → 64 ≤ c .depth → withinDepth st n ≡ stop 6
+  pub too-deep : (n : Next) → depthLimit ≤ c .depth → withinDepth st n ≡ stop 6
   unfolding withinDepth
-  too-deep n l = rw (depth-is, le-leb 64 (c .depth) l)
+  too-deep n l = rw (depth-is, le-leb depthLimit (c .depth) l)
 
-  pub not-deep : (n : Next) → c .depth < 64 → withinDepth st n ≡ n
+  pub not-deep : (n : Next) → c .depth < depthLimit → withinDepth st n ≡ n
   unfolding withinDepth
-  not-deep n l = rw (depth-is, lt-leb 64 (c .depth) l)
+  not-deep n l = rw (depth-is, lt-leb depthLimit (c .depth) l)
 
   pub no-room : (n : Next) → size / 12 ≤ c .nodes → withinRoom (size / 12) st n ≡ stop 7
   unfolding withinRoom
@@ -137,7 +137,7 @@ module _ (text : List ℕ) (size pieceSize : ℕ) (st : State) (c : Counts) (s b
   opening mapping i tag = record { mapping = mapping; start = i; suffix = suffixOf tag; children = 0; first = 0; before = c .nodes }
 
   pub opened : (mapping : Bool) (index : ℕ) (tag : YamlTag) (cur : Cursor) → Utf8 text → cur ≡ cursorAt text index → cur .offset ≡ byteOffset text index → Placed (suffixOf tag)
-      → (eqb (c .depth) 0 && ltb 0 (c .nodes)) ≡ false → c .depth < 64
+      → (eqb (c .depth) 0 && ltb 0 (c .nodes)) ≡ false → c .depth < depthLimit
       → Moved text size pieceSize (c .nodes) (started text mapping index tag st) (Go (counts (c .nodes) (c .depth + 1) (c .used) cur)) (sets s (7 * c .depth) (frameNumbers (opening mapping (cur .offset) tag))) b p
   unfolding started
   opened mapping index tag cur u e o x r l =

@@ -20,7 +20,7 @@ use Rattle.measure.specs.Scalar.{styleLen, scalarLen}
 use Rattle.provenance.specs.Run.{whiteRun, newlinesIn, throughLast, cut, blankRun, onlyNewlines}
 use Rattle.provenance.specs.Escape.{digitsFrom, digits, radix16, codeContent, singleQuoteEscapes, isOneOf, oneByteEscapes, backslashEscape, doubleQuoteEscapes, escapesOf}
 use Rattle.provenance.specs.Grammar.{sameBytes, breakPair, opensBreak, breakStep, equalStep, endStep, step}
-use Rattle.provenance.specs.Reading.{readBy, readingOf, piece, verbatim, stepPieces, joined, piecesOf}
+use Rattle.provenance.specs.Reading.{readBy, readingOf, piece, verbatim, replacement, stepPieces, joined, piecesOf}
 use Rattle.provenance.specs.Layout.{piecesIf}
 use Rattle.provenance.specs.Start.{atEmptyBlockHeader, beforeNewline, headerEnd, walkStart, listFrom, scalarList}
 use Rattle.text.specs.Admission.{textLimit, admission, admissionOfBoth}
@@ -38,6 +38,7 @@ use Rattle.parser.specs.Record.{extent, noTag, noList, pieceList, aliasN
 use Rattle.parser.specs.Scalar.{stepPast, scalarStart, spanLen, listAt, tagInfo, resolvedBy, scalarNode}
 use Rattle.parser.specs.Collection.{closes, collectionEnd, collectionStart, members, collectionOver, collectionNode}
 use Rattle.parser.specs.Machine.{Outcome, built, refused, rootDone, beforeRoot, withinDepth, withinRoom, completed, started, ended, aliased, keeping, scalarKept, scalared, ending, run, runAll}
+use Rattle.parser.specs.Layout.{pieceRoom}
 use Rattle.parser.specs.Call.{building, oneScalar, readingScalar}
 use Rattle.parser.specs.declared.record.Node.{Node}
 
@@ -73,7 +74,7 @@ unfoldable pub deep : ℕ → List ℕ
 deep zero = []
 deep (suc n) = sequence 0 ++ deep n
 
--- ---- row 1: a text or event bytes above their limit, whatever else holds
+-- ---- row 1: a text or event bytes above their limit, whatever else holds; so it comes before 2
 
 either : (t : Bool) (o : Outcome) → o ≡ refused 1 0 → pick t (refused 1 0) o ≡ refused 1 0
 either true o e = refl
@@ -108,7 +109,9 @@ pub record Rows : Type 0 where
   pub row-8-fits : building (97 ∷ []) (scalar 0 97) 12 4 ≡ built (letter 0 0 14 ∷ []) (piece verbatim 0 1 1 ∷ [])
   pub row-9 : building [] [] 0 0 ≡ refused 9 0
   pub row-9-open : building [] (sequence 0) 0 0 ≡ refused 9 1
-  -- 7 comes before 8, and 3 before all
+  -- 4 comes before 7 (a key without value, and no record left), 5 before 7, 7 before 8, and 3 before all
+  pub order-4-7 : building [] (mapping 0 ++ alias 0 ++ mappingEnd 0) 12 0 ≡ refused 4 2
+  pub order-5-7 : building [] (alias 0 ++ alias 0) 12 0 ≡ refused 5 1
   pub order-7-8 : building (97 ∷ []) (scalar 0 97) 0 0 ≡ refused 7 0
   pub order-3-5 : building [] (alias 0 ++ (0 ∷ [])) 12 0 ≡ refused 3 1
 
@@ -137,6 +140,8 @@ rows =
       row-8-fits = refl;
       row-9 = refl;
       row-9-open = refl;
+      order-4-7 = refl;
+      order-5-7 = refl;
       order-7-8 = refl;
       order-3-5 = refl;
     }
@@ -146,6 +151,10 @@ pub depth : (building [] (deep 64) 0 0 ≡ refused 9 64) × (building [] (deep 6
 unfolding deep building runAll run ending rootDone beforeRoot withinDepth started admission isAscii isUtf8 allSome byteOffset codes charsAfter
     encodeAll numberAt readTag readStartTag readBody readEvent
 depth = (refl, refl)
+
+-- whole pieces fit, and never more than 4,294,967,294 (R8)
+pub piece-room : (pieceRoom 7 ≡ 1) × (pieceRoom 17_179_869_180 ≡ 4_294_967_294)
+piece-room = (refl, refl)
 
 -- ---- lists
 
@@ -171,6 +180,11 @@ pub record Lists : Type 0 where
       []
   -- the call on one scalar: its value has the place 0, and its first piece the number 0
   pub one : readingScalar (97 ∷ []) 0 0 0 false (97 ∷ []) 4 ≡ built (letter 0 0 0 ∷ []) (piece verbatim 0 1 1 ∷ [])
+  -- newline and two blanks, the value a newline and a blank, literal in column 1: the column cuts what the newline takes to 0..2
+  pub column-cuts : readingScalar (10 ∷ 32 ∷ 32 ∷ []) 0 1 3 false (10 ∷ 32 ∷ []) 8
+      ≡ built
+      (record { kind = 5; extent = extent 0 0; tag = noTag; subtree = 1; list = pieceList 0 2; payload = both 0 2 } ∷ [])
+      (piece replacement 0 2 1 ∷ piece verbatim 2 3 1 ∷ [])
   pub one-style : readingScalar [] 0 0 5 false [] 0 ≡ refused 3 0
   pub one-room : readingScalar (97 ∷ []) 0 0 0 false (97 ∷ []) 3 ≡ refused 8 0
 
@@ -191,6 +205,7 @@ lists =
       next-free = refl;
       past-colon = refl;
       one = refl;
+      column-cuts = refl;
       one-style = refl;
       one-room = refl;
     }

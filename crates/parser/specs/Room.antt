@@ -1,6 +1,6 @@
 -- Room for records (R7): every event takes at least seven bytes and completes at most one node. So with room for a record to each seven
 -- event bytes row 7 refuses nothing. Assumes nothing but that events are bytes.
-use mathlib.Core.Path.{_≡_, refl, sym, ap, _∙_}
+use mathlib.Core.Path.{_≡_, refl, ap, _∙_}
 use Prim.{Unit}
 use Prim.Native.Nat.{ℕ, zero, suc, _+_, _*_, _/_, _≤_, _<_}
 use mathlib.Core.Bool.{Bool, true, false}
