@@ -10,12 +10,12 @@ use Rattle.text.specs.Boundary.{isBoundary}
 use Rattle.text.specs.Offset.{isAscii, byteOffset}
 use Rattle.text.specs.Utf8.{codes, charsAfter, firstChar, charOf, multiByte, twoBytes, encode, encodeAll, isUtf8, allSome}
 use Rattle.text.specs.WhiteSpace.{whiteSpace, isIn, isWhiteSpace}
-use Rattle.schema.specs.Ascii.{bytes}
+use Rattle.schema.specs.Ascii.{bytes, sameBytes as sameName}
 use Rattle.schema.specs.CoreSchema.{coreSchema, table, firstMatch}
 use Rattle.schema.specs.Integer.{digitValue, positional, signedValue, inRange, held}
 use Rattle.schema.specs.Matcher.{nullable, derivative, accepts}
 use Rattle.schema.specs.Record.{both}
-use Rattle.schema.specs.Tag.{sameBytes as sameName, standardTagSuffix, untagged, resolveScalar}
+use Rattle.schema.specs.Tag.{standardTagSuffix, untagged, resolveScalar}
 use Rattle.schema.specs.declared.record.Payload.{Payload}
 use Rattle.measure.specs.Run.{whiteSpaceRun, afterRun, holdsNewline}
 use Rattle.measure.specs.Plain.{isFold, beginsWith, takesRun, plainReach, plainLen}
