@@ -13,7 +13,7 @@ use Rattle.node.specs.Child.{placeAt, recordBefore, lastChild, childBefo
 use Rattle.node.specs.Entry.{pairEnding, hashEntry}
 use Rattle.node.specs.Search.{stringIs, keyIs, searchBack, hashValue}
 use Rattle.node.specs.Forest.{nil, snoc}
-use Rattle.node.specs.Growth.{opening, closing, leaf, growing, grown, growth}
+use Rattle.node.specs.Growth.{scalar, array, hash, opening, closing, leaf, growing, grown, growth, shapes}
 
 -- a record of this kind, span, subtree count and payload, with no tag and no list
 abbrev row : ℕ → ℕ → ℕ → ℕ → ℕ → ℕ → List ℕ
@@ -58,7 +58,12 @@ pub damaged :
 unfolding childBefore placeAt recordAt existing nodeOf
 damaged = (refl, refl, refl, refl, refl)
 
--- `[a, [b]]`: four nodes, in the order of their completion; the root is the last
-pub small-tree : (a b c d : Node) → growth (opening ∷ leaf ∷ opening ∷ leaf ∷ closing ∷ closing ∷ []) (a ∷ b ∷ c ∷ d ∷ []) (growing []) ≡ grown d (snoc (snoc nil a nil) c (snoc nil b nil))
+-- `[a, {b: c}]`: five nodes, in the order of their completion; the root is the last
+pub small-tree :
+    (a b c d e : Node) → growth (opening ∷ leaf ∷ opening ∷ leaf ∷ leaf ∷ closing hash ∷ closing array ∷ []) (a ∷ b ∷ c ∷ d ∷ e ∷ []) (growing [])
+    ≡ grown e (snoc (snoc nil a nil) d (snoc (snoc nil b nil) c nil))
 unfolding growth
-small-tree a b c d = refl
+small-tree a b c d e = refl
+
+pub small-shapes : shapes (opening ∷ leaf ∷ opening ∷ leaf ∷ leaf ∷ closing hash ∷ closing array ∷ []) ≡ scalar ∷ scalar ∷ scalar ∷ hash ∷ array ∷ []
+small-shapes = refl

@@ -1,22 +1,22 @@
 -- Where a sound forest is laid out, going back from its last tree meets its trees one by one (N3). Assumes nothing.
 use mathlib.Core.Path.{_≡_, refl, sym, ap, _∙_}
-use mathlib.Core.Bool.{true, _&&_}
+use mathlib.Core.Bool.{Bool, true, false, _&&_}
 use mathlib.Core.List.{List, [], _∷_, _++_, append-assoc}
 use mathlib.Core.Option.{Option, none, some}
 use Prim.Native.Nat.{ℕ, zero, suc, _+_, _-_, _*_, _<_, _≤_}
 use native.Mathlib.Decide.{decLt}
 use native.Mathlib.Omega.{arith}
-use borrow.Author.Tests.{lt-ltb, le-leb, le-ltb, eq-eqb}
-use lib.Dec.{ltb, eqb}
+use borrow.Author.Tests.{lt-ltb, le-leb, le-ltb, lt-leb, leb-true, eq-eqb}
+use lib.Dec.{ltb, leb, eqb}
 use lib.ListN.{length, length-append}
 use Rattle.parser.specs.Layout.{laidNodes}
 use Rattle.parser.specs.declared.record.Node.{Node}
 use Rattle.node.specs.Chain.{andThen, when}
 use Rattle.node.specs.Record.{isKind, existing, recordAt}
-use Rattle.node.specs.Nth.{nth, nth-left, nth-right, nth-past}
+use Rattle.node.specs.Nth.{nth, nth-left, nth-right, nth-past, nth-within, some-one}
 use Rattle.node.specs.RecordLaws.{record-laid}
-use Rattle.node.specs.Child.{placeAt, recordBefore, childBefore, stepsBack, childFromLast, arrayItem}
-use Rattle.node.specs.Kind.{isArray, isHash}
+use Rattle.node.specs.Child.{placeAt, recordBefore, lastChild, childBefore, stepsBack, childFromLast, arrayItem}
+use Rattle.node.specs.Kind.{isArray, isHash, len, lenAt}
 use Rattle.node.specs.Entry.{entry, pairEnding, hashEntry}
 use Rattle.node.specs.declared.entry.YamlHashEntry.{YamlHashEntry}
 use Rattle.node.specs.Forest.{Forest, nil, snoc, postOrder, nodesIn, trees, Tree, Sound, lastRoot, roots, pairsOf}
@@ -101,6 +101,40 @@ pair-nth p m i (snoc (snoc f y others) x kids) e h = by (decLt i (m - 1)) (pairs
         let here : i ≡ length (pairsOf p f) + 0 = omega arith in
         let k : 0 ≡ 2 * (m - 1 - i) = omega arith in
         ap (nth (pairsOf p whole)) here ∙ nth-right (pairsOf p f) _ 0 ∙ ap (λ (k : ℕ). lastPair p (allBut k whole)) k
+
+-- ---- what a record counts
+
+pub both-true : (a b : Bool) → (a && b) ≡ true → (a ≡ true) × (b ≡ true)
+both-true true b e = (refl, e)
+both-true false b e = absurd (let z : _≡_ {A = ℕ} 0 1 = cc in omega arith)
+
+pub kind-at-most : (k : ℕ) → isKind k ≡ true → k ≤ 8
+kind-at-most k e = leb-true k 8 (both-true (leb 1 k) (leb k 8) e .1)
+
+len-scalar : (x : Node) → x .kind < 7 → len x ≡ 0
+len-scalar x h = rw (lt-ltb (x .kind) 7 h)
+
+len-collection : (x : Node) → 7 ≤ x .kind → len x ≡ x .payload .first
+len-collection x h = rw (le-ltb (x .kind) 7 h)
+
+-- it counts something exactly where there are trees
+len-trees : (x : Node) (f : Forest) → Tree x f → (trees f ≤ 2 * len x) × (len x ≤ trees f)
+len-trees x f t = by (decLt (x .kind) 7) (decLt (x .kind) 8)
+  where
+    by : Dec (x .kind < 7) → Dec (x .kind < 8) → (trees f ≤ 2 * len x) × (len x ≤ trees f)
+    by (yes l) d =
+        let z = t .scalar l in
+        let e = len-scalar x l in
+        (omega arith, omega arith)
+    by (no l) (yes d) =
+        let z = t .array (omega arith) in
+        let e = len-collection x (omega arith) in
+        (omega arith, omega arith)
+    by (no l) (no d) =
+        let k = kind-at-most (x .kind) (t .kind) in
+        let z = t .hash (omega arith) in
+        let e = len-collection x (omega arith) in
+        (omega arith, omega arith)
 
 module _ (size : ℕ) (pre : List Node) where
   -- the root of the last tree is its record
@@ -264,3 +298,127 @@ module _ (size : ℕ) (pre : List Node) where
           found
           ∙ left-out ending (x .kind) 8 m m i eight refl (omega arith) (λ (j : ℕ). 2 * (j - 1 - i))
           ∙ sym (nth-past (pairsOf (length pre) f) i (omega arith))
+
+  -- ---- how many there are
+
+  len-is :
+      (suf : List Node) (f : Forest) (x : Node) → Tree x f →
+      lenAt (laidNodes size (pre ++ (postOrder f ++ (x ∷ suf)))) (length pre + nodesIn f) ≡ some (len x)
+  unfolding lenAt
+  len-is suf f x t = ap (λ (o : Option Node). andThen o (λ (y : Node). some (len y))) (collection-record suf f x (t .kind))
+
+  pub no-children :
+      (suf : List Node) (f : Forest) (x : Node) → Tree x f → x .kind < 7 →
+      (lenAt (laidNodes size (pre ++ (postOrder f ++ (x ∷ suf)))) (length pre + nodesIn f) ≡ some 0) × (roots (length pre) f ≡ [])
+  no-children suf f x t h = (len-is suf f x t ∙ ap some (len-scalar x h), by f (t .scalar h))
+    where
+      by : (g : Forest) → trees g ≡ 0 → roots (length pre) g ≡ []
+      by nil e = refl
+      by (snoc g y others) e = absurd (omega arith)
+
+  pub item-count :
+      (suf : List Node) (f : Forest) (x : Node) → Tree x f → x .kind ≡ 7 →
+      lenAt (laidNodes size (pre ++ (postOrder f ++ (x ∷ suf)))) (length pre + nodesIn f) ≡ some (length (roots (length pre) f))
+  item-count suf f x t seven = len-is suf f x t ∙ ap some (len-collection x (omega arith) ∙ t .array seven ∙ sym (roots-length (length pre) f))
+
+  pub pair-count :
+      (suf : List Node) (f : Forest) (x : Node) → Tree x f → x .kind ≡ 8 →
+      lenAt (laidNodes size (pre ++ (postOrder f ++ (x ∷ suf)))) (length pre + nodesIn f) ≡ some (length (pairsOf (length pre) f))
+  pair-count suf f x t eight =
+      len-is suf f x t ∙ ap some (len-collection x (omega arith) ∙ sym (pairs-length (length pre) (x .payload .first) f (sym (t .hash eight))))
+
+  -- ---- the last child, and the child before
+
+  pub last-child :
+      (suf : List Node) (f : Forest) (x : Node) → Sound f → Tree x f →
+      lastChild (laidNodes size (pre ++ (postOrder f ++ (x ∷ suf)))) (length pre + nodesIn f) ≡ nth (roots (length pre) f) (length (roots (length pre) f) - 1)
+  unfolding lastChild
+  last-child suf f x c t = found ∙ by (decLt 0 (trees f)) (len-trees x f t) (roots-length (length pre) f)
+    where
+      b : List ℕ
+      b = laidNodes size (pre ++ (postOrder f ++ (x ∷ suf)))
+
+      n : ℕ
+      n = length pre + nodesIn f
+
+      found : lastChild b n ≡ when (ltb 0 (len x)) (recordBefore b n)
+      found = ap (λ (o : Option ℕ). andThen o (λ (k : ℕ). when (ltb 0 k) (recordBefore b n))) (len-is suf f x t)
+
+      by :
+          Dec (0 < trees f) → (trees f ≤ 2 * len x) × (len x ≤ trees f) → length (roots (length pre) f) ≡ trees f →
+          when (ltb 0 (len x)) (recordBefore b n) ≡ nth (roots (length pre) f) (length (roots (length pre) f) - 1)
+      by (yes h) (a, d) r =
+          let none-after : trees f - 1 - (trees f - 1) ≡ 0 = omega arith in
+          ap (λ (q : Bool). when q (recordBefore b n)) (lt-ltb 0 (len x) (omega arith))
+          ∙ last-root (x ∷ suf) f h c
+          ∙ sym (ap (λ (m : ℕ). nth (roots (length pre) f) (m - 1)) r ∙ root-nth (length pre) (trees f - 1) f (omega arith) ∙ ap (λ (k : ℕ). some (lastRoot (length pre) (allBut k f))) none-after)
+      by (no h) (a, d) r =
+          ap (λ (q : Bool). when q (recordBefore b n)) (le-ltb 0 (len x) (omega arith))
+          ∙ sym (nth-past (roots (length pre) f) (length (roots (length pre) f) - 1) (omega arith))
+
+  step-back :
+      (k : ℕ) (suf : List Node) (f : Forest) → suc k < trees f → Sound f →
+      childBefore (laidNodes size (pre ++ (postOrder f ++ suf))) (lastRoot (length pre) (allBut k f)) ≡ some (lastRoot (length pre) (allBut (suc k) f))
+  unfolding Sound postOrder
+  step-back zero suf nil h c = absurd (omega arith)
+  step-back zero suf (snoc nil x kids) h c = absurd (omega arith)
+  step-back zero suf (snoc (snoc g y others) x kids) h c = root-before suf g y others x kids c
+  step-back (suc k) suf nil h c = absurd (omega arith)
+  step-back (suc k) suf (snoc f x kids) h c =
+      let e : pre ++ (postOrder (snoc f x kids) ++ suf) ≡ pre ++ (postOrder f ++ ((postOrder kids ++ (x ∷ [])) ++ suf)) = simp append-assoc in
+      rw e (step-back k ((postOrder kids ++ (x ∷ [])) ++ suf) f (omega arith) (c .0))
+
+  -- before a child that is not the first comes the one that it follows
+  pub child-before :
+      (suf : List Node) (f : Forest) → Sound f → (i c : ℕ) → nth (roots (length pre) f) (suc i) ≡ some c →
+      childBefore (laidNodes size (pre ++ (postOrder f ++ suf))) c ≡ nth (roots (length pre) f) i
+  child-before suf f s i c e =
+      let l = nth-within (roots (length pre) f) (suc i) c e in
+      let r = roots-length (length pre) f in
+      let k = trees f - 1 - suc i in
+      let on : suc (trees f - 1 - suc i) ≡ trees f - 1 - i = omega arith in
+      let here = some-one c (lastRoot (length pre) (allBut k f)) (sym e ∙ root-nth (length pre) (suc i) f (omega arith)) in
+      ap (childBefore (laidNodes size (pre ++ (postOrder f ++ suf)))) here
+      ∙ step-back k suf f (omega arith) s
+      ∙ ap (λ (m : ℕ). some (lastRoot (length pre) (allBut m f))) on
+      ∙ sym (root-nth (length pre) i f (omega arith))
+
+  first-alone :
+      (suf : List Node) (x : Node) (kids : Forest) → Tree x kids →
+      childBefore (laidNodes size (pre ++ (postOrder (snoc nil x kids) ++ suf))) (lastRoot (length pre) (snoc nil x kids))
+      ≡ recordBefore (laidNodes size (pre ++ (postOrder (snoc nil x kids) ++ suf))) (length pre)
+  unfolding childBefore recordBefore postOrder
+  first-alone suf x kids t = by (decLt 0 (length pre)) (t .count)
+    where
+      by :
+          Dec (0 < length pre) → x .subtree ≡ nodesIn kids + 1 →
+          childBefore (laidNodes size (pre ++ (postOrder (snoc nil x kids) ++ suf))) (lastRoot (length pre) (snoc nil x kids))
+          ≡ recordBefore (laidNodes size (pre ++ (postOrder (snoc nil x kids) ++ suf))) (length pre)
+      by (yes h) s =
+          let d : lastRoot (length pre) (snoc nil x kids) - x .subtree ≡ length pre - 1 = omega arith in
+          rw (root-record suf nil x kids t, lt-ltb 0 (x .subtree) (omega arith), le-leb (x .subtree) (lastRoot (length pre) (snoc nil x kids)) (omega arith), d, lt-ltb 0 (length pre) h)
+      by (no h) s =
+          rw (root-record suf nil x kids t, lt-ltb 0 (x .subtree) (omega arith), lt-leb (x .subtree) (lastRoot (length pre) (snoc nil x kids)) (omega arith), le-ltb 0 (length pre) (omega arith))
+
+  first-back :
+      (suf : List Node) (f : Forest) → 0 < trees f → Sound f →
+      childBefore (laidNodes size (pre ++ (postOrder f ++ suf))) (lastRoot (length pre) (allBut (trees f - 1) f)) ≡ recordBefore (laidNodes size (pre ++ (postOrder f ++ suf))) (length pre)
+  unfolding Sound postOrder
+  first-back suf nil h c = absurd (omega arith)
+  first-back suf (snoc nil x kids) h c = first-alone suf x kids (c .2)
+  first-back suf (snoc (snoc g y others) x kids) h c =
+      let f = snoc g y others in
+      let e : pre ++ (postOrder (snoc f x kids) ++ suf) ≡ pre ++ (postOrder f ++ ((postOrder kids ++ (x ∷ [])) ++ suf)) = simp append-assoc in
+      let k : trees (snoc f x kids) - 1 ≡ suc (trees f - 1) = omega arith in
+      rw (e, k) (first-back ((postOrder kids ++ (x ∷ [])) ++ suf) (snoc g y others) (omega arith) (c .0))
+
+  -- before the first child comes what stands before the whole collection
+  pub before-first :
+      (suf : List Node) (f : Forest) → Sound f → (c : ℕ) → nth (roots (length pre) f) 0 ≡ some c →
+      childBefore (laidNodes size (pre ++ (postOrder f ++ suf))) c ≡ recordBefore (laidNodes size (pre ++ (postOrder f ++ suf))) (length pre)
+  before-first suf f s c e =
+      let l = nth-within (roots (length pre) f) 0 c e in
+      let r = roots-length (length pre) f in
+      let on : trees f - 1 - 0 ≡ trees f - 1 = omega arith in
+      let here = some-one c (lastRoot (length pre) (allBut (trees f - 1) f)) (sym e ∙ root-nth (length pre) 0 f (omega arith) ∙ ap (λ (m : ℕ). some (lastRoot (length pre) (allBut m f))) on) in
+      ap (childBefore (laidNodes size (pre ++ (postOrder f ++ suf)))) here ∙ first-back suf f (omega arith) s

@@ -1,5 +1,5 @@
--- The nodes that a call builds are the tree of its events, written in post-order, and their records are sound (N2, N3): kept by every step of the
--- machine. Assumes nothing.
+-- The nodes that a call builds are the tree of its events, written in post-order, their records are sound, and each has the kind of the event
+-- that completes it (N2, N3): kept by every step of the machine. Assumes nothing.
 use mathlib.Core.Path.{_≡_, refl, sym, ap, subst, _∙_}
 use mathlib.Core.Bool.{Bool, true, false, _&&_, not}
 use mathlib.Core.List.{List, [], _∷_, _++_, append-assoc, append-nil}
@@ -33,7 +33,8 @@ use Rattle.parser.specs.RunLaws.{run-ended, run-on, run-stopped, stop-not-go}
 use Rattle.parser.specs.declared.record.Node.{Node}
 use Rattle.parser.specs.declared.stack.Open.{Open}
 use Rattle.node.specs.Forest.{Forest, nil, postOrder, nodesIn, trees, Tree, Sound}
-use Rattle.node.specs.Growth.{Move, opening, closing, leaf, moveOf, movesFrom, Growth, growing, grown, complete, growth, treeOf}
+use Rattle.node.specs.ForestLaws.{both-true}
+use Rattle.node.specs.Growth.{Shape, scalar, array, hash, Move, opening, closing, leaf, moveOf, movesFrom, Growth, growing, grown, complete, growth, treeOf, shapes, completions, HasShape, Shaped}
 
 -- ---- what holds between the growth and the machine's state
 
@@ -92,6 +93,7 @@ record Advance (m : Move) (g : Growth) (st n : State) : Type 0 where
   nodes : n .nodes ≡ st .nodes ++ new
   kept : Kept next (n .opens) (n .nodes)
   onward : (ms : List Move) (ys : List Node) → growth (m ∷ ms) (new ++ ys) g ≡ growth ms ys next
+  shaped : (ms : List Move) (ys : List Node) → Shaped (shapes ms) ys → Shaped (shapes (m ∷ ms)) (new ++ ys)
 
 true-not-false : true ≡ false → ⊥
 true-not-false e = let z : _≡_ {A = ℕ} 0 1 = cc in omega arith
@@ -117,9 +119,9 @@ root-is-done st x kids k =
 
 -- ---- leaves
 
-leaf-tree : (x : Node) → 1 ≤ x .kind → x .kind < 7 → x .subtree ≡ 1 → Tree x nil
+leaf-tree : (x : Node) → HasShape scalar x → x .subtree ≡ 1 → Tree x nil
 unfolding postOrder
-leaf-tree x a b c =
+leaf-tree x (a, b) c =
     record {
       kind = rw (le-leb 1 (x .kind) a, le-leb (x .kind) 8 (omega arith));
       count = c;
@@ -129,31 +131,32 @@ leaf-tree x a b c =
     }
 
 leaf-added :
-    (g : Growth) (st : State) (x : Node) (ps : List Piece) → Kept g (st .opens) (st .nodes) → rootDone st ≡ false → Tree x nil →
+    (g : Growth) (st : State) (x : Node) (ps : List Piece) → Kept g (st .opens) (st .nodes) → rootDone st ≡ false → Tree x nil → HasShape scalar x →
     Advance leaf g st (completed x (record { nodes = st .nodes; opens = st .opens; pieces = ps }))
 unfolding completed growth Sound postOrder
-leaf-added (growing fs) st x ps k d t =
+leaf-added (growing fs) st x ps k d t s =
     record {
       new = x ∷ [];
       next = complete x nil (growing fs);
       nodes = refl;
       kept = completes fs (st .opens) (st .nodes) (st .nodes ++ (x ∷ [])) x nil (x .extent .start) k tt t refl;
       onward = λ ms ys. refl;
+      shaped = λ ms ys h. (s, h);
     }
-leaf-added (grown y others) st x ps k d t = absurd (true-not-false (sym (root-is-done st y others k) ∙ d))
+leaf-added (grown y others) st x ps k d t s = absurd (true-not-false (sym (root-is-done st y others k) ∙ d))
 
 leaf-kept :
-    (g : Growth) (st n : State) (room : ℕ) (x : Node) (l : Option (List Piece)) → Kept g (st .opens) (st .nodes) → rootDone st ≡ false → Tree x nil →
+    (g : Growth) (st n : State) (room : ℕ) (x : Node) (l : Option (List Piece)) → Kept g (st .opens) (st .nodes) → rootDone st ≡ false → Tree x nil → HasShape scalar x →
     keeping room x l st ≡ go n → Advance leaf g st n
 unfolding keeping
-leaf-kept g st n room x none k d t e = reached leaf g st (completed x st) n (leaf-added g st x (st .pieces) k d t) e
-leaf-kept g st n room x (some ps) k d t e =
+leaf-kept g st n room x none k d t s e = reached leaf g st (completed x st) n (leaf-added g st x (st .pieces) k d t s) e
+leaf-kept g st n room x (some ps) k d t s e =
     let y = withList x (length (st .pieces)) (length ps) in
     let u : Tree y nil = record { kind = t .kind; count = t .count; scalar = t .scalar; array = t .array; hash = t .hash } in
     let a = completed y (record { nodes = st .nodes; opens = st .opens; pieces = st .pieces ++ ps }) in
-    reached leaf g st a n (leaf-added g st y (st .pieces ++ ps) k d u) (passes (ltb room (length (st .pieces) + length ps)) 8 (go a) n e .1)
+    reached leaf g st a n (leaf-added g st y (st .pieces ++ ps) k d u s) (passes (ltb room (length (st .pieces) + length ps)) 8 (go a) n e .1)
 
-kind-bounds : (r : Resolved) → (1 ≤ kindNumber r) × (kindNumber r < 7)
+kind-bounds : (r : Resolved) → (1 ≤ kindNumber r) × (kindNumber r ≤ 6)
 kind-bounds Null = (omega arith, omega arith)
 kind-bounds (Boolean b) = (omega arith, omega arith)
 kind-bounds (Integer z) = (omega arith, omega arith)
@@ -168,7 +171,7 @@ unfolding scalarKept scalarNode
 scalar-kept text events room x tag g st n k d e =
     let r = resolvedBy events (x .value) (x .style) tag in
     let y = scalarNode text x (tagInfo text (x .start) (suffixOf tag)) r in
-    leaf-kept g st n room y (scalarPieces text x) k d (leaf-tree y (kind-bounds r .0) (kind-bounds r .1) refl) e
+    leaf-kept g st n room y (scalarPieces text x) k d (leaf-tree y (kind-bounds r) refl) (kind-bounds r) e
 
 -- ---- ends
 
@@ -206,9 +209,29 @@ collection-tree text mapping o kids s e n ends c m = by (o .mapping) refl
           hash = λ h. absurd (omega arith);
         }
 
+-- what an end of a mapping, or of a sequence, completes
+abbrev closed-shape : Bool → Shape
+closed-shape mapping = pick mapping hash array
+
+-- it is of the kind of its end
+same-kind : (mapping is : Bool) (c : ℕ) → pick mapping (is && eqb (c % 2) 0) (not is) ≡ true → is ≡ mapping
+same-kind true true c e = refl
+same-kind true false c e = absurd (true-not-false (sym e))
+same-kind false true c e = absurd (true-not-false (sym e))
+same-kind false false c e = refl
+
+kind-shape : (mapping : Bool) (x : Node) → x .kind ≡ pick mapping 8 7 → HasShape (closed-shape mapping) x
+kind-shape true x e = e
+kind-shape false x e = e
+
+collection-shape : (text : List ℕ) (mapping : Bool) (o : Open) (i n : ℕ) → closes mapping o ≡ true → HasShape (closed-shape mapping) (collectionNode text o i n)
+unfolding collectionNode collectionOver closes
+collection-shape text mapping o i n ends =
+    kind-shape mapping (collectionNode text o i n) (ap (λ (is : Bool). pick {A = ℕ} is 8 7) (same-kind mapping (o .mapping) (o .children) ends))
+
 end-added :
     (text : List ℕ) (mapping : Bool) (o : Open) (os : List Open) (g : Growth) (st : State) (i : ℕ) → Kept g (o ∷ os) (st .nodes) → closes mapping o ≡ true →
-    Advance closing g st (completed (collectionNode text o i (length (st .nodes))) (record { nodes = st .nodes; opens = os; pieces = st .pieces }))
+    Advance (closing (closed-shape mapping)) g st (completed (collectionNode text o i (length (st .nodes))) (record { nodes = st .nodes; opens = os; pieces = st .pieces }))
 unfolding completed collectionNode growth
 end-added text mapping o os (growing []) st i k c = absurd k
 end-added text mapping o os (growing (kids ∷ fs)) st i (outer, nest, l) c =
@@ -223,6 +246,7 @@ end-added text mapping o os (growing (kids ∷ fs)) st i (outer, nest, l) c =
       nodes = refl;
       kept = completes fs os outer (st .nodes ++ (x ∷ [])) x kids (x .extent .start) nest (l .sound) t e;
       onward = λ ms ys. refl;
+      shaped = λ ms ys h. (collection-shape text mapping o i (length (st .nodes)) c, h);
     }
 end-added text mapping o os (grown y others) st i k c = absurd (let z : _≡_ {A = ℕ} (suc (length os)) 0 = ap length (k .0) in omega arith)
 
@@ -232,13 +256,13 @@ closes-on false m x n e = absurd (stop-not-go m n e)
 
 end-kept :
     (text : List ℕ) (room : ℕ) (mapping : Bool) (index : ℕ) (os : List Open) (g : Growth) (st n : State) →
-    Kept g os (st .nodes) → closed text room mapping index os st ≡ go n → Advance closing g st n
+    Kept g os (st .nodes) → closed text room mapping index os st ≡ go n → Advance (closing (closed-shape mapping)) g st n
 unfolding ended withinRoom
 end-kept text room mapping index [] g st n k e = absurd (stop-not-go 4 n e)
 end-kept text room mapping index (o ∷ os) g st n k e =
     let c = closes-on (closes mapping o) 4 (ended text room index o os st) n e in
     let a = completed (collectionNode text o (byteOffset text index) (length (st .nodes))) (record { nodes = st .nodes; opens = os; pieces = st .pieces }) in
-    reached closing g st a n (end-added text mapping o os g st (byteOffset text index) k (c .0)) (passes (leb room (length (st .nodes))) 7 (go a) n (c .1) .1)
+    reached (closing (closed-shape mapping)) g st a n (end-added text mapping o os g st (byteOffset text index) k (c .0)) (passes (leb room (length (st .nodes))) 7 (go a) n (c .1) .1)
 
 -- ---- starts
 
@@ -261,6 +285,7 @@ start-kept text mapping index tag (growing fs) st n k e =
       nodes = z;
       kept = (st .nodes, k, record { sound = tt; order = z; before = refl; children = refl });
       onward = λ ms ys. refl;
+      shaped = λ ms ys h. h;
     })
     (passes (leb 64 (length (st .opens))) 6 (go a) n (passes (rootDone st) 5 _ n e .1) .1)
 
@@ -271,10 +296,6 @@ nested-root [] [] xs n e = ap length n
 nested-root [] (o ∷ os) xs n e = absurd n
 nested-root (f ∷ fs) [] xs n e = absurd n
 nested-root (f ∷ fs) (o ∷ os) xs n e = absurd (omega arith)
-
-pub both-true : (a b : Bool) → (a && b) ≡ true → (a ≡ true) × (b ≡ true)
-both-true true b e = (refl, e)
-both-true false b e = absurd (true-not-false (sym e))
 
 refused-not-built : (m k : ℕ) (xs : List Node) (ps : List Piece) → refused m k ≡ built xs ps → ⊥
 refused-not-built m k xs ps e = let z : _≡_ {A = ℕ} 0 1 = cc in omega arith
@@ -300,7 +321,8 @@ module _ (text events : List ℕ) (room pieceRoom : ℕ) where
       let a = passes (rootDone st) 5 _ n e in
       let b = passes (leb room (length (st .nodes))) 7 _ n (a .1) in
       let x = aliasNode (byteOffset text index) in
-      reached leaf g st (completed x st) n (leaf-added g st x (st .pieces) k (a .0) (leaf-tree x (omega arith) (omega arith) refl)) (b .1)
+      let s : HasShape scalar x = (omega arith, omega arith) in
+      reached leaf g st (completed x st) n (leaf-added g st x (st .pieces) k (a .0) (leaf-tree x s refl) s) (b .1)
   step-kept Malformed g st n k e = absurd (stop-not-go 3 n e)
 
   -- ---- the ending
@@ -313,6 +335,7 @@ module _ (text events : List ℕ) (room pieceRoom : ℕ) where
     kids : Forest
     tree : growth ms new g ≡ grown root kids
     whole : Whole root kids xs
+    shaped : Shaped (shapes ms) new
 
   ending-made : (k : ℕ) (g : Growth) (st : State) (xs : List Node) (ps : List Piece) → Kept g (st .opens) (st .nodes) → ending k st ≡ built xs ps → Made [] g (st .nodes) xs
   unfolding ending rootDone growth
@@ -330,6 +353,7 @@ module _ (text events : List ℕ) (room pieceRoom : ℕ) where
         kids = kids;
         tree = refl;
         whole = record { sound = h .1 .sound; root = h .1 .root; order = q ∙ h .1 .order };
+        shaped = tt;
       }
 
   -- ---- the run
@@ -343,6 +367,7 @@ module _ (text events : List ℕ) (room pieceRoom : ℕ) where
         kids = r .kids;
         tree = v .onward ms (r .new) ∙ r .tree;
         whole = r .whole;
+        shaped = v .shaped ms (r .new) (r .shaped);
       }
 
   run-made :
@@ -380,12 +405,12 @@ limited-built : (t : Bool) (o : Outcome) (xs : List Node) (ps : List Piece) → 
 limited-built true o xs ps e = absurd (refused-not-built 1 0 xs ps e)
 limited-built false o xs ps e = e
 
--- the nodes that a call builds are those of the tree of its events, in post-order
+-- the nodes that a call builds are those of the tree of its events, in post-order, and have the shapes that the events complete
 pub built-tree :
     (text events : List ℕ) (size pieceSize : ℕ) (xs : List Node) (ps : List Piece) → building text events size pieceSize ≡ built xs ps →
-    (x : Node) × (kids : Forest) × (treeOf events xs ≡ grown x kids) × Whole x kids xs
+    (x : Node) × (kids : Forest) × (treeOf events xs ≡ grown x kids) × Whole x kids xs × Shaped (completions events) xs
 unfolding building runAll
 built-tree text events size pieceSize xs ps e =
     let r = admitted-built (admission text) _ xs ps (limited-built (ltb eventsLimit (length events)) _ xs ps e) in
     let m = run-made text events (recordRoom size) (pieceRoom pieceSize) (length events) 0 0 (growing []) empty xs ps refl r in
-    (m .root, m .kids, ap (λ (ys : List Node). treeOf events ys) (m .nodes) ∙ m .tree, m .whole)
+    (m .root, m .kids, ap (λ (ys : List Node). treeOf events ys) (m .nodes) ∙ m .tree, m .whole, subst (Shaped (completions events)) (sym (m .nodes)) (m .shaped))

@@ -4,11 +4,11 @@ use mathlib.Core.Bool.{Bool, true, false, _&&_}
 use mathlib.Core.Logic.{_⊎_, inl, inr}
 use mathlib.Core.List.{List, [], _∷_, _++_, append-assoc, append-nil}
 use mathlib.Core.Option.{Option, none, some}
-use Prim.Native.Nat.{ℕ, suc, _+_, _-_, _*_, _<_, _≤_}
+use Prim.Native.Nat.{ℕ, zero, suc, _+_, _-_, _*_, _<_}
 use native.Mathlib.Decide.{decLt}
 use native.Mathlib.Omega.{arith}
-use borrow.Author.Tests.{lt-ltb, leb-true, eqb-true}
-use lib.Dec.{ltb, leb, eqb}
+use borrow.Author.Tests.{lt-ltb, le-leb, eqb-true}
+use lib.Dec.{ltb, eqb}
 use lib.ListN.{length, length-append}
 use Rattle.provenance.specs.Reading.{Piece}
 use Rattle.parser.specs.Layout.{laidNodes}
@@ -19,8 +19,8 @@ use Rattle.node.specs.Chain.{andThen, when}
 use Rattle.node.specs.Nth.{nth, nth-left, nth-right, nth-past, nth-within, nth-some, none-not-some, some-one}
 use Rattle.node.specs.Record.{isKind, existing, recordAt}
 use Rattle.node.specs.RecordLaws.{record-laid}
-use Rattle.node.specs.Kind.{isArray, isHash}
-use Rattle.node.specs.Child.{placeAt, recordBefore, childFromLast, arrayItem}
+use Rattle.node.specs.Kind.{isArray, isHash, lenAt}
+use Rattle.node.specs.Child.{placeAt, recordBefore, lastChild, childBefore, childFromLast, arrayItem}
 use Rattle.node.specs.Entry.{pairEnding, hashEntry}
 use Rattle.node.specs.Search.{keyIs, firstWith, hashValue}
 use Rattle.node.specs.declared.entry.YamlHashEntry.{YamlHashEntry}
@@ -28,8 +28,8 @@ use Rattle.node.specs.Forest.{Forest, nil, snoc, postOrder, nodesIn, tre
 use Rattle.node.specs.ForestLaws as forest
 use Rattle.node.specs.SearchLaws as search
 use Rattle.node.specs.Parents.{Parent, parents, parents-length, at-last, child-parent, parent-child}
-use Rattle.node.specs.Growth.{grown, treeOf}
-use Rattle.node.specs.GrowthLaws.{both-true, Whole, built-tree}
+use Rattle.node.specs.Growth.{Shape, scalar, array, hash, grown, treeOf, completions, HasShape, Shaped}
+use Rattle.node.specs.GrowthLaws.{Whole, built-tree}
 use Rattle.node.specs.ReadBack.{IsChild, ReadBack}
 
 -- ---- a tree's place among the nodes
@@ -158,9 +158,6 @@ let-through : {A : Type 0} (s t : Bool) (o : Option A) (a : A) → when (s && t)
 let-through true t o a e = refl
 let-through false t o a e = absurd (none-not-some a e)
 
-kind-at-most : (k : ℕ) → isKind k ≡ true → k ≤ 8
-kind-at-most k e = leb-true k 8 (both-true (leb 1 k) (leb k 8) e .1)
-
 only-array : (b : List ℕ) (n i c : ℕ) → arrayItem b n i ≡ some c → (y : Node) × (recordAt b n ≡ some y) × (y .kind ≡ 7)
 unfolding arrayItem
 only-array b n i c e = by (recordAt b n) refl
@@ -187,6 +184,26 @@ record-within size xs n y e = by (decLt n (length xs))
     by : Dec (n < length xs) → n < length xs
     by (yes l) = l
     by (no l) = absurd (none-not-some y (sym (record-laid size xs n ∙ ap (λ (o : Option Node). andThen o existing) (nth-past xs n (omega arith))) ∙ e))
+
+-- ---- nodes of these shapes
+
+shape-is-kind : (s : Shape) (x : Node) → HasShape s x → isKind (x .kind) ≡ true
+shape-is-kind scalar x (a, b) = rw (le-leb 1 (x .kind) a, le-leb (x .kind) 8 (omega arith))
+shape-is-kind array x e = rw e refl
+shape-is-kind hash x e = rw e refl
+
+shaped-length : (ss : List Shape) (xs : List Node) → Shaped ss xs → length ss ≡ length xs
+shaped-length [] [] h = refl
+shaped-length [] (x ∷ xs) h = absurd h
+shaped-length (s ∷ ss) [] h = absurd h
+shaped-length (s ∷ ss) (x ∷ xs) (a, h) = ap suc (shaped-length ss xs h)
+
+shaped-nth : (ss : List Shape) (xs : List Node) → Shaped ss xs → (j : ℕ) (s : Shape) → nth ss j ≡ some s → (y : Node) × (nth xs j ≡ some y) × HasShape s y
+shaped-nth [] [] h j s e = absurd (none-not-some s e)
+shaped-nth [] (x ∷ xs) h j s e = absurd h
+shaped-nth (t ∷ ss) [] h j s e = absurd h
+shaped-nth (t ∷ ss) (x ∷ xs) (a, h) zero s e = (x, refl, subst (λ (z : Shape). HasShape z x) (some-one t s e) a)
+shaped-nth (t ∷ ss) (x ∷ xs) (a, h) (suc j) s e = shaped-nth ss xs h j s e
 
 -- ---- over the nodes of a whole tree
 
@@ -231,6 +248,50 @@ module _ (size : ℕ) (x : Node) (kids : Forest) (xs : List Node) (w : Whole x k
       moved (λ l m. hashValue (laidNodes size l) events (m + nodesIn others) key ≡ firstWith (keyIs (laidNodes size l) events key) (pairsOf m others) none) s y others p
       (search.values size (p .pre) events key (p .suf) others y (p .sound) (p .root) eight)
 
+  -- ---- how many, the last, the one before
+
+  no-children : (s : ℕ) (y : Node) (others : Forest) → Has tree 0 s y others → y .kind < 7 → (lenAt (laidNodes size xs) (s + nodesIn others) ≡ some 0) × (roots s others ≡ [])
+  no-children s y others h few =
+      let p = at s y others h in
+      moved (λ l m. (lenAt (laidNodes size l) (m + nodesIn others) ≡ some 0) × (roots m others ≡ [])) s y others p (forest.no-children size (p .pre) (p .suf) others y (p .root) few)
+
+  item-count : (s : ℕ) (y : Node) (others : Forest) → Has tree 0 s y others → y .kind ≡ 7 → lenAt (laidNodes size xs) (s + nodesIn others) ≡ some (length (roots s others))
+  item-count s y others h seven =
+      let p = at s y others h in
+      moved (λ l m. lenAt (laidNodes size l) (m + nodesIn others) ≡ some (length (roots m others))) s y others p (forest.item-count size (p .pre) (p .suf) others y (p .root) seven)
+
+  pair-count : (s : ℕ) (y : Node) (others : Forest) → Has tree 0 s y others → y .kind ≡ 8 → lenAt (laidNodes size xs) (s + nodesIn others) ≡ some (length (pairsOf s others))
+  pair-count s y others h eight =
+      let p = at s y others h in
+      moved (λ l m. lenAt (laidNodes size l) (m + nodesIn others) ≡ some (length (pairsOf m others))) s y others p (forest.pair-count size (p .pre) (p .suf) others y (p .root) eight)
+
+  last-child : (s : ℕ) (y : Node) (others : Forest) → Has tree 0 s y others → lastChild (laidNodes size xs) (s + nodesIn others) ≡ nth (roots s others) (length (roots s others) - 1)
+  last-child s y others h =
+      let p = at s y others h in
+      moved (λ l m. lastChild (laidNodes size l) (m + nodesIn others) ≡ nth (roots m others) (length (roots m others) - 1)) s y others p
+      (forest.last-child size (p .pre) (p .suf) others y (p .sound) (p .root))
+
+  child-before : (s : ℕ) (y : Node) (others : Forest) → Has tree 0 s y others → (i c : ℕ) → nth (roots s others) (suc i) ≡ some c → childBefore (laidNodes size xs) c ≡ nth (roots s others) i
+  child-before s y others h =
+      let p = at s y others h in
+      moved (λ l m. (i c : ℕ) → nth (roots m others) (suc i) ≡ some c → childBefore (laidNodes size l) c ≡ nth (roots m others) i) s y others p
+      (forest.child-before size (p .pre) (y ∷ p .suf) others (p .sound))
+
+  before-first : (s : ℕ) (y : Node) (others : Forest) → Has tree 0 s y others → (c : ℕ) → nth (roots s others) 0 ≡ some c → childBefore (laidNodes size xs) c ≡ recordBefore (laidNodes size xs) s
+  before-first s y others h =
+      let p = at s y others h in
+      moved (λ l m. (c : ℕ) → nth (roots m others) 0 ≡ some c → childBefore (laidNodes size l) c ≡ recordBefore (laidNodes size l) m) s y others p
+      (forest.before-first size (p .pre) (y ∷ p .suf) others (p .sound))
+
+  -- ---- kinds
+
+  kinds : (ss : List Shape) → Shaped ss xs → (j : ℕ) (s : Shape) → nth ss j ≡ some s → (y : Node) × (recordAt (laidNodes size xs) j ≡ some y) × HasShape s y
+  unfolding existing
+  kinds ss h j s e =
+      let f = shaped-nth ss xs h j s e in
+      let is : existing (f .0) ≡ some (f .0) = rw (shape-is-kind s (f .0) (f .2)) in
+      (f .0, record-laid size xs j ∙ ap (λ (o : Option Node). andThen o existing) (f .1) ∙ is, f .2)
+
   -- ---- children by the accessors and children in the tree
 
   root-child : (s : ℕ) (y : Node) (others : Forest) (i c : ℕ) → Has tree 0 s y others → nth (roots s others) i ≡ some c → IsChild (laidNodes size xs) (s + nodesIn others) c
@@ -244,7 +305,7 @@ module _ (size : ℕ) (x : Node) (kids : Forest) (xs : List Node) (w : Whole x k
           absurd (omega arith)
       by (no a) (yes d) t = inl (i, items s y others h (omega arith) i ∙ e)
       by (no a) (no d) t =
-          let k = kind-at-most (y .kind) (t .kind) in
+          let k = forest.kind-at-most (y .kind) (t .kind) in
           let eight : y .kind ≡ 8 = omega arith in
           let u = root-pairs s (y .payload .first) others i c (sym (t .hash eight)) e in
           inr (u .0, u .1, pairs s y others h eight (u .0) ∙ u .2, u .3)
@@ -315,16 +376,24 @@ module _ (size : ℕ) (x : Node) (kids : Forest) (xs : List Node) (w : Whole x k
       let z = some-one m (suc m) (sym (only-parent (suc m) m (nodesIn kids) h) ∙ ap (nth (parents 0 (suc m) tree)) (sym here) ∙ at-last 0 (suc m) nil x kids) in
       absurd (omega arith)
 
-  pub whole-read-back : (events : List ℕ) → ReadBack (laidNodes size xs) events (length xs) x kids
+  pub whole-read-back : (events : List ℕ) → Shaped (completions events) xs → ReadBack (laidNodes size xs) events (length xs) x kids
   unfolding tree Has recordBefore placeAt postOrder
-  whole-read-back events =
+  whole-read-back events shaped =
       let n : length xs ≡ nodesIn kids + 1 = ap length (w .order) ∙ length-append (postOrder kids) (x ∷ []) in
       record {
         root = (last-is-root n, n);
         records = records;
+        count = shaped-length (completions events) xs shaped;
+        kinds = kinds (completions events) shaped;
+        no-children = no-children;
+        item-count = item-count;
         items = items;
+        pair-count = pair-count;
         pairs = pairs;
         values = values events;
+        last-child = last-child;
+        child-before = child-before;
+        before-first = before-first;
         one-parent = one-parent;
         root-no-child = root-no-child;
       }
@@ -343,4 +412,4 @@ pub read-back :
     (x : Node) × (kids : Forest) × (treeOf events xs ≡ grown x kids) × ReadBack (laidNodes size xs) events (length xs) x kids
 read-back text events size pieceSize xs ps e =
     let t = built-tree text events size pieceSize xs ps e in
-    (t .0, t .1, t .2, whole-read-back size (t .0) (t .1) xs (t .3) events)
+    (t .0, t .1, t .2, whole-read-back size (t .0) (t .1) xs (t .3) events (t .4))
