@@ -11,7 +11,7 @@ use lib.Dec.{ltb, leb}
 use Rattle.parser.specs.declared.record.Node.{Node}
 use Rattle.node.specs.Chain.{andThen, when}
 use Rattle.node.specs.Record.{recordAt}
-use Rattle.node.specs.Kind.{isArray, lenAt}
+use Rattle.node.specs.Kind.{isArray, children, lenAt}
 use Rattle.node.specs.declared.child.Place.{Place}
 use Rattle.node.specs.declared.child.Place.the-variants.{At, Missing}
 
@@ -37,9 +37,9 @@ unfoldable pub stepsBack : List ℕ → ℕ → ℕ → Option ℕ
 stepsBack b zero c = some c
 stepsBack b (suc k) c = andThen (childBefore b c) (stepsBack b k)
 
--- the child k before the last one of a collection with more than k
+-- the child k before the last one of n, if it has more than k
 unfoldable pub childFromLast : List ℕ → ℕ → ℕ → Option ℕ
-childFromLast b n k = andThen (recordBefore b n) (stepsBack b k)
+childFromLast b n k = andThen (recordAt b n) (λ (x : Node). when (ltb k (children x)) (andThen (recordBefore b n) (stepsBack b k)))
 
 unfoldable pub arrayItem : List ℕ → ℕ → ℕ → Option ℕ
 arrayItem b n i =

@@ -58,6 +58,13 @@ pub damaged :
 unfolding childBefore placeAt recordAt existing nodeOf
 damaged = (refl, refl, refl, refl, refl)
 
+-- from the last child back to the first and no further; a scalar has no children, nor has a missing record
+pub from-last :
+    (childFromLast buffer 3 1 ≡ some 1) × (childFromLast buffer 3 2 ≡ none) × (childFromLast buffer 6 3 ≡ some 0) × (childFromLast buffer 2 0 ≡ none)
+    × (childFromLast (row 1 0 0 1 0 0 ++ row 9 0 0 2 1 0) 1 0 ≡ none)
+unfolding childFromLast stepsBack recordBefore childBefore placeAt recordAt existing nodeOf
+from-last = (refl, refl, refl, refl, refl)
+
 -- `[a, {b: c}]`: five nodes, in the order of their completion; the root is the last
 pub small-tree :
     (a b c d e : Node) → growth (opening ∷ leaf ∷ opening ∷ leaf ∷ leaf ∷ closing hash ∷ closing array ∷ []) (a ∷ b ∷ c ∷ d ∷ e ∷ []) (growing [])

@@ -6,9 +6,10 @@ use mathlib.Core.Option.{Option, none, some}
 use Prim.Native.Nat.{ℕ, zero, suc, _+_, _-_, _*_, _<_, _≤_}
 use native.Mathlib.Decide.{decLt}
 use native.Mathlib.Omega.{arith}
-use borrow.Author.Tests.{lt-ltb, le-leb, le-ltb, lt-leb, leb-true, eq-eqb}
+use borrow.Author.Tests.{lt-ltb, le-leb, le-ltb, lt-leb, leb-true, eq-eqb, ne-eqb}
 use lib.Dec.{ltb, leb, eqb}
 use lib.ListN.{length, length-append}
+use Rattle.parser.specs.Pick.{pick}
 use Rattle.parser.specs.Layout.{laidNodes}
 use Rattle.parser.specs.declared.record.Node.{Node}
 use Rattle.node.specs.Chain.{andThen, when}
@@ -16,7 +17,7 @@ use Rattle.node.specs.Record.{isKind, existing, recordAt}
 use Rattle.node.specs.Nth.{nth, nth-left, nth-right, nth-past, nth-within, some-one}
 use Rattle.node.specs.RecordLaws.{record-laid}
 use Rattle.node.specs.Child.{placeAt, recordBefore, lastChild, childBefore, stepsBack, childFromLast, arrayItem}
-use Rattle.node.specs.Kind.{isArray, isHash, len, lenAt}
+use Rattle.node.specs.Kind.{isArray, isHash, len, children, lenAt}
 use Rattle.node.specs.Entry.{entry, pairEnding, hashEntry}
 use Rattle.node.specs.declared.entry.YamlHashEntry.{YamlHashEntry}
 use Rattle.node.specs.Forest.{Forest, nil, snoc, postOrder, nodesIn, trees, Tree, Sound, lastRoot, roots, pairsOf}
@@ -117,24 +118,25 @@ len-scalar x h = rw (lt-ltb (x .kind) 7 h)
 len-collection : (x : Node) → 7 ≤ x .kind → len x ≡ x .payload .first
 len-collection x h = rw (le-ltb (x .kind) 7 h)
 
--- it counts something exactly where there are trees
-len-trees : (x : Node) (f : Forest) → Tree x f → (trees f ≤ 2 * len x) × (len x ≤ trees f)
-len-trees x f t = by (decLt (x .kind) 7) (decLt (x .kind) 8)
+pub children-trees : (x : Node) (f : Forest) → Tree x f → children x ≡ trees f
+children-trees x f t = by (decLt (x .kind) 7) (decLt (x .kind) 8)
   where
-    by : Dec (x .kind < 7) → Dec (x .kind < 8) → (trees f ≤ 2 * len x) × (len x ≤ trees f)
-    by (yes l) d =
-        let z = t .scalar l in
-        let e = len-scalar x l in
-        (omega arith, omega arith)
-    by (no l) (yes d) =
-        let z = t .array (omega arith) in
-        let e = len-collection x (omega arith) in
-        (omega arith, omega arith)
+    by : Dec (x .kind < 7) → Dec (x .kind < 8) → children x ≡ trees f
+    by (yes l) d = rw (lt-ltb (x .kind) 7 l) (sym (t .scalar l))
+    by (no l) (yes d) = rw (le-ltb (x .kind) 7 (omega arith), ne-eqb (x .kind) 8 (λ e. omega arith)) (t .array (omega arith))
     by (no l) (no d) =
         let k = kind-at-most (x .kind) (t .kind) in
-        let z = t .hash (omega arith) in
-        let e = len-collection x (omega arith) in
-        (omega arith, omega arith)
+        let eight : x .kind ≡ 8 = omega arith in
+        rw (le-ltb (x .kind) 7 (omega arith), eq-eqb (x .kind) 8 eight) (t .hash eight)
+
+-- there are children where their number, or that of the pairs, is not 0
+len-children : (x : Node) → (children x ≤ 2 * len x) × (len x ≤ children x)
+len-children x = by (ltb (x .kind) 7) (eqb (x .kind) 8) (x .payload .first)
+  where
+    by : (t s : Bool) (m : ℕ) → (pick t 0 (pick s (2 * m) m) ≤ 2 * pick t 0 m) × (pick t 0 m ≤ pick t 0 (pick s (2 * m) m))
+    by true s m = (omega arith, omega arith)
+    by false true m = (omega arith, omega arith)
+    by false false m = (omega arith, omega arith)
 
 module _ (size : ℕ) (pre : List Node) where
   -- the root of the last tree is its record
@@ -203,14 +205,6 @@ module _ (size : ℕ) (pre : List Node) where
       let d : length pre + length (postOrder (snoc f x kids)) - 1 ≡ lastRoot (length pre) (snoc f x kids) = omega arith in
       rw (lt-ltb 0 (length pre + length (postOrder (snoc f x kids))) more, d, root-record suf f x kids (c .2))
 
-  pub child-roots :
-      (k : ℕ) (suf : List Node) (f : Forest) → k < trees f → Sound f →
-      childFromLast (laidNodes size (pre ++ (postOrder f ++ suf))) (length pre + nodesIn f) k ≡ some (lastRoot (length pre) (allBut k f))
-  unfolding childFromLast
-  child-roots k suf f h c =
-      ap (λ (o : Option ℕ). andThen o (stepsBack (laidNodes size (pre ++ (postOrder f ++ suf))) k)) (last-root suf f (omega arith) c)
-      ∙ steps-roots k suf f h c
-
   -- a collection's record follows its children
   pub collection-record :
       (suf : List Node) (f : Forest) (x : Node) → isKind (x .kind) ≡ true →
@@ -222,6 +216,16 @@ module _ (size : ℕ) (pre : List Node) where
       let l : length pre + nodesIn f ≡ length front = simp length-append in
       let n : nth (pre ++ (postOrder f ++ (x ∷ suf))) (length pre + nodesIn f) ≡ some x = rw (e, l) (nth-at front x suf) in
       record-laid size (pre ++ (postOrder f ++ (x ∷ suf))) (length pre + nodesIn f) ∙ rw (n, k)
+
+  pub child-roots :
+      (k : ℕ) (suf : List Node) (f : Forest) (x : Node) → k < trees f → Sound f → Tree x f →
+      childFromLast (laidNodes size (pre ++ (postOrder f ++ (x ∷ suf)))) (length pre + nodesIn f) k ≡ some (lastRoot (length pre) (allBut k f))
+  unfolding childFromLast
+  child-roots k suf f x h c t =
+      let b = laidNodes size (pre ++ (postOrder f ++ (x ∷ suf))) in
+      let n = children-trees x f t in
+      let more : k < children x = omega arith in
+      rw (collection-record suf f x (t .kind), lt-ltb k (children x) more, last-root (x ∷ suf) f (omega arith) c) (steps-roots k (x ∷ suf) f h c)
 
   -- item i of an array is root i of its children
   pub items :
@@ -243,7 +247,7 @@ module _ (size : ℕ) (pre : List Node) where
       by (yes h) =
           found
           ∙ let-in (childFromLast b n) (x .kind) 7 (x .payload .first) (trees f) i seven (t .array seven) h (λ (j : ℕ). j - 1 - i)
-          ∙ child-roots (trees f - 1 - i) (x ∷ suf) f (omega arith) c
+          ∙ child-roots (trees f - 1 - i) suf f x (omega arith) c t
           ∙ sym (root-nth (length pre) i f h)
       by (no h) =
           let l = roots-length (length pre) f in
@@ -290,7 +294,7 @@ module _ (size : ℕ) (pre : List Node) where
           let e = t .hash eight in
           found
           ∙ let-in ending (x .kind) 8 m m i eight refl h (λ (j : ℕ). 2 * (j - 1 - i))
-          ∙ ap (λ (o : Option ℕ). andThen o (pairEnding b)) (child-roots (2 * (m - 1 - i)) (x ∷ suf) f (omega arith) c)
+          ∙ ap (λ (o : Option ℕ). andThen o (pairEnding b)) (child-roots (2 * (m - 1 - i)) suf f x (omega arith) c t)
           ∙ pair-back (2 * (m - 1 - i)) (x ∷ suf) f (omega arith) c
           ∙ sym (pair-nth (length pre) m i f (sym e) h)
       by (no h) =
@@ -333,7 +337,7 @@ module _ (size : ℕ) (pre : List Node) where
       (suf : List Node) (f : Forest) (x : Node) → Sound f → Tree x f →
       lastChild (laidNodes size (pre ++ (postOrder f ++ (x ∷ suf)))) (length pre + nodesIn f) ≡ nth (roots (length pre) f) (length (roots (length pre) f) - 1)
   unfolding lastChild
-  last-child suf f x c t = found ∙ by (decLt 0 (trees f)) (len-trees x f t) (roots-length (length pre) f)
+  last-child suf f x c t = found ∙ by (decLt 0 (trees f)) (len-children x) (children-trees x f t) (roots-length (length pre) f)
     where
       b : List ℕ
       b = laidNodes size (pre ++ (postOrder f ++ (x ∷ suf)))
@@ -345,15 +349,15 @@ module _ (size : ℕ) (pre : List Node) where
       found = ap (λ (o : Option ℕ). andThen o (λ (k : ℕ). when (ltb 0 k) (recordBefore b n))) (len-is suf f x t)
 
       by :
-          Dec (0 < trees f) → (trees f ≤ 2 * len x) × (len x ≤ trees f) → length (roots (length pre) f) ≡ trees f →
+          Dec (0 < trees f) → (children x ≤ 2 * len x) × (len x ≤ children x) → children x ≡ trees f → length (roots (length pre) f) ≡ trees f →
           when (ltb 0 (len x)) (recordBefore b n) ≡ nth (roots (length pre) f) (length (roots (length pre) f) - 1)
-      by (yes h) (a, d) r =
+      by (yes h) (a, d) q r =
           let none-after : trees f - 1 - (trees f - 1) ≡ 0 = omega arith in
-          ap (λ (q : Bool). when q (recordBefore b n)) (lt-ltb 0 (len x) (omega arith))
+          ap (λ (z : Bool). when z (recordBefore b n)) (lt-ltb 0 (len x) (omega arith))
           ∙ last-root (x ∷ suf) f h c
           ∙ sym (ap (λ (m : ℕ). nth (roots (length pre) f) (m - 1)) r ∙ root-nth (length pre) (trees f - 1) f (omega arith) ∙ ap (λ (k : ℕ). some (lastRoot (length pre) (allBut k f))) none-after)
-      by (no h) (a, d) r =
-          ap (λ (q : Bool). when q (recordBefore b n)) (le-ltb 0 (len x) (omega arith))
+      by (no h) (a, d) q r =
+          ap (λ (z : Bool). when z (recordBefore b n)) (le-ltb 0 (len x) (omega arith))
           ∙ sym (nth-past (roots (length pre) f) (length (roots (length pre) f) - 1) (omega arith))
 
   step-back :

@@ -1,5 +1,5 @@
 -- Kinds and counts (N3). A missing record answers none, to a test of its kind too.
-use Prim.Native.Nat.{ℕ}
+use Prim.Native.Nat.{ℕ, _*_}
 use mathlib.Core.Bool.{Bool}
 use mathlib.Core.List.{List}
 use mathlib.Core.Option.{Option, none, some}
@@ -27,6 +27,10 @@ isHash x = eqb (x .kind) 8
 -- the items of an array, the pairs of a hash, as the record says
 abbrev pub len : Node → ℕ
 len x = pick (isScalar x) 0 (x .payload .first)
+
+-- its children: items, or keys and values
+abbrev pub children : Node → ℕ
+children x = pick (isScalar x) 0 (pick (isHash x) (2 * x .payload .first) (x .payload .first))
 
 -- ---- of a record
 

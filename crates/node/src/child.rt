@@ -2,12 +2,15 @@
 //
 // Going from the last child back by `child_before` costs one step a child. By index it costs the distance from the last.
 ghost use mathlib.Core.Path.{_≡_};
+ghost use Rattle.node.specs.Kind.{children};
 ghost use Rattle.node.specs.Child.{placeAt, recordBefore, lastChild, childBefore, stepsBack, childFromLast, arrayItem, placeIn};
 use crate::kind::Count;
 use crate::kind::len;
 use crate::record::Lookup;
 use crate::record::get_record;
 use parser::record::ARRAY;
+use parser::record::HASH;
+use parser::record::Node;
 
 // A record's number.
 pub enum Place {
@@ -81,10 +84,30 @@ fn steps_back(records: &[u32], c: usize, k: usize) -> Place
     Place::At(at)
 }
 
-// The child `k` before the last child of `n`.
+// How many children a node has: the items of an array, the keys and values of a hash.
+fn child_count(x: Node) -> usize
+    ensures { λ r. ⌜ r ≡ children x ⌝ }
+{
+    if x.kind < ARRAY {
+        return 0;
+    }
+    let count = x.payload.first as usize;
+    if x.kind == HASH {
+        return 2 * count;
+    }
+    count
+}
+
+// The child `k` before the last child of `n`, if it has so many.
 pub fn child_from_last(records: &[u32], n: usize, k: usize) -> Place
     ensures { λ r. ⌜ placeIn r ≡ childFromLast (now (records .entry)) n k ⌝ }
 {
+    let Lookup::Record(x) = get_record(records, n) else {
+        return Place::Missing;
+    };
+    if child_count(x) <= k {
+        return Place::Missing;
+    }
     let Place::At(c) = root(records, n) else {
         return Place::Missing;
     };

@@ -11,7 +11,7 @@ use Rattle.parser.specs.Pick.{pick}
 use Rattle.parser.specs.declared.record.Node.{Node}
 use Rattle.node.specs.Chain.{andThen, when}
 use Rattle.node.specs.Record.{recordAt}
-use Rattle.node.specs.Kind.{lenAt, isArray, isHash}
+use Rattle.node.specs.Kind.{lenAt, isArray, isHash, children}
 use Rattle.node.specs.Child.{placeAt, recordBefore, lastChild, lessCount, childBefore, stepsBack, childFromLast, arrayItem}
 use Rattle.node.specs.Entry.{entry, pairEnding, hashEntry}
 use Rattle.node.specs.Search.{keyIs, earlier, searchBack, hashValue}
@@ -87,7 +87,10 @@ module _ (b : List ℕ) where
 
   from-last-at-most : (n k : ℕ) → AtMost n (childFromLast b n k)
   unfolding childFromLast
-  from-last-at-most n k = each-then (Upto n) (Upto n) (stepsBack b k) (recordBefore b n) (before-at-most n) (λ c h. steps-at-most k c n h)
+  from-last-at-most n k =
+      let back = andThen (recordBefore b n) (stepsBack b k) in
+      let h : AtMost n back = each-then (Upto n) (Upto n) (stepsBack b k) (recordBefore b n) (before-at-most n) (λ c l. steps-at-most k c n l) in
+      each-after (Upto n) (λ (x : Node). when (ltb k (children x)) back) (recordAt b n) (λ x. each-when (Upto n) (ltb k (children x)) back h)
 
   -- item i of an array of k
   abbrev itemOf : ℕ → ℕ → Bool → ℕ → Option ℕ

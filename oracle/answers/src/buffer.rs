@@ -35,11 +35,18 @@ impl Buffer<'_> {
         }
     }
 
-    /// The record before `n`, then from each the child before it.
-    fn children_back(&self, n: usize) -> impl Iterator<Item = usize> {
-        iter::successors(self.root(n), |c| self.child_before(*c))
+    /// How many children record `n` says it has: items, or keys and values.
+    fn children(&self, n: usize) -> Option<usize> {
+        let len = self.len(n)? as usize;
+        Some(if self.is_hash(n)? { 2 * len } else { len })
     }
 
+    /// The record before `n`, then from each the child before it, as many as `n` has children.
+    fn children_back(&self, n: usize) -> impl Iterator<Item = usize> {
+        iter::successors(self.root(n), |c| self.child_before(*c)).take(self.children(n).unwrap_or(0))
+    }
+
+    /// The child `k` before the last.
     pub fn child_from_last(&self, n: usize, k: usize) -> Option<usize> {
         self.children_back(n).nth(k)
     }
@@ -169,6 +176,16 @@ mod tests {
         let buffer = Buffer { records: &records, events: EVENTS };
         assert_eq!(buffer.hash_entry(2, 1).map(|entry| entry.key), Some(0));
         assert!(buffer.hash_entry(2, 0).is_none());
+    }
+
+    #[test]
+    fn a_missing_record_has_no_children_and_no_child_comes_before_the_first() {
+        let mut records = [string(0, 1), string(1, 1), hash(3, 1)];
+        let from_last = |records: &[[u32; 12]], k| Buffer { records, events: EVENTS }.child_from_last(2, k);
+        assert_eq!([0, 1, 2].map(|k| from_last(&records, k)), [Some(1), Some(0), None]);
+        assert_eq!(Buffer { records: &records, events: EVENTS }.child_from_last(1, 0), None);
+        records[2][0] = 9;
+        assert_eq!(from_last(&records, 0), None);
     }
 
     #[test]
