@@ -5,7 +5,8 @@ use mathlib.Core.Bool.{Bool, true, false, _&&_}
 use mathlib.Core.List.{List, []}
 use lib.Dec.{eqb}
 use lib.ListN.{length, take, drop}
-use Rattle.schema.specs.Ascii.{bytes, sameBytes}
+use Rattle.schema.specs.Ascii.{bytes}
+unfoldable pub use Rattle.schema.specs.Ascii.{sameBytes}
 use Rattle.schema.specs.Integer.{held}
 use Rattle.schema.specs.Standard.{Meaning, nullValue, truth, integer, real, string}
 use Rattle.schema.specs.CoreSchema.{pickResolved, integerOr, coreSchema}
