@@ -61,7 +61,8 @@ resolvedAs untagged value style = resolveScalar value style false [] []
 resolvedAs (tagged handle suffix) value style = resolveScalar value style true handle suffix
 
 -- the scalar starts at its marker, spans what is measured from there, and is of this kind; its value stands at `place` of the event bytes
-pub record EntrySays (text : List ℕ) (awaited : Bool) (index column style : ℕ) (emptySpan : Bool) (value : List ℕ) (r : Resolved) (place : ℕ) (t : TagInfo) (x : Node) : Type 0 where
+pub record EntrySays (text : List ℕ) (awaited : Bool) (index column style : ℕ) (emptySpan : Bool) (value : List ℕ)
+    (r : Resolved) (place : ℕ) (t : TagInfo) (x : Node) : Type 0 where
   pub kind : x .kind ≡ kindNumber r
   pub span :
       x .extent
@@ -114,7 +115,8 @@ pub record ScalarDemand3 (text : List ℕ) (index column style : ℕ) (emptySpan
 
 -- and the record that is handed back: no tag, and its value's place is 0
 pub record ScalarRecord (text : List ℕ) (index column style : ℕ) (emptySpan : Bool) (value : List ℕ) (o : Outcome) : Type 0 where
-  pub entry : (xs : List Node) (ps : List Piece) → o ≡ built xs ps → EntrySays text false index column style emptySpan value (resolvedAs untagged value style) 0 noTag (recordOf o)
+  pub entry : (xs : List Node) (ps : List Piece) → o ≡ built xs ps
+      → EntrySays text false index column style emptySpan value (resolvedAs untagged value style) 0 noTag (recordOf o)
   pub zero : (number place : ℕ) → o ≡ refused number place → recordOf o ≡ zeroNode
 
 -- ---- a document
@@ -126,7 +128,8 @@ Consecutive a (x ∷ xs) e =
     ((x .list ≡ noList) × Consecutive a xs e) ⊎ ((x .list .first ≡ a) × (a < absent) × Consecutive (a + x .list .count) xs e)
 
 -- the scalar event that comes after the events `before`, in a document of the nodes xs and the pieces buffer p
-pub record ScalarListed (text events : List ℕ) (room pieceRoom : ℕ) (before : List YamlEvent) (index column style : ℕ) (emptySpan : Bool) (tag : Tag) (value : List ℕ) (xs : List Node) (p : List ℕ) : Type 0 where
+pub record ScalarListed (text events : List ℕ) (room pieceRoom : ℕ) (before : List YamlEvent)
+    (index column style : ℕ) (emptySpan : Bool) (tag : Tag) (value : List ℕ) (xs : List Node) (p : List ℕ) : Type 0 where
   -- the events before it are let through to this state
   pub st : State
   pub let-through : reached text events room pieceRoom 0 before empty ≡ go st
