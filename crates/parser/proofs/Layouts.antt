@@ -7,7 +7,7 @@ use native.Mathlib.Omega.{arith}
 use lib.ListN.{length, replicate, take, drop, set, getD, length-append, length-replicate}
 use native.Mathlib.Numerals.{add-one}
 use lib.Seq.{sets, sets-eq, take-at, drop-at, take-suc, length-take-le}
-use Rattle.parser.specs.Record.{nodeNumbers}
+use Rattle.parser.specs.Record.{nodeNumbers, node-wide}
 use Rattle.parser.specs.Layout.{flat, laidBy, laidNodes, stored}
 use Rattle.parser.specs.declared.record.Node.{Node}
 
@@ -86,10 +86,6 @@ module _ {A : Type 0} (w : ℕ) (f : A → List ℕ) (wide : (x : A) → length 
         ∙ laid-on (x ∷ [])
 
 -- ---- records
-
-pub node-wide : (x : Node) → length (nodeNumbers x) ≡ 12
-unfolding nodeNumbers
-node-wide x = refl
 
 pub nodes-none : (size : ℕ) → laidNodes size [] ≡ replicate size 0
 nodes-none size = laid-none 12 nodeNumbers node-wide size

@@ -1,6 +1,10 @@
--- A node's record: twelve numbers (E2). Only `nodeNumbers` says in which order they stand; everything else goes by the names of the fields.
-use Prim.Native.Nat.{ℕ}
-use mathlib.Core.List.{List, [], _∷_}
+-- A node's record: twelve numbers (E2). Of all definitions only those of this file know in which order they stand: `nodeNumbers`, and `nodeOf`,
+-- its inverse (`read-laid`). Everything else goes by the names of the fields and by the laws below.
+use mathlib.Core.Path.{_≡_, refl, _∙_}
+use Prim.Native.Nat.{ℕ, zero, suc, _+_}
+use mathlib.Core.List.{List, [], _∷_, _++_}
+use lib.ListN.{length, getD, drop, replicate}
+use lib.Seq.{getD-drop}
 use Rattle.schema.specs.Record.{both}
 use Rattle.parser.specs.declared.record.Extent.{Extent}
 use Rattle.parser.specs.declared.record.TagInfo.{TagInfo}
@@ -27,6 +31,18 @@ nodeNumbers x =
 
 abbrev pub extent : ℕ → ℕ → Extent
 extent a e = record { start = a; end = e }
+
+-- the node whose numbers come first
+unfoldable pub nodeOf : List ℕ → Node
+nodeOf l =
+    record {
+      kind = getD l 0 0;
+      extent = extent (getD l 1 0) (getD l 2 0);
+      tag = record { start = getD l 3 0; end = getD l 4 0; suffix = getD l 5 0; len = getD l 6 0 };
+      subtree = getD l 7 0;
+      list = record { first = getD l 8 0; count = getD l 9 0 };
+      payload = both (getD l 10 0) (getD l 11 0);
+    }
 
 abbrev pub noTag : TagInfo
 noTag = record { start = absent; end = absent; suffix = absent; len = absent }
@@ -56,3 +72,27 @@ zeroNode =
       list = pieceList 0 0;
       payload = both 0 0;
     }
+
+-- ---- laws of the layout
+
+pub node-wide : (x : Node) → length (nodeNumbers x) ≡ recordWidth
+unfolding nodeNumbers
+node-wide x = refl
+
+-- the numbers of a node, whatever follows, are read as that node
+pub read-laid : (x : Node) (rest : List ℕ) → nodeOf (nodeNumbers x ++ rest) ≡ x
+unfolding nodeOf nodeNumbers
+read-laid x rest = refl
+
+zero-at : (m i : ℕ) → _≡_ {A = ℕ} (getD (replicate m 0) i 0) 0
+zero-at zero i = refl
+zero-at (suc m) zero = refl
+zero-at (suc m) (suc i) = zero-at m i
+
+-- zeros are read as zeros
+pub read-zeros : (m n : ℕ) → nodeOf (drop n (replicate m 0)) ≡ zeroNode
+unfolding nodeOf
+read-zeros m n = rw (none 0, none 1, none 2, none 3, none 4, none 5, none 6, none 7, none 8, none 9, none 10, none 11)
+  where
+    none : (i : ℕ) → _≡_ {A = ℕ} (getD (drop n (replicate m 0)) i 0) 0
+    none i = getD-drop {A = ℕ} n (replicate m 0) i 0 ∙ zero-at m (n + i)

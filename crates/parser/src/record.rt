@@ -1,8 +1,8 @@
-// A node's record, and where its twelve numbers stand. (01: Events, records, pieces; E2.)
+// A node's record: twelve numbers. Of all code only `record_numbers` and `read_record` know where each stands. (01: Events, records, pieces; E2.)
 ghost use mathlib.Core.Path.{_≡_};
-ghost use Prim.Native.Nat.{_*_, _/_, _<_};
+ghost use Prim.Native.Nat.{_/_, _≤_, _<_};
 ghost use lib.ListN.{length};
-ghost use Rattle.parser.specs.Record.{withList};
+ghost use Rattle.parser.specs.Record.{recordWidth, nodeNumbers, nodeOf, withList};
 ghost use Rattle.parser.specs.Layout.{stored};
 use crate::buffer::put;
 use schema::record::Payload;
@@ -13,7 +13,7 @@ pub const ABSENT: u32 = 0xffff_ffff;
 // How many numbers a record has.
 pub const RECORD_WIDTH: usize = 12;
 
-// The kinds of nodes that no resolved scalar has.
+// The first of the eight kinds, which an alias has too, and the two of collections.
 pub const NULL: u32 = 1;
 
 pub const ARRAY: u32 = 7;
@@ -79,27 +79,60 @@ pub fn with_list(x: Node, first: u32, count: u32) -> Node
     }
 }
 
+// The numbers of a record in their order.
+pub fn record_numbers(x: Node) -> [u32; RECORD_WIDTH]
+    ensures { λ r. ⌜ r ≡ nodeNumbers x ⌝ }
+{
+    [
+        x.kind,
+        x.extent.start,
+        x.extent.end,
+        x.tag.start,
+        x.tag.end,
+        x.tag.suffix,
+        x.tag.len,
+        x.subtree,
+        x.list.first,
+        x.list.count,
+        x.payload.first,
+        x.payload.second,
+    ]
+}
+
+// The node whose numbers come first.
+pub fn read_record(numbers: &[u32]) -> Node
+    requires { ⌜ recordWidth ≤ length (now numbers) ⌝ }
+    ensures { λ r. ⌜ r ≡ nodeOf (now (numbers .entry)) ⌝ }
+{
+    Node {
+        kind: numbers[0],
+        extent: Extent {
+            start: numbers[1],
+            end: numbers[2],
+        },
+        tag: TagInfo {
+            start: numbers[3],
+            end: numbers[4],
+            suffix: numbers[5],
+            len: numbers[6],
+        },
+        subtree: numbers[7],
+        list: PieceList {
+            first: numbers[8],
+            count: numbers[9],
+        },
+        payload: Payload {
+            first: numbers[10],
+            second: numbers[11],
+        },
+    }
+}
+
 // The record of `x` is written as number `n`.
 pub fn put_record(records: &mut [u32], n: usize, x: Node)
-    requires { ⌜ n < length (now records) / 12 ⌝ }
+    requires { ⌜ n < length (now records) / recordWidth ⌝ }
     ensures { λ _. ⌜ now (records .exit) ≡ stored (now (records .entry)) n x ⌝ }
 {
-    put(
-        records,
-        RECORD_WIDTH * n,
-        &[
-            x.kind,
-            x.extent.start,
-            x.extent.end,
-            x.tag.start,
-            x.tag.end,
-            x.tag.suffix,
-            x.tag.len,
-            x.subtree,
-            x.list.first,
-            x.list.count,
-            x.payload.first,
-            x.payload.second,
-        ],
-    );
+    let numbers = record_numbers(x);
+    put(records, RECORD_WIDTH * n, &numbers);
 }

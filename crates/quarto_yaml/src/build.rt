@@ -2,13 +2,12 @@
 ghost use mathlib.Core.Path.{_≡_};
 ghost use lib.ListN.{length};
 ghost use Rattle.parser.specs.Call.{returned, building, readingScalar};
-ghost use Rattle.parser.specs.Record.{nodeNumbers};
 ghost use Rattle.node.specs.Marker.{scanError, scanned};
 ghost use Rattle.quarto_yaml.specs.Answer.{three, numbersIn, Fit, Told, ToldScalar};
 use node::marker::Scanned;
 use parser::answer::Answer;
-use parser::record::Node;
 use parser::record::RECORD_WIDTH;
+use parser::record::record_numbers;
 
 // 0 and what the call says of the two others; or document 01's number, its place, and 0.
 #[repr(C)]
@@ -23,26 +22,6 @@ pub struct Answered {
 pub struct AnsweredScalar {
     pub answer: Answered,
     pub record: [u32; RECORD_WIDTH],
-}
-
-// The twelve numbers of a record in their order.
-fn numbers(x: Node) -> [u32; RECORD_WIDTH]
-    ensures { λ r. ⌜ r ≡ nodeNumbers x ⌝ }
-{
-    [
-        x.kind,
-        x.extent.start,
-        x.extent.end,
-        x.tag.start,
-        x.tag.end,
-        x.tag.suffix,
-        x.tag.len,
-        x.subtree,
-        x.list.first,
-        x.list.count,
-        x.payload.first,
-        x.payload.second,
-    ]
 }
 
 // The three numbers of an answer.
@@ -94,7 +73,7 @@ pub extern "C" fn quarto_yaml_scalar(
     let a = r.answer;
     let x = r.node;
     let answer = of_answer(a);
-    let record = numbers(x);
+    let record = record_numbers(x);
     AnsweredScalar { answer, record }
 }
 

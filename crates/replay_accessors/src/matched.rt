@@ -23,6 +23,7 @@ use parser::record::Extent;
 use parser::record::Node;
 use parser::record::PieceList;
 use parser::record::TagInfo;
+use parser::record::record_numbers;
 
 // How many bytes of a list were matched, and whether all of them were.
 pub struct Matched {
@@ -187,17 +188,25 @@ pub fn entry(list: &[u8], m: Matched, answer: Entry) -> Matched
     }
 }
 
-// The twelve numbers of a record.
+// Numbers, one after another.
+fn numbers(list: &[u8], m: Matched, xs: &[u32]) -> Matched
+    ensures { λ r. ⌜ r ≡ matchAll (now (list .entry)) m (now (xs .entry)) ⌝ }
+{
+    let mut matched = m;
+    let mut i = 0;
+    while i < xs.len() {
+        matched = number(list, matched, xs[i]);
+        i += 1;
+    }
+    matched
+}
+
+// The numbers of a record.
 fn node_numbers(list: &[u8], m: Matched, x: Node) -> Matched
     ensures { λ r. ⌜ r ≡ matchAll (now (list .entry)) m (nodeNumbers x) ⌝ }
 {
-    let span = x.extent;
-    let tag = x.tag;
-    let pieces = x.list;
-    let m = extent(list, number(list, m, x.kind), span);
-    let m = number(list, tag_numbers(list, m, tag), x.subtree);
-    let m = piece_numbers(list, m, pieces);
-    number(list, number(list, m, x.payload.first), x.payload.second)
+    let xs = record_numbers(x);
+    numbers(list, m, &xs)
 }
 
 pub fn lookup(list: &[u8], m: Matched, answer: Lookup) -> Matched

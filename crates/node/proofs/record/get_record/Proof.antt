@@ -1,4 +1,4 @@
--- `node::record::get_record` meets its contract: the room first, then the kind of the twelve numbers that `read` gives. Assumes nothing.
+-- `node::record::get_record` meets its contract: the room first, then the kind of the twelve numbers that `read_record` gives. Assumes nothing.
 use borrow.Author.Tests.{lt-ltb, le-ltb, le-leb, lt-leb}
 use borrow.Author.Needs.{needs}
 use Rattle.node.specs.Record.{recordAt, existing}
@@ -11,40 +11,40 @@ unfolding recordAt
 returns c =
     rw (le-ltb _ _ (c .if1 .taken))
 
-mul-read : tie.Need-mul-read
-mul-read c = search needs
+mul-read-record : tie.Need-mul-read-record
+mul-read-record c = search needs
 
-mul-read-2 : tie.Need-mul-read-2
-mul-read-2 c = search needs
+mul-read-record-2 : tie.Need-mul-read-record-2
+mul-read-record-2 c = search needs
 
-sub-read : tie.Need-sub-read
-sub-read c = search needs
+sub-read-record : tie.Need-sub-read-record
+sub-read-record c = search needs
 
-part-read-start : tie.Need-part-read-start
-part-read-start c = search needs
+part-read-record-start : tie.Need-part-read-record-start
+part-read-record-start c = search needs
 
-part-read-end : tie.Need-part-read-end
-part-read-end c = search needs
+part-read-record-end : tie.Need-part-read-record-end
+part-read-record-end c = search needs
 
-read-requires : tie.Need-read-requires
-read-requires c κs = search needs
+read-record-requires : tie.Need-read-record-requires
+read-record-requires c κs = search needs
 
 returns-2 : tie.Need-returns-2
 unfolding recordAt existing
 returns-2 c =
-    let e = rw (tail-is _ _) at (c .before .before .read .ensures) in
+    let e = rw (tail-is _ _) at (c .before .before .read-record .ensures) in
     rw (lt-ltb _ _ (c .before .before .before .before .if1 .left), ← e, lt-leb 1 _ (c .if2 .taken))
 
 returns-3 : tie.Need-returns-3
 unfolding recordAt existing
 returns-3 c =
-    let e = rw (tail-is _ _) at (c .before .before .before .before .read .ensures) in
+    let e = rw (tail-is _ _) at (c .before .before .before .before .read-record .ensures) in
     rw (lt-ltb _ _ (c .before .before .before .before .before .before .if1 .left), ← e, le-leb 1 _ (c .before .before .if2 .left), lt-leb _ 8 (c .if3 .taken))
 
 returns-4 : tie.Need-returns-4
 unfolding recordAt existing
 returns-4 c =
-    let e = rw (tail-is _ _) at (c .before .before .before .before .read .ensures) in
+    let e = rw (tail-is _ _) at (c .before .before .before .before .read-record .ensures) in
     rw (lt-ltb _ _ (c .before .before .before .before .before .before .if1 .left), ← e, le-leb 1 _ (c .before .before .if2 .left), le-leb _ 8 (c .if3 .left))
 
 pub get-record-spec : {M : Type 1} → statement M
@@ -52,12 +52,12 @@ get-record-spec =
     tie.close
     (tie.spec
     returns
-    mul-read
-    mul-read-2
-    sub-read
-    part-read-start
-    part-read-end
-    read-requires
+    mul-read-record
+    mul-read-record-2
+    sub-read-record
+    part-read-record-start
+    part-read-record-end
+    read-record-requires
     returns-2
     returns-3
     returns-4)

@@ -24,8 +24,8 @@ of-answer-requires c κs =
     (scalar-bounded (a .text .now) (a .index) (a .column) (a .style) (a .empty-span) (a .value .now) (length (a .pieces .now)))
     (c .before .before .before .scalar .ensures .answer)
 
-numbers-requires : tie.Need-numbers-requires
-numbers-requires c κs = search needs
+record-numbers-requires : tie.Need-record-numbers-requires
+record-numbers-requires c κs = search needs
 
 same-length : tie.Need-same-length
 same-length c = search needs
@@ -35,10 +35,10 @@ returns c =
     let made = c .before .before .before .before .before .scalar .ensures in
     record {
       answer = c .before .of-answer .ensures ∙ ap three (made .answer);
-      one-record = c .numbers .ensures ∙ ap nodeNumbers (made .one-record);
+      one-record = c .record-numbers .ensures ∙ ap nodeNumbers (made .one-record);
       all-pieces = made .all-pieces;
     }
 
 pub quarto-yaml-scalar-spec : {M : Type 1} → statement M
 quarto-yaml-scalar-spec =
-    tie.close (tie.spec scalar-requires of-answer-requires numbers-requires same-length returns)
+    tie.close (tie.spec scalar-requires of-answer-requires record-numbers-requires same-length returns)

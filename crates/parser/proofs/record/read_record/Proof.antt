@@ -1,9 +1,9 @@
--- `node::record::read` meets its contract: each number is read where `nodeOf` says. Assumes nothing.
+-- `read_record` meets its contract: each number is read where `nodeOf` says. Assumes nothing.
 use mathlib.Core.Path.{refl}
 use borrow.Author.Needs.{needs}
-use Rattle.node.specs.Record.{nodeOf}
-use Rattle.node.proofs.record.read.Statement.{statement}
-use Rattle.node.proofs.record.read.Tie as tie
+use Rattle.parser.specs.Record.{nodeOf}
+use Rattle.parser.proofs.record.read_record.Statement.{statement}
+use Rattle.parser.proofs.record.read_record.Tie as tie
 
 shared-slice-read-t3 : tie.Need-shared-slice-read-t3
 shared-slice-read-t3 c = search needs
@@ -45,8 +45,8 @@ returns : tie.Need-returns
 unfolding nodeOf
 returns c = refl
 
-pub read-spec : {M : Type 1} → statement M
-read-spec =
+pub read-record-spec : {M : Type 1} → statement M
+read-record-spec =
     tie.close
     (tie.spec
     shared-slice-read-t3

@@ -1,0 +1,61 @@
+-- `replay_accessors::matched::numbers` meets its contract: the first i numbers are matched; i goes up to their count. Assumes nothing.
+use mathlib.Core.Path.{_≡_, refl, ap, _∙_}
+use Prim.Native.Nat.{_-_, _≤_, _<_, zero-le}
+use native.Mathlib.Omega.{arith}
+use lib.ListN.{length, take, getD}
+use lib.Seq.{take-all}
+use borrow.Author.Needs.{needs}
+use Rattle.replay_accessors.specs.Matched.{matchNumber, matchAll}
+use Rattle.replay_accessors.specs.declared.matched.Matched.{Matched}
+use Rattle.replay_accessors.proofs.Matching.{one-more}
+use Rattle.replay_accessors.proofs.matched.numbers.Statement.{statement}
+use Rattle.replay_accessors.proofs.matched.numbers.Tie as tie
+
+abbrev Inv-loop : tie.InvT-loop
+Inv-loop list xs matched₀ i₀ matched i = (i ≤ length xs) × (matched ≡ matchAll list matched₀ (take i xs))
+
+abbrev μ-loop : tie.MeasureT-loop
+μ-loop list xs matched₀ i₀ matched i = length xs - i
+
+loop-holds : tie.Need-loop-holds Inv-loop μ-loop
+loop-holds c = (zero-le, refl)
+
+mul-number : tie.Need-mul-number Inv-loop μ-loop
+mul-number c = search needs
+
+shared-slice-read-number : tie.Need-shared-slice-read-number Inv-loop μ-loop
+shared-slice-read-number c = omega arith
+
+number-requires : tie.Need-number-requires Inv-loop μ-loop
+number-requires c κs = tt
+
+add-i : tie.Need-add-i Inv-loop μ-loop
+add-i c = omega arith
+
+loop-less : tie.Need-loop-less Inv-loop μ-loop
+loop-less c = omega arith
+
+loop-again : tie.Need-loop-again Inv-loop μ-loop
+loop-again c =
+    let w = c .before .before .before .loop in
+    let a = c .before .before .before .before .before .before .args in
+    let more : w .i < length (a .xs .now) = omega arith in
+    (omega arith, c .number .ensures ∙ ap (λ (m : Matched). matchNumber (a .list .now) m (getD (a .xs .now) (w .i) 0)) (w .inv .1) ∙ one-more (a .list .now) (a .m) (a .xs .now) (w .i) more)
+
+returns : tie.Need-returns Inv-loop μ-loop
+returns c = c .before .loop .inv .1 ∙ ap (matchAll _ _) (take-all (c .before .loop .i) _ (c .loop-test .left))
+
+pub numbers-spec : {M : Type 1} → statement M
+numbers-spec =
+    tie.close
+    (tie.spec
+    Inv-loop
+    μ-loop
+    loop-holds
+    mul-number
+    shared-slice-read-number
+    number-requires
+    add-i
+    loop-less
+    loop-again
+    returns)
