@@ -14,7 +14,7 @@ use Rattle.event.specs.Encode.{YamlEvent, encode, Sound}
 use Rattle.event.specs.Read.{readEvent}
 use Rattle.event.specs.Meaning.{StandsAt, Answers}
 use Rattle.event.specs.EventList.{encodeAll, AllSound, Stand, Front}
-use Rattle.event.specs.EncodeLaws.{stands-after, stands-inside, body-length, event-length}
+use Rattle.event.specs.EncodeLaws.{stands-after, body-length, event-length}
 use Rattle.event.specs.ReadLaws.{malformed-or-answers, malformed-none-stands, encode-prefix-free}
 use Rattle.event.specs.declared.read.Event.the-variants.{Malformed}
 

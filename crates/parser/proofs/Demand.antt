@@ -5,19 +5,18 @@ use mathlib.Core.Bool.{Bool, true, false}
 use mathlib.Core.Logic.{_⊎_, inl, inr}
 use mathlib.Core.List.{List, [], _∷_, _++_, append-nil, append-assoc}
 use mathlib.Core.Option.{Option, none, some}
-use Prim.Native.Nat.{ℕ, zero, suc, _+_, _-_, _*_, _≤_, _<_}
+use Prim.Native.Nat.{ℕ, zero, _+_, _-_, _*_, _≤_, _<_}
 use native.Mathlib.Omega.{arith}
 use borrow.Author.Tests.{lt-ltb, le-ltb, lt-leb, le-leb, ltb-true, ltb-false, leb-false, ne-eqb}
 use lib.Dec.{ltb, leb, eqb}
-use lib.ListN.{length, getD, drop, replicate, length-append}
+use lib.ListN.{length, drop, replicate}
 use lib.Seq.{drop-append-seam}
 use Rattle.text.specs.Tests.{by-order}
 use Rattle.text.specs.AdmissionLaws.{Sound, admitted-sound}
-use Rattle.text.specs.Admission.{textLimit, admission, admissionOfBoth, admissionNumber}
+use Rattle.text.specs.Admission.{textLimit, admission, admissionOfBoth}
 use Rattle.text.specs.declared.admission.Admission.{Admission}
 use Rattle.text.specs.declared.admission.Admission.the-variants.{Admitted, TooLong, NotUtf8}
-use Rattle.text.specs.Boundary.{Boundary, isBoundary}
-use Rattle.text.specs.Utf8.{isUtf8}
+use Rattle.text.specs.Boundary.{Boundary}
 use Rattle.text.specs.Utf8Laws.{utf8-complete, boundary-is}
 use Rattle.text.specs.Offset.{byteOffset, isAscii}
 use Rattle.text.specs.OffsetLaws.{offset-boundary}
@@ -34,18 +33,17 @@ use Rattle.event.specs.EncodeLaws.{stands-inside}
 use Rattle.event.specs.ReadLaws.{sound-is-read, parts-are}
 use Rattle.event.specs.declared.read.Event.{Event}
 use Rattle.event.specs.declared.tag.YamlTag.{YamlTag}
-use Rattle.event.specs.declared.tag.YamlTag.the-variants.{Absent}
 use Rattle.provenance.specs.Escape.{escapesReach}
 use Rattle.provenance.specs.EscapeLaws.{style-fair}
 use Rattle.provenance.specs.Grammar.{rulesOf}
-use Rattle.provenance.specs.Reading.{Reading, Piece, piece, piecesOf}
+use Rattle.provenance.specs.Reading.{Reading, Piece, piecesOf}
 use Rattle.provenance.specs.Start.{listFrom, scalarList}
 use Rattle.provenance.specs.Layout.{numbers, walkedNumber, answerOf, leftOf}
 use Rattle.provenance.specs.Demand.{Demand3}
 use Rattle.provenance.specs.DemandLaws.{listed-only, listed-if, demand3}
 use Rattle.provenance.specs.declared.step.Step.{Step}
 use Rattle.provenance.specs.declared.walk.Walked.{Walked}
-use Rattle.provenance.specs.declared.walk.Walked.the-variants.{Listed, NoRoom, NoList}
+use Rattle.provenance.specs.declared.walk.Walked.the-variants.{NoRoom}
 use Rattle.parser.specs.Pick.{pick}
 use Rattle.parser.specs.Record.{absent, noTag, noList, pieceList, withList}
 use Rattle.parser.specs.Scalar.{spanLen, listAt, scalarPieces, suffixOf, tagInfo, resolvedBy, scalarNode}
@@ -53,7 +51,7 @@ use Rattle.parser.specs.Collection.{awaitsValue, closes}
 use Rattle.parser.specs.Machine.{State, empty, Next, go, stop, Outcome, built, refused, rootDone, beforeRoot, withinDepth, withinRoom, completed, started, ended, closed, aliased, keeping}
 use Rattle.parser.specs.Machine.{scalarAt, scalarKept, scalared, step, follow, ending, run, runAll}
 use Rattle.parser.specs.RunLaws.{stop-not-go, run-stopped, run-enough}
-use Rattle.parser.specs.EventRun.{goOn, reached, runEvents, malformed, EventsAsList}
+use Rattle.parser.specs.EventRun.{reached, runEvents, malformed, EventsAsList}
 use Rattle.parser.specs.Layout.{laidPieces, recordRoom, pieceRoom}
 use Rattle.parser.specs.Call as call
 use Rattle.parser.specs.Call.{recordOf, admitted, building, oneScalar, readingScalar}
@@ -65,7 +63,7 @@ use Rattle.parser.specs.declared.stack.Open.{Open}
 use Rattle.parser.proofs.Starts.{offset-start}
 use Rattle.parser.proofs.Pieces.{filled-none}
 use Rattle.parser.proofs.EventRun.{go-is, stop-is, refused-not-built, in-order, events-as-list, through-last, passing, StoppedAt, stopped-at}
-use Rattle.parser.proofs.Growths.{gate, past-root, past-room, Grown, step-grown, reached-grown, final, run-grown}
+use Rattle.parser.proofs.Growths.{gate, past-root, past-room, Grown, run-grown}
 
 -- ---- the walk of a scalar starts where document 01 says
 

@@ -5,13 +5,13 @@ use mathlib.Core.Path.{_≡_, refl, sym, ap, _∙_, subst}
 use mathlib.Core.Bool.{Bool, true, false}
 use mathlib.Core.Logic.{_⊎_, inl, inr, ⊎-elim}
 use mathlib.Core.List.{List, [], _∷_, _++_, append-nil}
-use Prim.Native.Nat.{ℕ, zero, suc, _+_, _-_, _≤_, _<_}
+use Prim.Native.Nat.{ℕ, _+_, _-_, _≤_, _<_}
 use native.Mathlib.Omega.{arith}
 use lib.Dec.{ltb}
 use lib.ListN.{length, length-append}
 use Rattle.provenance.specs.Reading.{Piece}
 use Rattle.event.specs.Number.{Bytes}
-use Rattle.event.specs.Encode.{YamlEvent, sequenceStart, sequenceEnd, mappingStart, mappingEnd, scalar, alias, encode}
+use Rattle.event.specs.Encode.{YamlEvent, encode}
 use Rattle.event.specs.Meaning.{StandsAt, placed, eventNumber}
 use Rattle.event.specs.Read.{eventsLimit, readEvent}
 use Rattle.text.specs.Admission.{admission}
@@ -26,19 +26,10 @@ use Rattle.event.specs.declared.read.Event.the-variants.{Malformed}
 use Rattle.parser.specs.Machine.{State, empty, Next, go, stop, Outcome, built, refused, step, nextPlace, ending, follow, run, runAll}
 use Rattle.parser.specs.RunLaws.{run-ended, run-on, run-stopped, stop-not-go}
 use Rattle.parser.specs.declared.record.Node.{Node}
+use Rattle.parser.specs.Room.{next-placed}
 use Rattle.parser.specs.EventRun.{goOn, reached, runEvents, malformed, EventsAsList, FaultyBytes}
 use Rattle.parser.specs.Layout.{recordRoom, pieceRoom}
 use Rattle.parser.specs.Call.{building}
-
--- the next event comes after an event's bytes
-placed-next : (i : ℕ) (e : YamlEvent) → nextPlace (placed i e) ≡ i + length (encode e)
-unfolding placed
-placed-next i (sequenceStart m t) = refl
-placed-next i (sequenceEnd m) = refl
-placed-next i (mappingStart m t) = refl
-placed-next i (mappingEnd m) = refl
-placed-next i (scalar m c y f t v) = refl
-placed-next i (alias m) = refl
 
 pub go-is : (a b : State) → go a ≡ go b → a ≡ b
 go-is a b e = cc
@@ -86,7 +77,7 @@ module _ (text events : List ℕ) (room pieceRoom : ℕ) where
             with-read (stop m) is rest read l o = run-stopped text events room pieceRoom f i k m st o l (ap (λ (z : Event). stepOf z st) read ∙ is)
             with-read (go st′) is rest read l o =
                 run-on text events room pieceRoom f i k st st′ o l (ap (λ (z : Event). stepOf z st) read ∙ is)
-                ∙ ap (λ (j : ℕ). runFrom (f - 1) j (k + 1) st′) (ap nextPlace read ∙ placed-next i e)
+                ∙ ap (λ (j : ℕ). runFrom (f - 1) j (k + 1) st′) (ap nextPlace read ∙ next-placed i e)
                 ∙ rest st′
 
   pub events-as-list : Bytes events → (es : List YamlEvent) (rest : List ℕ) → AllSound es → events ≡ encodeAll es ++ rest → EventsAsList text events room pieceRoom es rest

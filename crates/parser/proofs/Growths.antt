@@ -2,7 +2,7 @@
 -- pieces one after the other. So what stands in the buffers stays where it is, up to the end of the run (`run-grown`).
 use mathlib.Core.Path.{_≡_, refl, sym, ap, _∙_, subst}
 use mathlib.Core.Bool.{Bool, true, false}
-use mathlib.Core.Logic.{_⊎_, inl, inr}
+use mathlib.Core.Logic.{inl, inr}
 use mathlib.Core.List.{List, [], _∷_, _++_, append-nil, append-assoc}
 use mathlib.Core.Option.{Option, none, some}
 use Prim.Native.Nat.{ℕ, _+_, _≤_, _<_}
@@ -20,7 +20,7 @@ use Rattle.parser.specs.Pick.{pick}
 use Rattle.parser.specs.Record.{absent, noList, withList}
 use Rattle.parser.specs.Scalar.{ScalarAt, scalarNode}
 use Rattle.parser.specs.Collection.{closes, collectionOver, collectionNode}
-use Rattle.parser.specs.Machine.{State, Next, go, stop, Outcome, built, refused, rootDone, beforeRoot, withinDepth, withinRoom}
+use Rattle.parser.specs.Machine.{State, Next, go, stop, built, refused, rootDone, beforeRoot, withinDepth, withinRoom}
 use Rattle.parser.specs.Machine.{completed, started, ended, closed, aliased, keeping, scalarKept, scalared, step, ending, follow}
 use Rattle.parser.specs.RunLaws.{stop-not-go}
 use Rattle.parser.specs.EventRun.{goOn, reached, runEvents}

@@ -4,11 +4,11 @@
 use Prim.Native.Nat.{ℕ, _+_, _<_}
 use mathlib.Core.Path.{_≡_}
 use mathlib.Core.Logic.{_⊎_}
-use mathlib.Core.List.{List, [], _∷_, _++_}
+use mathlib.Core.List.{List, [], _∷_}
 use lib.ListN.{length}
 use Rattle.event.specs.Encode.{YamlEvent, encode}
 use Rattle.event.specs.Meaning.{StandsAt, placed, eventNumber}
-use Rattle.event.specs.EventList.{encodeAll, AllSound}
+use Rattle.event.specs.EventList.{encodeAll}
 use Rattle.event.specs.declared.read.Event.the-variants.{Malformed}
 use Rattle.parser.specs.Machine.{State, empty, Next, go, stop, Outcome, refused, step, ending, follow, runAll}
 use Rattle.parser.specs.Call.{building}

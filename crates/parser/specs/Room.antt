@@ -14,7 +14,8 @@ use lib.ListN.{length}
 use Rattle.provenance.specs.Reading.{Piece}
 use Rattle.event.specs.Number.{Bytes}
 use Rattle.event.specs.Encode.{YamlEvent, sequenceStart, sequenceEnd, mappingStart, mappingEnd, scalar, alias, encode}
-use Rattle.event.specs.EncodeLaws.{body-length, event-length, stands-inside}
+use Rattle.event.specs.EncodeLaws.{stands-inside}
+use Rattle.event.specs.EventListLaws.{event-takes}
 use Rattle.event.specs.Read.{readEvent, eventsLimit}
 use Rattle.event.specs.Meaning.{placed, Answers}
 use Rattle.event.specs.ReadLaws.{malformed-or-answers}
@@ -88,7 +89,7 @@ module _ (room : ℕ) (st : State) (free : length (st .nodes) < room) where
 
 -- ---- an event's bytes
 
-next-placed : (i : ℕ) (e : YamlEvent) → nextPlace (placed i e) ≡ i + length (encode e)
+pub next-placed : (i : ℕ) (e : YamlEvent) → nextPlace (placed i e) ≡ i + length (encode e)
 unfolding placed
 next-placed i (sequenceStart m t) = refl
 next-placed i (sequenceEnd m) = refl
@@ -98,11 +99,10 @@ next-placed i (scalar m c y f t v) = refl
 next-placed i (alias m) = refl
 
 -- an event that is read at i takes at least seven bytes, all within s
-pub event-takes : (s : List ℕ) (i : ℕ) (r : Event) → Answers s i r → (i + eventLeast ≤ nextPlace r) × (nextPlace r ≤ length s)
-event-takes s i r a =
+pub answer-takes : (s : List ℕ) (i : ℕ) (r : Event) → Answers s i r → (i + eventLeast ≤ nextPlace r) × (nextPlace r ≤ length s)
+answer-takes s i r a =
     let e = a .event in
-    let outer = event-length e in
-    let body = body-length e in
+    let least = event-takes e in
     let inside = stands-inside s i (encode e) (a .stands .rest) (a .stands .starts) (omega arith) in
     let next : nextPlace r ≡ i + length (encode e) = ap nextPlace (a .answered) ∙ next-placed i e in
     (omega arith, omega arith)
@@ -138,7 +138,7 @@ module _ (text events : List ℕ) (bytes : Bytes events) (room r : ℕ) (enough 
       by true (inl bad) rest = rw bad (λ e. omega arith)
       by true (inr a) rest =
           let e = readEvent events i in
-          let takes = event-takes events i e a in
+          let takes = answer-takes events i e a in
           let free : length (st .nodes) < room = omega arith in
           followed f (nextPlace e) k (step text events room r e st) (step-passes room st free text events r e) (stepped text events room r k e st h) (omega arith) rest
 
