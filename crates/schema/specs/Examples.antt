@@ -4,7 +4,7 @@ use Prim.Native.Nat.{ℕ}
 use Prim.Native.String.{String}
 use mathlib.Core.Path.{_≡_, refl}
 use mathlib.Core.Bool.{true, false}
-use mathlib.Core.List.{[]}
+use mathlib.Core.List.{[], _∷_, map}
 use lib.IntN.{pos, negsuc}
 use Rattle.schema.specs.Ascii.{bytes, sameBytes}
 use Rattle.schema.specs.Matcher.{nullable, derivative, accepts}
@@ -13,7 +13,7 @@ use Rattle.schema.specs.Standard.{Meaning, integer, standard}
 use Rattle.schema.specs.CoreSchema.{table, firstMatch, coreSchema}
 use Rattle.schema.specs.Kinds.{readAs}
 use Rattle.schema.specs.Tag.{standardTagSuffix, taggedAs, taggedSchema, untagged, resolveScalar}
-use Rattle.schema.specs.Record.{payloadOf, both}
+use Rattle.schema.specs.Record.{kindNumber, payloadOf, both}
 use Rattle.schema.specs.declared.plain.Resolved.{Resolved}
 use Rattle.schema.specs.declared.plain.Resolved.the-variants.{Null, Boolean, Integer, Real, Str, BadValue}
 
@@ -171,11 +171,12 @@ tags =
       other-tag-quoted = refl;
     }
 
--- the payload numbers of -1, of the lowest integer, and of a string
+-- the kinds' numbers, as 01 lists them; the payload numbers of -1, of the lowest integer, and of a string
 pub record Numbers : Type 0 where
+  pub kinds : map kindNumber (Null ∷ Boolean true ∷ Integer (pos 0) ∷ Real ∷ Str ∷ BadValue ∷ []) ≡ 1 ∷ 2 ∷ 3 ∷ 4 ∷ 5 ∷ 6 ∷ []
   pub minus-one : payloadOf (Integer (negsuc 0)) 7 2 ≡ both 4294967295 4294967295
   pub lowest : payloadOf (Integer (negsuc 9223372036854775807)) 7 20 ≡ both 2147483648 0
   pub string : payloadOf Str 7 2 ≡ both 7 2
 
 pub numbers : Numbers
-numbers = record { minus-one = refl; lowest = refl; string = refl }
+numbers = record { kinds = refl; minus-one = refl; lowest = refl; string = refl }
