@@ -6,10 +6,12 @@ use Prim.Native.Nat.{ℕ}
 use lib.ListN.{take}
 use Rattle.schema.specs.Record.{both}
 use Rattle.schema.specs.Tag.{sameBytes}
-use Rattle.parser.specs.Record.{nodeNumbers, nodeOf, extent, noTag, noList}
+use Rattle.parser.specs.Record.{nodeNumbers, nodeOf, extent, absent, noTag, noList}
 use Rattle.parser.specs.declared.record.Node.{Node}
+use Rattle.parser.specs.declared.record.TagInfo.{TagInfo}
 use Rattle.node.specs.Record.{existing, recordAt}
 use Rattle.node.specs.Kind.{lenAt}
+use Rattle.node.specs.Source.{isAbsent, tagAt}
 use Rattle.node.specs.Child.{placeAt, recordBefore, lastChild, childBefore, stepsBack, childFromLast, arrayItem}
 use Rattle.node.specs.Entry.{pairEnding, hashEntry}
 use Rattle.node.specs.Search.{stringIs, keyIs, searchBack, hashValue}
@@ -58,6 +60,18 @@ pub damaged :
     × (childBefore (row 1 0 0 1 0 0 ++ row 1 0 0 2 0 0) 1 ≡ none)
 unfolding childBefore placeAt recordAt existing nodeOf nodeNumbers
 damaged = (refl, refl, refl, refl, refl)
+
+-- a null with this tag
+abbrev nullWith : TagInfo → List ℕ
+nullWith t = nodeNumbers (record { kind = 1; extent = extent 0 0; tag = t; subtree = 1; list = noList; payload = both 0 0 })
+
+-- no tag only where all four of its numbers say so
+pub tags :
+    (tagAt (nullWith noTag) 0 ≡ none)
+    × (tagAt (nullWith (record { start = absent; end = absent; suffix = absent; len = 0 })) 0 ≡ some (record { start = absent; end = absent; suffix = absent; len = 0 }))
+    × (tagAt (nullWith (record { start = absent; end = 2; suffix = 3; len = 1 })) 0 ≡ some (record { start = absent; end = 2; suffix = 3; len = 1 }))
+unfolding tagAt isAbsent recordAt existing nodeOf nodeNumbers
+tags = (refl, refl, refl)
 
 -- from the last child back to the first and no further; a scalar has no children, nor has a missing record
 pub from-last :

@@ -3,7 +3,7 @@
 pub mod Chain
 -- members of a list by number
 pub mod Nth
--- when a record exists, and where its numbers stand
+-- when a record exists
 pub mod Record
 -- reading is the inverse of laying out
 pub mod RecordLaws
