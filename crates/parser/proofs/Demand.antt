@@ -48,7 +48,7 @@ use Rattle.parser.specs.Pick.{pick}
 use Rattle.parser.specs.Record.{absent, noTag, noList, pieceList, withList}
 use Rattle.parser.specs.Scalar.{spanLen, listAt, scalarPieces, suffixOf, tagInfo, resolvedBy, scalarNode}
 use Rattle.parser.specs.Collection.{awaitsValue, closes}
-use Rattle.parser.specs.Machine.{State, empty, Next, go, stop, Outcome, built, refused, rootDone, beforeRoot, withinDepth, withinRoom, completed, started, ended, closed, aliased, keeping}
+use Rattle.parser.specs.Machine.{State, empty, Next, go, stop, Outcome, built, refused, depthLimit, rootDone, beforeRoot, withinDepth, withinRoom, completed, started, ended, closed, aliased, keeping}
 use Rattle.parser.specs.Machine.{scalarAt, scalarKept, scalared, step, follow, ending, run, runAll}
 use Rattle.parser.specs.RunLaws.{stop-not-go, run-stopped, run-enough}
 use Rattle.parser.specs.EventRun.{reached, runEvents, malformed, EventsAsList}
@@ -309,7 +309,7 @@ start-no-8 : (text : List ℕ) (mapping : Bool) (index : ℕ) (tag : YamlTag) (s
 unfolding started beforeRoot withinDepth
 start-no-8 text mapping index tag st h =
     let a = gate-stop (rootDone st) 5 8 _ (λ z. omega arith) h in
-    let b = gate-stop (leb 64 (length (st .opens))) 6 8 _ (λ z. omega arith) (a .1) in
+    let b = gate-stop (leb depthLimit (length (st .opens))) 6 8 _ (λ z. omega arith) (a .1) in
     stop-not-go 8 _ (sym (b .1))
 
 end-no-8 : (text : List ℕ) (room : ℕ) (mapping : Bool) (index : ℕ) (os : List Open) (st : State) → closed text room mapping index os st ≡ stop 8 → ⊥

@@ -20,7 +20,7 @@ use Rattle.parser.specs.Pick.{pick}
 use Rattle.parser.specs.Record.{absent, noList, withList}
 use Rattle.parser.specs.Scalar.{ScalarAt, scalarNode}
 use Rattle.parser.specs.Collection.{closes, collectionOver, collectionNode}
-use Rattle.parser.specs.Machine.{State, Next, go, stop, built, refused, rootDone, beforeRoot, withinDepth, withinRoom}
+use Rattle.parser.specs.Machine.{State, Next, go, stop, built, refused, depthLimit, rootDone, beforeRoot, withinDepth, withinRoom}
 use Rattle.parser.specs.Machine.{completed, started, ended, closed, aliased, keeping, scalarKept, scalared, step, ending, follow}
 use Rattle.parser.specs.RunLaws.{stop-not-go}
 use Rattle.parser.specs.EventRun.{goOn, reached, runEvents}
@@ -41,7 +41,7 @@ past-root st n st′ e = gate (rootDone st) 5 n st′ e
 
 pub past-depth : (st : State) (n : Next) (st′ : State) → withinDepth st n ≡ go st′ → n ≡ go st′
 unfolding withinDepth
-past-depth st n st′ e = gate (leb 64 (length (st .opens))) 6 n st′ e .1
+past-depth st n st′ e = gate (leb depthLimit (length (st .opens))) 6 n st′ e .1
 
 pub past-room : (room : ℕ) (st : State) (n : Next) (st′ : State) → withinRoom room st n ≡ go st′ → (leb room (length (st .nodes)) ≡ false) × (n ≡ go st′)
 unfolding withinRoom
