@@ -156,6 +156,38 @@ depth = (refl, refl)
 pub piece-room : (pieceRoom 7 ≡ 1) × (pieceRoom 17_179_869_180 ≡ 4_294_967_294)
 piece-room = (refl, refl)
 
+-- ---- collections
+
+-- the record of a collection after two children
+abbrev ofTwo : ℕ → ℕ → ℕ → ℕ → Node
+ofTwo kind a e members = record { kind = kind; extent = extent a e; tag = noTag; subtree = 3; list = noList; payload = both members 0 }
+
+pub record Collections : Type 0 where
+  -- `{a}`: a mapping on its brace starts there, and ends past the closing one; `[a]` likewise
+  pub braces : building (123 ∷ 97 ∷ 125 ∷ []) (mapping 0 ++ alias 1 ++ alias 1 ++ mappingEnd 2) 36 0 ≡ built (aliasNode 1 ∷ aliasNode 1 ∷ ofTwo 8 0 3 1 ∷ []) []
+  pub brackets : building (91 ∷ 97 ∷ 93 ∷ []) (sequence 0 ++ alias 1 ++ alias 1 ++ sequenceEnd 2) 36 0 ≡ built (aliasNode 1 ∷ aliasNode 1 ∷ ofTwo 7 0 3 2 ∷ []) []
+  -- each on the other's mark: the end stays where its marker is
+  pub other-marks : building (97 ∷ 93 ∷ []) (mapping 0 ++ alias 0 ++ alias 0 ++ mappingEnd 1) 36 0 ≡ built (aliasNode 0 ∷ aliasNode 0 ∷ ofTwo 8 0 1 1 ∷ []) []
+  -- on no brace it starts at its first key, wherever its marker is; a sequence starts at its marker
+  pub first-key : building (97 ∷ 98 ∷ 99 ∷ []) (mapping 2 ++ alias 0 ++ alias 1 ++ mappingEnd 3) 36 0 ≡ built (aliasNode 0 ∷ aliasNode 1 ∷ ofTwo 8 0 3 1 ∷ []) []
+  pub first-item : building (97 ∷ 98 ∷ 99 ∷ []) (sequence 2 ++ alias 0 ++ alias 1 ++ sequenceEnd 3) 36 0 ≡ built (aliasNode 0 ∷ aliasNode 1 ∷ ofTwo 7 2 3 2 ∷ []) []
+  -- an end before the start: a length of 0
+  pub ends-before : building (97 ∷ 98 ∷ 99 ∷ []) (sequence 2 ++ alias 0 ++ alias 1 ++ sequenceEnd 1) 36 0 ≡ built (aliasNode 0 ∷ aliasNode 1 ∷ ofTwo 7 2 2 2 ∷ []) []
+
+pub collections : Collections
+unfolding building runAll run ending rootDone beforeRoot withinDepth withinRoom completed started ended aliased stepPast tagInfo closes collectionEnd
+    collectionStart members collectionOver collectionNode admission isAscii isUtf8 allSome byteOffset codes charsAfter firstChar charOf multiByte
+    encode encodeAll numberAt readTag readStartTag readBody readEvent
+collections =
+    record {
+      braces = refl;
+      brackets = refl;
+      other-marks = refl;
+      first-key = refl;
+      first-item = refl;
+      ends-before = refl;
+    }
+
 -- ---- lists
 
 pub record Lists : Type 0 where
