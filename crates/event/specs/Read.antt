@@ -2,7 +2,7 @@
 -- and the body's end, which nothing may cross. What the answers mean is said in `Meaning`, by the encodings, and proved in `ReadLaws`:
 -- an event is answered exactly where the encoding of a sound one stands. (E1; row 3, R3.)
 use Prim.Native.Nat.{ℕ, _+_, _-_}
-use mathlib.Core.Bool.{Bool, true, false}
+use mathlib.Core.Bool.{Bool, true, false, cond}
 use mathlib.Core.List.{List}
 use lib.Dec.{ltb, leb, eqb}
 use lib.ListN.{length, getD, take, drop}
@@ -35,24 +35,16 @@ partOf s p = take (p .len) (drop (p .at) s)
 
 -- ---- strings
 
-abbrev pub pickText : Bool → Text → Text → Text
-pickText true a b = a
-pickText false a b = b
-
 -- the string at a place, before the end e: its length in two bytes, then as many of UTF-8
 unfoldable pub readString : List ℕ → ℕ → ℕ → Text
 readString s i e =
-    pickText (leb (i + 2) e)
-    (pickText (leb (i + 2 + numberAt s i 2) e)
-    (pickText (isUtf8 (partOf s (part (i + 2) (numberAt s i 2)))) (text.Valid (part (i + 2) (numberAt s i 2))) text.Invalid)
+    cond (leb (i + 2) e)
+    (cond (leb (i + 2 + numberAt s i 2) e)
+    (cond (isUtf8 (partOf s (part (i + 2) (numberAt s i 2)))) (text.Valid (part (i + 2) (numberAt s i 2))) text.Invalid)
     text.Invalid)
     text.Invalid
 
 -- ---- YAML tags
-
-abbrev pub pickTag : Bool → TagRead → TagRead → TagRead
-pickTag true a b = a
-pickTag false a b = b
 
 abbrev pub withSuffix : Part → Text → TagRead
 withSuffix h (text.Valid x) = tag.Valid (Present h x) (x .at + x .len)
@@ -65,17 +57,13 @@ withHandle s e text.Invalid = tag.Invalid
 -- the YAML tag at a place, before the end e: byte 0 for none, or byte 1, handle, suffix
 unfoldable pub readTag : List ℕ → ℕ → ℕ → TagRead
 readTag s i e =
-    pickTag (ltb i e)
-    (pickTag (eqb (getD s i 0) 0) (tag.Valid Absent (i + 1))
-    (pickTag (eqb (getD s i 0) 1) (withHandle s e (readString s (i + 1) e)) tag.Invalid))
+    cond (ltb i e)
+    (cond (eqb (getD s i 0) 0) (tag.Valid Absent (i + 1))
+    (cond (eqb (getD s i 0) 1) (withHandle s e (readString s (i + 1) e)) tag.Invalid))
     tag.Invalid
 
-abbrev pub pickStart : Bool → StartTag → StartTag → StartTag
-pickStart true a b = a
-pickStart false a b = b
-
 abbrev pub wholeTag : ℕ → TagRead → StartTag
-wholeTag e (tag.Valid t n) = pickStart (eqb n e) (start.Valid t) start.Invalid
+wholeTag e (tag.Valid t n) = cond (eqb n e) (start.Valid t) start.Invalid
 wholeTag e tag.Invalid = start.Invalid
 
 -- the YAML tag from a place to the end e, nothing left over
@@ -84,21 +72,17 @@ readStartTag s i e = wholeTag e (readTag s i e)
 
 -- ---- bodies, from the byte after the marker index n to the end e
 
-abbrev pub pickEvent : Bool → Event → Event → Event
-pickEvent true a b = a
-pickEvent false a b = b
-
 -- with column, style and empty span read: the value is what the YAML tag leaves
 abbrev pub withValue : List ℕ → ℕ → ℕ → ℕ → Bool → ℕ → TagRead → Event
 withValue s n column style empty e (tag.Valid t v) =
-    pickEvent (isUtf8 (partOf s (part v (e - v)))) (Scalar n column style empty t (part v (e - v)) e) Malformed
+    cond (isUtf8 (partOf s (part v (e - v)))) (Scalar n column style empty t (part v (e - v)) e) Malformed
 withValue s n column style empty e tag.Invalid = Malformed
 
 unfoldable pub readScalar : List ℕ → ℕ → ℕ → ℕ → Event
 readScalar s n i e =
-    pickEvent (leb (i + 6) e)
-    (pickEvent (leb (getD s (i + 4) 0) 4)
-    (pickEvent (leb (getD s (i + 5) 0) 1)
+    cond (leb (i + 6) e)
+    (cond (leb (getD s (i + 4) 0) 4)
+    (cond (leb (getD s (i + 5) 0) 1)
     (withValue s n (numberAt s i 4) (getD s (i + 4) 0) (eqb (getD s (i + 5) 0) 1) e (readTag s (i + 6) e))
     Malformed)
     Malformed)
@@ -111,22 +95,22 @@ withStartTag f start.Invalid = Malformed
 -- by the event's tag byte
 unfoldable pub readBody : List ℕ → ℕ → ℕ → ℕ → ℕ → Event
 readBody s kind n i e =
-    pickEvent (eqb kind 5) (readScalar s n i e)
-    (pickEvent (eqb kind 1) (withStartTag (λ t. SequenceStart n t e) (readStartTag s i e))
-    (pickEvent (eqb kind 3) (withStartTag (λ t. MappingStart n t e) (readStartTag s i e))
-    (pickEvent (ltb i e) Malformed
-    (pickEvent (eqb kind 2) (SequenceEnd n e)
-    (pickEvent (eqb kind 4) (MappingEnd n e)
-    (pickEvent (eqb kind 6) (Alias n e) Malformed))))))
+    cond (eqb kind 5) (readScalar s n i e)
+    (cond (eqb kind 1) (withStartTag (λ t. SequenceStart n t e) (readStartTag s i e))
+    (cond (eqb kind 3) (withStartTag (λ t. MappingStart n t e) (readStartTag s i e))
+    (cond (ltb i e) Malformed
+    (cond (eqb kind 2) (SequenceEnd n e)
+    (cond (eqb kind 4) (MappingEnd n e)
+    (cond (eqb kind 6) (Alias n e) Malformed))))))
 
 -- ---- the frame
 
 -- the event at a place: a tag byte, the body's length in two bytes, a body of at least the marker index
 unfoldable pub readEvent : List ℕ → ℕ → Event
 readEvent s i =
-    pickEvent (leb (i + 3) (length s))
-    (pickEvent (leb (i + 3 + numberAt s (i + 1) 2) (length s))
-    (pickEvent (leb 4 (numberAt s (i + 1) 2))
+    cond (leb (i + 3) (length s))
+    (cond (leb (i + 3 + numberAt s (i + 1) 2) (length s))
+    (cond (leb 4 (numberAt s (i + 1) 2))
     (readBody s (getD s i 0) (numberAt s (i + 3) 4) (i + 3 + 4) (i + 3 + numberAt s (i + 1) 2))
     Malformed)
     Malformed)

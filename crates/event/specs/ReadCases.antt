@@ -1,6 +1,6 @@
 -- The definitions of `Read`, case by case, and that nothing they read ends past the body. Assumes nothing.
 use mathlib.Core.Path.{_≡_, refl, _∙_, subst}
-use mathlib.Core.Bool.{Bool, true, false}
+use mathlib.Core.Bool.{Bool, true, false, cond}
 use mathlib.Core.List.{List}
 use Prim.Native.Nat.{ℕ, _+_, _≤_, _<_}
 use native.Mathlib.Omega.{arith}
@@ -9,7 +9,7 @@ use lib.Dec.{ltb, leb, eqb}
 use lib.ListN.{length, getD}
 use Rattle.text.specs.Utf8.{isUtf8}
 use Rattle.event.specs.Number.{numberAt}
-use Rattle.event.specs.Read.{part, partOf, pickText, pickTag, pickStart, pickEvent, readString, withSuffix, withHandle, readTag, withValue, readScalar, readBody, readEvent}
+use Rattle.event.specs.Read.{part, partOf, readString, withSuffix, withHandle, readTag, withValue, readScalar, readBody, readEvent}
 use Rattle.event.specs.declared.string.Part.{Part}
 use Rattle.event.specs.declared.string.Text.{Text}
 use Rattle.event.specs.declared.string.Text.the-variants as text
@@ -33,7 +33,7 @@ module _ (s : List ℕ) (i e : ℕ) where
   string-past h k = rw (le-leb (i + 2) e h, lt-leb (i + 2 + numberAt s i 2) e k)
 
   pub string-tested : (n : ℕ) (utf8 : Bool) → n ≡ numberAt s i 2 → i + 2 + n ≤ e → utf8 ≡ isUtf8 (partOf s (part (i + 2) n))
-      → readString s i e ≡ pickText utf8 (text.Valid (part (i + 2) n)) text.Invalid
+      → readString s i e ≡ cond utf8 (text.Valid (part (i + 2) n)) text.Invalid
   unfolding readString
   string-tested n utf8 m h t = rw (← m, le-leb (i + 2) e (omega arith), le-leb (i + 2 + n) e h, ← t)
 
@@ -103,22 +103,9 @@ module _ (s : List ℕ) (i : ℕ) where
 
 -- ---- what was read ends in time
 
-pub by-test : {A : Type 0} (pick : Bool → A → A → A) → ((x y : A) → pick true x y ≡ x) → ((x y : A) → pick false x y ≡ y)
-    → (t : Bool) (x y : A) (P : A → Type 0) → (t ≡ true → P x) → (t ≡ false → P y) → P (pick t x y)
-by-test pick on off true x y P f g = rw (on x y) (f refl)
-by-test pick on off false x y P f g = rw (off x y) (g refl)
-
-pub by-text : (t : Bool) (x y : Text) (P : Text → Type 0) → (t ≡ true → P x) → (t ≡ false → P y) → P (pickText t x y)
-by-text = by-test pickText (λ x y. refl) (λ x y. refl)
-
-pub by-tag : (t : Bool) (x y : TagRead) (P : TagRead → Type 0) → (t ≡ true → P x) → (t ≡ false → P y) → P (pickTag t x y)
-by-tag = by-test pickTag (λ x y. refl) (λ x y. refl)
-
-pub by-start : (t : Bool) (x y : StartTag) (P : StartTag → Type 0) → (t ≡ true → P x) → (t ≡ false → P y) → P (pickStart t x y)
-by-start = by-test pickStart (λ x y. refl) (λ x y. refl)
-
-pub by-event : (t : Bool) (x y : Event) (P : Event → Type 0) → (t ≡ true → P x) → (t ≡ false → P y) → P (pickEvent t x y)
-by-event = by-test pickEvent (λ x y. refl) (λ x y. refl)
+pub by-test : {A : Type 0} (t : Bool) (x y : A) (P : A → Type 0) → (t ≡ true → P x) → (t ≡ false → P y) → P (cond t x y)
+by-test true x y P f g = f refl
+by-test false x y P f g = g refl
 
 -- a string ends at the end e or before
 abbrev pub StringEnds : ℕ → Text → Type 0
@@ -128,9 +115,9 @@ StringEnds e text.Invalid = Unit {0}
 pub string-ends : (s : List ℕ) (i e : ℕ) → StringEnds e (readString s i e)
 unfolding readString
 string-ends s i e =
-    by-text (leb (i + 2) e) _ _ (StringEnds e)
-    (λ t. by-text (leb (i + 2 + numberAt s i 2) e) _ _ (StringEnds e)
-    (λ u. by-text (isUtf8 (partOf s (part (i + 2) (numberAt s i 2)))) _ _ (StringEnds e) (λ v. leb-true _ _ u) (λ v. tt))
+    by-test (leb (i + 2) e) _ _ (StringEnds e)
+    (λ t. by-test (leb (i + 2 + numberAt s i 2) e) _ _ (StringEnds e)
+    (λ u. by-test (isUtf8 (partOf s (part (i + 2) (numberAt s i 2)))) _ _ (StringEnds e) (λ v. leb-true _ _ u) (λ v. tt))
     (λ u. tt))
     (λ t. tt)
 
@@ -145,9 +132,9 @@ TagEnds e tag.Invalid = Unit {0}
 pub tag-ends : (s : List ℕ) (i e : ℕ) → TagEnds e (readTag s i e)
 unfolding readTag
 tag-ends s i e =
-    by-tag (ltb i e) _ _ (TagEnds e)
-    (λ t. by-tag (eqb (getD s i 0) 0) _ _ (TagEnds e) (λ u. let h = ltb-true i e t in omega arith)
-    (λ u. by-tag (eqb (getD s i 0) 1) _ _ (TagEnds e) (λ v. handle (readString s (i + 1) e)) (λ v. tt)))
+    by-test (ltb i e) _ _ (TagEnds e)
+    (λ t. by-test (eqb (getD s i 0) 0) _ _ (TagEnds e) (λ u. let h = ltb-true i e t in omega arith)
+    (λ u. by-test (eqb (getD s i 0) 1) _ _ (TagEnds e) (λ v. handle (readString s (i + 1) e)) (λ v. tt)))
     (λ t. tt)
   where
     suffix : (h : Part) (r : Text) → StringEnds e r → TagEnds e (withSuffix h r)

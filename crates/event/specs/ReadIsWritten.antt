@@ -1,7 +1,7 @@
 -- What is read was written: where the reader answers an event, the encoding of that event stands. Nothing malformed gets through.
 -- `ReadLaws` has what callers go by. Assumes nothing.
 use mathlib.Core.Path.{_≡_, refl, sym, _∙_, ap}
-use mathlib.Core.Bool.{Bool, true, false}
+use mathlib.Core.Bool.{Bool, true, false, cond}
 use mathlib.Core.List.{List, [], _∷_, _++_, append-assoc}
 use mathlib.Core.Logic.{_⊎_, inl, inr}
 use Prim.Native.Nat.{ℕ, _+_, _-_, _≤_, _<_}
@@ -16,8 +16,8 @@ use Rattle.text.specs.Utf8Laws.{utf8-sound}
 use Rattle.event.specs.Number.{highFirst, numbersIn, numberAt, Bytes}
 use Rattle.event.specs.NumberLaws.{number-fits, number-written}
 use Rattle.event.specs.Encode.{Tag, untagged, tagged, YamlEvent, sequenceStart, sequenceEnd, mappingStart, mappingEnd, scalar, alias, encodeString, encodeTag, encodeFlag, tagByte, markerIndex, encodeRest, encodeBody, encode, SoundString, SoundTag, SoundRest}
-use Rattle.event.specs.Read.{part, partOf, pickEvent, withSuffix, withHandle, withValue, wholeTag, withStartTag, readString, readTag, readStartTag, readScalar, readBody, readEvent}
-use Rattle.event.specs.ReadCases.{by-text, by-tag, by-start, by-event}
+use Rattle.event.specs.Read.{part, partOf, withSuffix, withHandle, withValue, wholeTag, withStartTag, readString, readTag, readStartTag, readScalar, readBody, readEvent}
+use Rattle.event.specs.ReadCases.{by-test}
 use Rattle.event.specs.EncodeLaws.{tag-length, rest-length, body-length, event-length}
 use Rattle.event.specs.Meaning.{placedTag, placedBody, placed, Answers}
 use Rattle.event.specs.declared.string.Part.{Part}
@@ -76,9 +76,9 @@ module _ (s : List ℕ) (bytes : Bytes s) (e : ℕ) (inside : e ≤ length s) wh
   pub string-found : (i : ℕ) → StringFound s i e (readString s i e)
   unfolding readString
   string-found i =
-      by-text (leb (i + 2) e) _ _ (StringFound s i e)
-      (λ t. by-text (leb (i + 2 + numberAt s i 2) e) _ _ (StringFound s i e)
-      (λ u. by-text (isUtf8 (partOf s (part (i + 2) (numberAt s i 2)))) _ _ (StringFound s i e) (found-string i (leb-true _ _ u)) (λ v. tt))
+      by-test (leb (i + 2) e) _ _ (StringFound s i e)
+      (λ t. by-test (leb (i + 2 + numberAt s i 2) e) _ _ (StringFound s i e)
+      (λ u. by-test (isUtf8 (partOf s (part (i + 2) (numberAt s i 2)))) _ _ (StringFound s i e) (found-string i (leb-true _ _ u)) (λ v. tt))
       (λ u. tt))
       (λ t. tt)
 
@@ -141,9 +141,9 @@ module _ (s : List ℕ) (bytes : Bytes s) (e : ℕ) (inside : e ≤ length s) wh
   pub tag-found : (i : ℕ) → TagFound s i e (readTag s i e)
   unfolding readTag
   tag-found i =
-      by-tag (ltb i e) _ _ (TagFound s i e)
-      (λ t. by-tag (eqb (getD s i 0) 0) _ _ (TagFound s i e) (λ u. found-absent i (ltb-true i e t) (eqb-true _ _ u))
-      (λ u. by-tag (eqb (getD s i 0) 1) _ _ (TagFound s i e)
+      by-test (ltb i e) _ _ (TagFound s i e)
+      (λ t. by-test (eqb (getD s i 0) 0) _ _ (TagFound s i e) (λ u. found-absent i (ltb-true i e t) (eqb-true _ _ u))
+      (λ u. by-test (eqb (getD s i 0) 1) _ _ (TagFound s i e)
       (λ v. handle (ltb-true i e t) (eqb-true _ _ v) (readString s (i + 1) e) (string-found s bytes e inside (i + 1)))
       (λ v. tt)))
       (λ t. tt)
@@ -162,7 +162,7 @@ module _ (s : List ℕ) (bytes : Bytes s) (e : ℕ) (inside : e ≤ length s) wh
   start-tag-found i = whole (readTag s i e) (tag-found i)
     where
       whole : (r : TagRead) → TagFound s i e r → StartFound s i e (wholeTag e r)
-      whole (tag.Valid t n) p = by-start (eqb n e) _ _ (StartFound s i e) (λ u. rw (eqb-true n e u) at p) (λ u. tt)
+      whole (tag.Valid t n) p = by-test (eqb n e) _ _ (StartFound s i e) (λ u. rw (eqb-true n e u) at p) (λ u. tt)
       whole tag.Invalid p = tt
 
 -- ---- bodies
@@ -218,9 +218,9 @@ module _ (s : List ℕ) (bytes : Bytes s) (e : ℕ) (inside : e ≤ length s) wh
   scalar-found : (m i : ℕ) → BodyFound s 5 m i e (readScalar s m i e)
   unfolding readScalar
   scalar-found m i =
-      by-event (leb (i + 6) e) _ _ (BodyFound s 5 m i e)
-      (λ t. by-event (leb (getD s (i + 4) 0) 4) _ _ (BodyFound s 5 m i e)
-      (λ u. by-event (leb (getD s (i + 5) 0) 1) _ _ (BodyFound s 5 m i e)
+      by-test (leb (i + 6) e) _ _ (BodyFound s 5 m i e)
+      (λ t. by-test (leb (getD s (i + 4) 0) 4) _ _ (BodyFound s 5 m i e)
+      (λ u. by-test (leb (getD s (i + 5) 0) 1) _ _ (BodyFound s 5 m i e)
       (λ v. value (leb-true (i + 6) e t) (leb-true _ _ u) (leb-true _ _ v) (readTag s (i + 6) e) (tag-found s bytes e inside (i + 6)))
       (λ v. inl refl))
       (λ u. inl refl))
@@ -229,7 +229,7 @@ module _ (s : List ℕ) (bytes : Bytes s) (e : ℕ) (inside : e ≤ length s) wh
       value : i + 6 ≤ e → getD s (i + 4) 0 ≤ 4 → getD s (i + 5) 0 ≤ 1 → (r : TagRead) → TagFound s (i + 6) e r
           → BodyFound s 5 m i e (withValue s m (numberAt s i 4) (getD s (i + 4) 0) (eqb (getD s (i + 5) 0) 1) e r)
       value l known told (tag.Valid t v) p =
-          by-event (isUtf8 (partOf s (part v (e - v)))) _ _ (BodyFound s 5 m i e) (λ u. inr (found-scalar m i t v l known told p u)) (λ u. inl refl)
+          by-test (isUtf8 (partOf s (part v (e - v)))) _ _ (BodyFound s 5 m i e) (λ u. inr (found-scalar m i t v l known told p u)) (λ u. inl refl)
       value l known told tag.Invalid p = inl refl
 
   -- a start, whose body is a YAML tag
@@ -272,21 +272,21 @@ module _ (s : List ℕ) (bytes : Bytes s) (e : ℕ) (inside : e ≤ length s) wh
   pub body-found : (kind m i : ℕ) → i ≤ e → BodyFound s kind m i e (readBody s kind m i e)
   unfolding readBody encodeRest
   body-found kind m i h =
-      by-event (eqb kind 5) _ _ (BodyFound s kind m i e) (λ t. rw (eqb-true kind 5 t) (scalar-found m i))
-      (λ t5. by-event (eqb kind 1) _ _ (BodyFound s kind m i e)
+      by-test (eqb kind 5) _ _ (BodyFound s kind m i e) (λ t. rw (eqb-true kind 5 t) (scalar-found m i))
+      (λ t5. by-test (eqb kind 1) _ _ (BodyFound s kind m i e)
       (λ t. start-found kind m i (sequenceStart m) (λ x. SequenceStart m x e) (λ x. eqb-true kind 1 t) (λ x. refl) (λ x y. y) (λ x. refl) (λ x. refl))
-      (λ t1. by-event (eqb kind 3) _ _ (BodyFound s kind m i e)
+      (λ t1. by-test (eqb kind 3) _ _ (BodyFound s kind m i e)
       (λ t. start-found kind m i (mappingStart m) (λ x. MappingStart m x e) (λ x. eqb-true kind 3 t) (λ x. refl) (λ x y. y) (λ x. refl) (λ x. refl))
-      (λ t3. by-event (ltb i e) _ _ (BodyFound s kind m i e) (λ t. inl refl)
+      (λ t3. by-test (ltb i e) _ _ (BodyFound s kind m i e) (λ t. inl refl)
       (λ t. bare (let k = ltb-false i e t in omega arith)))))
     where
       bare : e ≡ i
           → BodyFound s kind m i e
-          (pickEvent (eqb kind 2) (SequenceEnd m e) (pickEvent (eqb kind 4) (MappingEnd m e) (pickEvent (eqb kind 6) (Alias m e) Malformed)))
+          (cond (eqb kind 2) (SequenceEnd m e) (cond (eqb kind 4) (MappingEnd m e) (cond (eqb kind 6) (Alias m e) Malformed)))
       bare z =
-          by-event (eqb kind 2) _ _ (BodyFound s kind m i e) (λ t. bare-found kind m i (sequenceEnd m) (eqb-true kind 2 t) refl tt refl z)
-          (λ t2. by-event (eqb kind 4) _ _ (BodyFound s kind m i e) (λ t. bare-found kind m i (mappingEnd m) (eqb-true kind 4 t) refl tt refl z)
-          (λ t4. by-event (eqb kind 6) _ _ (BodyFound s kind m i e) (λ t. bare-found kind m i (alias m) (eqb-true kind 6 t) refl tt refl z) (λ t6. inl refl)))
+          by-test (eqb kind 2) _ _ (BodyFound s kind m i e) (λ t. bare-found kind m i (sequenceEnd m) (eqb-true kind 2 t) refl tt refl z)
+          (λ t2. by-test (eqb kind 4) _ _ (BodyFound s kind m i e) (λ t. bare-found kind m i (mappingEnd m) (eqb-true kind 4 t) refl tt refl z)
+          (λ t4. by-test (eqb kind 6) _ _ (BodyFound s kind m i e) (λ t. bare-found kind m i (alias m) (eqb-true kind 6 t) refl tt refl z) (λ t6. inl refl)))
 
 -- ---- events
 
@@ -331,9 +331,9 @@ framed-found s bytes i r h k p =
 pub event-found : (s : List ℕ) → Bytes s → (i : ℕ) → (readEvent s i ≡ Malformed) ⊎ Answers s i (readEvent s i)
 unfolding readEvent
 event-found s bytes i =
-    by-event (leb (i + 3) (length s)) _ _ P
-    (λ t. by-event (leb (i + 3 + numberAt s (i + 1) 2) (length s)) _ _ P
-    (λ u. by-event (leb 4 (numberAt s (i + 1) 2)) _ _ P (λ v. body (leb-true _ _ u) (leb-true _ _ v)) (λ v. inl refl))
+    by-test (leb (i + 3) (length s)) _ _ P
+    (λ t. by-test (leb (i + 3 + numberAt s (i + 1) 2) (length s)) _ _ P
+    (λ u. by-test (leb 4 (numberAt s (i + 1) 2)) _ _ P (λ v. body (leb-true _ _ u) (leb-true _ _ v)) (λ v. inl refl))
     (λ u. inl refl))
     (λ t. inl refl)
   where

@@ -1,6 +1,6 @@
 -- A block, line by line: how far it reaches from a line's start, told from the start of the next. Assumes nothing.
 use mathlib.Core.Path.{_≡_, refl, sym, _∙_, ap}
-use mathlib.Core.Bool.{Bool, true, false}
+use mathlib.Core.Bool.{Bool, true, false, cond}
 use mathlib.Core.List.{List, [], _∷_, _++_}
 use Prim.Native.Nat.{ℕ, zero, suc, _+_, _≤_, _<_}
 use native.Mathlib.Nat.{zero-add, add-assoc}
@@ -11,7 +11,7 @@ use lib.ListN.{length, drop}
 use Rattle.text.specs.Utf8.{Utf8, encode, encodeAll, codes}
 use Rattle.text.specs.Boundary.{Boundary}
 use Rattle.text.specs.Utf8Laws.{boundary-start}
-use Rattle.measure.specs.Run.{pickLength, newline, bytesOf, whiteSpaceRun}
+use Rattle.measure.specs.Run.{newline, bytesOf, whiteSpaceRun}
 use Rattle.measure.specs.Block.{lines, firstOf, isBlank, trimmedLen, endsBlock, pastLine, laterReach, blockReach, blockLen, lineOf}
 use Rattle.measure.specs.Places.{Onward, onward, bytes-left, bytes-cons, bytes-append}
 use Rattle.measure.specs.declared.block.Line.{Line}
@@ -107,7 +107,7 @@ unfolding trimmedLen
 trimmed-within [] = omega arith
 trimmed-within (c ∷ l) = go (isBlank (c ∷ l)) (trimmed-within l)
   where
-    go : (t : Bool) → trimmedLen l ≤ bytesOf l → pickLength t 0 (length (encode c) + trimmedLen l) ≤ bytesOf (c ∷ l)
+    go : (t : Bool) → trimmedLen l ≤ bytesOf l → cond t 0 (length (encode c) + trimmedLen l) ≤ bytesOf (c ∷ l)
     go true h = omega arith
     go false h = let e = bytes-cons c l in omega arith
 
@@ -152,7 +152,7 @@ module _ {s : List ℕ} {column at end : ℕ} {m : Line} (u : Utf8 s) (r : Measu
   after = next-line u (r .place h)
 
   -- what the line decides
-  decides : (t : Bool) → endsBlock column l ≡ t → reached at end (pickLength t 0 (pastLine l (laterReach column (after .later)))) ≡ blockLen s column
+  decides : (t : Bool) → endsBlock column l ≡ t → reached at end (cond t 0 (pastLine l (laterReach column (after .later)))) ≡ blockLen s column
   unfolding laterReach
   decides t f = sym (ap (λ (ls : List (List ℕ)). reached at end (laterReach column ls)) (after .are) ∙ rw f) ∙ r .same
 

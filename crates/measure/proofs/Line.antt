@@ -1,7 +1,7 @@
 -- A line, character by character: what was counted so far, and the line of what is left. Assumes nothing.
 use mathlib.Core.Path.{_≡_, refl, sym, _∙_, ap, subst}
 use mathlib.Core.Logic.{_⊎_, inl, inr}
-use mathlib.Core.Bool.{Bool, true, false}
+use mathlib.Core.Bool.{Bool, true, false, cond}
 use mathlib.Core.List.{List, [], _∷_}
 use Prim.Native.Nat.{ℕ, zero, suc, _+_, _-_, _≤_, _<_}
 use native.Mathlib.Nat.{zero-add, add-zero, add-assoc}
@@ -14,7 +14,7 @@ use Rattle.text.specs.Boundary.{Boundary}
 use Rattle.text.specs.WhiteSpace.{whiteSpace, isIn, isWhiteSpace}
 use Rattle.text.specs.Utf8Laws.{Char-at, char-at, boundary-start}
 use Rattle.text.specs.declared.utf8.Char.{Char}
-use Rattle.measure.specs.Run.{pickLength, newline, bytesOf, whiteSpaceRun, run-goes-on, run-stops}
+use Rattle.measure.specs.Run.{newline, bytesOf, whiteSpaceRun, run-goes-on, run-stops}
 use Rattle.measure.specs.Block.{before, lines, firstOf, isBlank, trimmedLen, lineOf}
 use Rattle.measure.specs.Places.{bytes-cons, encode-takes}
 use Rattle.measure.specs.declared.block.Line.{Line}
@@ -81,13 +81,13 @@ told lead trimmed len = record { lead = lead; trimmed = trimmed; len = len }
 -- with l left of the line
 unfoldable pub counted : ℕ → ℕ → ℕ → List ℕ → Line
 counted lead trimmed len l =
-    told (pickLength (eqb trimmed 0) (lead + bytesOf (whiteSpaceRun l)) lead) (reached len trimmed (trimmedLen l)) (len + bytesOf l)
+    told (cond (eqb trimmed 0) (lead + bytesOf (whiteSpaceRun l)) lead) (reached len trimmed (trimmedLen l)) (len + bytesOf l)
 
 same-told : {a b c d e f : ℕ} → a ≡ d → b ≡ e → c ≡ f → told a b c ≡ told d e f
 same-told p q r = rw (p, q, r)
 
 -- leading bytes that a test leaves alone
-alone : (t : Bool) (lead : ℕ) → pickLength t (lead + 0) lead ≡ lead
+alone : (t : Bool) (lead : ℕ) → cond t (lead + 0) lead ≡ lead
 alone true lead = add-zero lead
 alone false lead = refl
 

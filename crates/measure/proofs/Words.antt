@@ -1,6 +1,6 @@
 -- Letters as characters: none is white space but a blank before a word, so that a line and a match go on over them. Assumes nothing.
 use mathlib.Core.Path.{_≡_, refl, sym, ap, _∙_, subst}
-use mathlib.Core.Bool.{Bool, true, false, _&&_, not}
+use mathlib.Core.Bool.{Bool, true, false, _&&_, not, cond}
 use mathlib.Core.Logic.{_⊎_, inl, inr, ⊎-elim}
 use mathlib.Core.List.{List}
 use Prim.Native.Nat.{ℕ, suc, _+_, _-_, _≤_, _<_}
@@ -11,7 +11,7 @@ use lib.ListN.{length, drop, getD}
 use lib.Seq.{drop-cons, drop-drop, getD-drop}
 use Rattle.text.specs.Class.{inside, isContinuation}
 use Rattle.text.specs.WhiteSpace.{whiteSpace, isIn, isWhiteSpace}
-use Rattle.text.specs.Utf8.{pickChar, character, noChar, codeOf2, codeOf3, codeOf4, twoBytes, threeBytes, fourBytes, multiByte, charOf, firstChar}
+use Rattle.text.specs.Utf8.{character, noChar, codeOf2, codeOf3, codeOf4, twoBytes, threeBytes, fourBytes, multiByte, charOf, firstChar}
 use Rattle.text.specs.Utf8Laws.{Char-at}
 use Rattle.text.specs.declared.utf8.Char.{Char}
 use Rattle.measure.specs.Letters.{WordByte, AfterE2, LetterByte, Letters}
@@ -57,7 +57,7 @@ dark c (far a) =
 abbrev pub Solid : ℕ → ℕ → ℕ → Type 0
 Solid a b c = (32 < a) × (a ≡ 194 → ⊥) × (a ≡ 225 → ⊥) × ((a ≡ 226 → ⊥) ⊎ AfterE2 b c) × ((a ≡ 227 → ⊥) ⊎ ((b ≡ 128 → ⊥) ⊎ (c ≡ 128 → ⊥)))
 
-some-char : (t : Bool) (k : Char) → 1 ≤ pickChar t k noChar .len → (t ≡ true) × (pickChar t k noChar ≡ k)
+some-char : (t : Bool) (k : Char) → 1 ≤ cond t k noChar .len → (t ≡ true) × (cond t k noChar ≡ k)
 some-char true k h = (refl, refl)
 some-char false k h = absurd (omega arith)
 

@@ -2,18 +2,14 @@
 -- the first and not blank, has fewer bytes of leading white space than the column. What a line says is how far the block
 -- reaches from its start: 0 bytes where it and all later ones are blank.
 use Prim.Native.Nat.{ℕ, zero, suc, _+_}
-use mathlib.Core.Bool.{Bool, true, false, not, _&&_}
+use mathlib.Core.Bool.{Bool, true, false, not, _&&_, cond}
 use mathlib.Core.List.{List, [], _∷_}
 use lib.Dec.{eqb, ltb}
 use lib.ListN.{length}
 use Rattle.text.specs.Utf8.{encode, codes}
 use Rattle.text.specs.WhiteSpace.{isWhiteSpace}
-use Rattle.measure.specs.Run.{pickLength, newline, bytesOf, whiteSpaceRun}
+use Rattle.measure.specs.Run.{newline, bytesOf, whiteSpaceRun}
 use Rattle.measure.specs.declared.block.Line.{Line}
-
-abbrev pub pickLines : Bool → List (List ℕ) → List (List ℕ) → List (List ℕ)
-pickLines true a b = a
-pickLines false a b = b
 
 -- a character before the first of some lines
 abbrev pub before : ℕ → List (List ℕ) → List (List ℕ)
@@ -23,7 +19,7 @@ before c (l ∷ ls) = (c ∷ l) ∷ ls
 -- the lines, without their newlines (S7)
 unfoldable pub lines : List ℕ → List (List ℕ)
 lines [] = [] ∷ []
-lines (c ∷ cs) = pickLines (eqb c newline) ([] ∷ lines cs) (before c (lines cs))
+lines (c ∷ cs) = cond (eqb c newline) ([] ∷ lines cs) (before c (lines cs))
 
 -- nothing but white space, by code points (W1)
 unfoldable pub isBlank : List ℕ → Bool
@@ -33,7 +29,7 @@ isBlank (c ∷ cs) = isWhiteSpace c && isBlank cs
 -- the bytes of a line up to its last character that is no white space; 0 of a blank line
 unfoldable pub trimmedLen : List ℕ → ℕ
 trimmedLen [] = 0
-trimmedLen (c ∷ cs) = pickLength (isBlank (c ∷ cs)) 0 (length (encode c) + trimmedLen cs)
+trimmedLen (c ∷ cs) = cond (isBlank (c ∷ cs)) 0 (length (encode c) + trimmedLen cs)
 
 -- whether a line that is not the first ends the block: it is not blank and not indented up to the column (S7)
 unfoldable pub endsBlock : ℕ → List ℕ → Bool
@@ -47,7 +43,7 @@ pastLine l (suc n) = bytesOf l + 1 + suc n
 -- of lines after the first
 unfoldable pub laterReach : ℕ → List (List ℕ) → ℕ
 laterReach column [] = 0
-laterReach column (l ∷ ls) = pickLength (endsBlock column l) 0 (pastLine l (laterReach column ls))
+laterReach column (l ∷ ls) = cond (endsBlock column l) 0 (pastLine l (laterReach column ls))
 
 -- of all lines: the first is not held against the column
 unfoldable pub blockReach : ℕ → List (List ℕ) → ℕ

@@ -2,7 +2,7 @@
 -- bytes; and what was matched of a plain scalar, and the end of a block, stand at a boundary. A length that falls back to the
 -- value's may end anywhere. Assumes nothing.
 use mathlib.Core.Path.{_≡_, refl, sym, _∙_, ap, subst}
-use mathlib.Core.Bool.{Bool, true, false}
+use mathlib.Core.Bool.{Bool, true, false, cond}
 use mathlib.Core.List.{List, [], _∷_, _++_, append-assoc, append-nil}
 use Prim.Native.Nat.{ℕ, zero, suc, _+_, _-_, _≤_, _<_}
 use native.Mathlib.Omega.{arith}
@@ -15,10 +15,10 @@ use Rattle.text.specs.Boundary.{Boundary}
 use Rattle.text.specs.Bytes.{below-inside}
 use Rattle.text.specs.Utf8Laws.{char-at, first-char-ascii}
 use Rattle.text.specs.declared.utf8.Char.{Char}
-use Rattle.measure.specs.Run.{pickLength, newline, bytesOf, whiteSpaceRun, afterRun, run-split}
-use Rattle.measure.specs.Plain.{Reach, unmatched, reaches, pickReach, pastEqual, pastRun, beginsWith, takesRun, plainReach}
-use Rattle.measure.specs.Quoted.{pickQuoted, further, passedTogether, toClosing, quotedLen}
-use Rattle.measure.specs.Block.{before, pickLines, lines, isBlank, trimmedLen, endsBlock, pastLine, laterReach, blockReach, blockLen}
+use Rattle.measure.specs.Run.{newline, bytesOf, whiteSpaceRun, afterRun, run-split}
+use Rattle.measure.specs.Plain.{Reach, unmatched, reaches, pastEqual, pastRun, beginsWith, takesRun, plainReach}
+use Rattle.measure.specs.Quoted.{further, passedTogether, toClosing, quotedLen}
+use Rattle.measure.specs.Block.{before, lines, isBlank, trimmedLen, endsBlock, pastLine, laterReach, blockReach, blockLen}
 use Rattle.measure.specs.Scalar.{scalarLen}
 use Rattle.measure.specs.Places.{prefix-boundary, bytes-append}
 use Rattle.measure.specs.declared.quoted.Quoted.{Quoted}
@@ -61,13 +61,13 @@ unfolding toClosing
 to-closing quote [] = tt
 to-closing quote (a ∷ []) = go (eqb a quote) refl
   where
-    go : (t : Bool) → eqb a quote ≡ t → Closing (a ∷ []) quote (pickQuoted t (Found 1) Missing)
+    go : (t : Bool) → eqb a quote ≡ t → Closing (a ∷ []) quote (cond t (Found 1) Missing)
     go true e = closes-here a [] quote e
     go false e = tt
 to-closing quote (a ∷ b ∷ s) = go (passedTogether quote a b) (eqb a quote) refl (to-closing quote s) (to-closing quote (b ∷ s))
   where
     go : (x y : Bool) → eqb a quote ≡ y → Closing s quote (toClosing quote s) → Closing (b ∷ s) quote (toClosing quote (b ∷ s))
-        → Closing (a ∷ b ∷ s) quote (pickQuoted x (further 2 (toClosing quote s)) (pickQuoted y (Found 1) (further 1 (toClosing quote (b ∷ s)))))
+        → Closing (a ∷ b ∷ s) quote (cond x (further 2 (toClosing quote s)) (cond y (Found 1) (further 1 (toClosing quote (b ∷ s)))))
     go true y e k m = closing-later (a ∷ b ∷ []) s quote (toClosing quote s) k
     go false true e k m = closes-here a (b ∷ s) quote e
     go false false e k m = closing-later (a ∷ []) (b ∷ s) quote (toClosing quote (b ∷ s)) m
@@ -88,7 +88,7 @@ unfolding quotedLen
 enclosing [] quote = tt
 enclosing (a ∷ s) quote = go (eqb a quote) refl (toClosing quote s) (to-closing quote s)
   where
-    go : (t : Bool) → eqb a quote ≡ t → (r : Quoted) → Closing s quote r → Enclosing (a ∷ s) quote (pickQuoted t (further 1 r) Missing)
+    go : (t : Bool) → eqb a quote ≡ t → (r : Quoted) → Closing s quote r → Enclosing (a ∷ s) quote (cond t (further 1 r) Missing)
     go false e r k = tt
     go true e Missing k = tt
     go true e (Found n) k =
@@ -170,16 +170,16 @@ unfolding plainReach beginsWith
 plain-reaching [] cs = whole-none cs
 plain-reaching (v ∷ vs) cs = go (takesRun v cs) (plain-reaching vs)
   where
-    equal : ((ds : List ℕ) → Reaching ds (plainReach vs ds)) → (ds : List ℕ) → Reaching ds (pickReach (beginsWith v ds) (pastEqual (length (encode v)) (plainReach vs (drop 1 ds))) unmatched)
+    equal : ((ds : List ℕ) → Reaching ds (plainReach vs ds)) → (ds : List ℕ) → Reaching ds (cond (beginsWith v ds) (pastEqual (length (encode v)) (plainReach vs (drop 1 ds))) unmatched)
     equal r [] = tt
     equal r (d ∷ ds) = by (eqb v d) refl
       where
-        by : (t : Bool) → eqb v d ≡ t → Reaching (d ∷ ds) (pickReach t (pastEqual (length (encode v)) (plainReach vs ds)) unmatched)
+        by : (t : Bool) → eqb v d ≡ t → Reaching (d ∷ ds) (cond t (pastEqual (length (encode v)) (plainReach vs ds)) unmatched)
         by true e = subst (λ (x : ℕ). Reaching (x ∷ ds) (pastEqual (length (encode v)) (plainReach vs ds))) (eqb-true v d e) (reaching-equal v ds (plainReach vs ds) (r ds))
         by false e = tt
 
     go : (t : Bool) → ((ds : List ℕ) → Reaching ds (plainReach vs ds))
-        → Reaching cs (pickReach t (pastRun (bytesOf (whiteSpaceRun cs)) (plainReach vs (afterRun cs))) (pickReach (beginsWith v cs) (pastEqual (length (encode v)) (plainReach vs (drop 1 cs))) unmatched))
+        → Reaching cs (cond t (pastRun (bytesOf (whiteSpaceRun cs)) (plainReach vs (afterRun cs))) (cond (beginsWith v cs) (pastEqual (length (encode v)) (plainReach vs (drop 1 cs))) unmatched))
     go true r =
         subst (λ (l : List ℕ). Reaching l (pastRun (bytesOf (whiteSpaceRun cs)) (plainReach vs (afterRun cs)))) (sym (run-split cs))
         (reaching-run (whiteSpaceRun cs) (afterRun cs) (plainReach vs (afterRun cs)) (r (afterRun cs)))
@@ -202,7 +202,7 @@ unfolding lines
 lines-some [] = omega arith
 lines-some (c ∷ cs) = go (eqb c newline) (lines cs)
   where
-    go : (t : Bool) (ls : List (List ℕ)) → 1 ≤ length (pickLines t ([] ∷ ls) (before c ls))
+    go : (t : Bool) (ls : List (List ℕ)) → 1 ≤ length (cond t ([] ∷ ls) (before c ls))
     go true ls = omega arith
     go false [] = omega arith
     go false (l ∷ ls) = omega arith
@@ -213,7 +213,7 @@ unfolding lines joined
 lines-joined [] = refl
 lines-joined (c ∷ cs) = go (eqb c newline) refl (lines cs) (lines-some cs) (lines-joined cs)
   where
-    go : (t : Bool) → eqb c newline ≡ t → (ls : List (List ℕ)) → 1 ≤ length ls → joined ls ≡ cs → joined (pickLines t ([] ∷ ls) (before c ls)) ≡ c ∷ cs
+    go : (t : Bool) → eqb c newline ≡ t → (ls : List (List ℕ)) → 1 ≤ length ls → joined ls ≡ cs → joined (cond t ([] ∷ ls) (before c ls)) ≡ c ∷ cs
     go t e [] h r = absurd (omega arith)
     go true e (l ∷ ls) h r = ap (λ (x : List ℕ). newline ∷ x) r ∙ ap (λ (x : ℕ). x ∷ cs) (sym (eqb-true c newline e))
     go false e (l ∷ []) h r = ap (λ (x : List ℕ). c ∷ x) r
@@ -224,7 +224,7 @@ unfolding trimmedLen
 whole-trimmed [] = whole-none []
 whole-trimmed (c ∷ l) = go (isBlank (c ∷ l)) (whole-trimmed l)
   where
-    go : (t : Bool) → Whole l (trimmedLen l) → Whole (c ∷ l) (pickLength t 0 (length (encode c) + trimmedLen l))
+    go : (t : Bool) → Whole l (trimmedLen l) → Whole (c ∷ l) (cond t 0 (length (encode c) + trimmedLen l))
     go true k = whole-none (c ∷ l)
     go false k = whole-cons c k
 
@@ -250,7 +250,7 @@ unfolding laterReach
 whole-lines column [] = whole-none (joined [])
 whole-lines column (l ∷ ls) = go (endsBlock column l) (whole-lines column ls)
   where
-    go : (t : Bool) → Whole (joined ls) (laterReach column ls) → Whole (joined (l ∷ ls)) (pickLength t 0 (pastLine l (laterReach column ls)))
+    go : (t : Bool) → Whole (joined ls) (laterReach column ls) → Whole (joined (l ∷ ls)) (cond t 0 (pastLine l (laterReach column ls)))
     go true k = whole-none (joined (l ∷ ls))
     go false k = whole-line l ls (laterReach column ls) k
 

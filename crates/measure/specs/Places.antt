@@ -1,14 +1,14 @@
 -- Places of a text by the characters before them. Where some characters that begin at a boundary end, a boundary stands again, and
 -- what follows are the other characters: so the measures count characters and answer bytes. Assumes nothing.
 use mathlib.Core.Path.{_≡_, sym, _∙_, ap, subst}
-use mathlib.Core.Bool.{Bool, true, false}
+use mathlib.Core.Bool.{Bool, true, false, cond}
 use mathlib.Core.List.{List, [], _∷_, _++_, append-assoc}
 use Prim.Native.Nat.{ℕ, _+_, _-_, _/_, _%_, _≤_}
 use native.Mathlib.Nat.{zero-add}
 use native.Mathlib.Omega.{arith}
 use lib.Dec.{ltb}
 use lib.ListN.{length, drop, length-append, length-drop}
-use Rattle.text.specs.Utf8.{ScalarValues, Utf8, encode, encodeAll, pickBytes, codes}
+use Rattle.text.specs.Utf8.{ScalarValues, Utf8, encode, encodeAll, codes}
 use Rattle.text.specs.Boundary.{Boundary}
 use Rattle.text.specs.Utf8Laws.{Place, place-at, place-back, place-boundary, scalars-back, codes-encode, codes-encodeAll, encodeAll-append, boundary-start, boundary-splits}
 use Rattle.measure.specs.Run.{bytesOf}
@@ -60,9 +60,9 @@ encode-takes c = go (ltb c 0x80) (ltb c 0x800) (ltb c 0x1_0000)
     go : (x y z : Bool)
         → 1
         ≤ length
-        (pickBytes x (c ∷ [])
-        (pickBytes y ((0xc0 + c / 64) ∷ (0x80 + c % 64) ∷ [])
-        (pickBytes z ((0xe0 + c / 4096) ∷ (0x80 + c / 64 % 64) ∷ (0x80 + c % 64) ∷ [])
+        (cond x (c ∷ [])
+        (cond y ((0xc0 + c / 64) ∷ (0x80 + c % 64) ∷ [])
+        (cond z ((0xe0 + c / 4096) ∷ (0x80 + c / 64 % 64) ∷ (0x80 + c % 64) ∷ [])
         ((0xf0 + c / 262144) ∷ (0x80 + c / 4096 % 64) ∷ (0x80 + c / 64 % 64) ∷ (0x80 + c % 64) ∷ []))))
     go true y z = omega arith
     go false true z = omega arith

@@ -1,7 +1,7 @@
 -- The plain measure (P3, S5). The value's characters are matched in turn with those of the rest. What a match says is how far the
 -- span reaches from here: 0 bytes where no later character is equal, so that the span ends after the last equal one.
 use Prim.Native.Nat.{ℕ, zero, suc, _+_}
-use mathlib.Core.Bool.{Bool, true, false, _&&_, _||_}
+use mathlib.Core.Bool.{Bool, true, false, _&&_, _||_, cond}
 use mathlib.Core.List.{List, [], _∷_}
 use lib.Dec.{eqb, ltb}
 use lib.ListN.{length, drop, getD}
@@ -20,10 +20,6 @@ pub data Reach : Type 0 where
   unmatched : Reach
   -- it does, and the last equal character ends so many bytes from here
   reaches : ℕ → Reach
-
-abbrev pub pickReach : Bool → Reach → Reach → Reach
-pickReach true a b = a
-pickReach false a b = b
 
 -- past an equal character of n bytes
 abbrev pub pastEqual : ℕ → Reach → Reach
@@ -49,8 +45,8 @@ takesRun c rest = isFold c && holdsNewline (whiteSpaceRun rest)
 unfoldable pub plainReach : List ℕ → List ℕ → Reach
 plainReach [] rest = reaches 0
 plainReach (c ∷ cs) rest =
-    pickReach (takesRun c rest) (pastRun (bytesOf (whiteSpaceRun rest)) (plainReach cs (afterRun rest)))
-    (pickReach (beginsWith c rest) (pastEqual (length (encode c)) (plainReach cs (drop 1 rest)))
+    cond (takesRun c rest) (pastRun (bytesOf (whiteSpaceRun rest)) (plainReach cs (afterRun rest)))
+    (cond (beginsWith c rest) (pastEqual (length (encode c)) (plainReach cs (drop 1 rest)))
     unmatched)
 
 -- how far it reaches, or else n

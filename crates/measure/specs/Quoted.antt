@@ -2,7 +2,7 @@
 -- missing (S8). A backslash may be the text's last byte; then nothing is left to close the scalar.
 use Prim.Native.Nat.{ℕ, _+_, _≤_, _<_}
 use mathlib.Core.Path.{_≡_}
-use mathlib.Core.Bool.{Bool, true, false, _&&_, _||_}
+use mathlib.Core.Bool.{Bool, true, false, _&&_, _||_, cond}
 use mathlib.Core.List.{List, [], _∷_}
 use lib.Dec.{eqb}
 use lib.ListN.{length, getD}
@@ -18,10 +18,6 @@ doubleQuote = 34
 abbrev pub backslash : ℕ
 backslash = 92
 
-abbrev pub pickQuoted : Bool → Quoted → Quoted → Quoted
-pickQuoted true a b = a
-pickQuoted false a b = b
-
 -- found n bytes further on
 abbrev pub further : ℕ → Quoted → Quoted
 further n (Found m) = Found (n + m)
@@ -35,15 +31,15 @@ passedTogether quote a b =
 -- the bytes from inside a quoted scalar through its closing mark (S6)
 unfoldable pub toClosing : ℕ → List ℕ → Quoted
 toClosing quote [] = Missing
-toClosing quote (a ∷ []) = pickQuoted (eqb a quote) (Found 1) Missing
+toClosing quote (a ∷ []) = cond (eqb a quote) (Found 1) Missing
 toClosing quote (a ∷ b ∷ s) =
-    pickQuoted (passedTogether quote a b) (further 2 (toClosing quote s))
-    (pickQuoted (eqb a quote) (Found 1) (further 1 (toClosing quote (b ∷ s))))
+    cond (passedTogether quote a b) (further 2 (toClosing quote s))
+    (cond (eqb a quote) (Found 1) (further 1 (toClosing quote (b ∷ s))))
 
 -- the length of a quoted scalar, from its opening mark through its closing one (P4)
 unfoldable pub quotedLen : List ℕ → ℕ → Quoted
 quotedLen [] quote = Missing
-quotedLen (a ∷ s) quote = pickQuoted (eqb a quote) (further 1 (toClosing quote s)) Missing
+quotedLen (a ∷ s) quote = cond (eqb a quote) (further 1 (toClosing quote s)) Missing
 
 abbrev pub foundOr : ℕ → Quoted → ℕ
 foundOr n (Found m) = m

@@ -2,20 +2,16 @@
 -- only as the length of an encoding.
 use Prim.Native.Nat.{ℕ}
 use mathlib.Core.Path.{_≡_, refl, ap}
-use mathlib.Core.Bool.{Bool, true, false, _||_}
+use mathlib.Core.Bool.{Bool, true, false, _||_, cond}
 use mathlib.Core.List.{List, [], _∷_, _++_}
 use lib.Dec.{eqb}
 use lib.ListN.{length}
-use Rattle.text.specs.Utf8.{encodeAll, pickBytes}
+use Rattle.text.specs.Utf8.{encodeAll}
 use Rattle.text.specs.WhiteSpace.{isWhiteSpace}
 use Rattle.measure.specs.declared.run.Run.{Run}
 
 abbrev pub newline : ℕ
 newline = 0xa
-
-abbrev pub pickLength : Bool → ℕ → ℕ → ℕ
-pickLength true a b = a
-pickLength false a b = b
 
 -- how many bytes encode some characters
 abbrev pub bytesOf : List ℕ → ℕ
@@ -24,12 +20,12 @@ bytesOf cs = length (encodeAll cs)
 -- the white space that the characters begin with (W1)
 unfoldable pub whiteSpaceRun : List ℕ → List ℕ
 whiteSpaceRun [] = []
-whiteSpaceRun (c ∷ cs) = pickBytes (isWhiteSpace c) (c ∷ whiteSpaceRun cs) []
+whiteSpaceRun (c ∷ cs) = cond (isWhiteSpace c) (c ∷ whiteSpaceRun cs) []
 
 -- the characters after it
 unfoldable pub afterRun : List ℕ → List ℕ
 afterRun [] = []
-afterRun (c ∷ cs) = pickBytes (isWhiteSpace c) (afterRun cs) (c ∷ cs)
+afterRun (c ∷ cs) = cond (isWhiteSpace c) (afterRun cs) (c ∷ cs)
 
 unfoldable pub holdsNewline : List ℕ → Bool
 holdsNewline [] = false
@@ -47,7 +43,7 @@ unfolding whiteSpaceRun afterRun
 run-split [] = refl
 run-split (c ∷ cs) = go (isWhiteSpace c) (run-split cs)
   where
-    go : (t : Bool) → cs ≡ whiteSpaceRun cs ++ afterRun cs → c ∷ cs ≡ pickBytes t (c ∷ whiteSpaceRun cs) [] ++ pickBytes t (afterRun cs) (c ∷ cs)
+    go : (t : Bool) → cs ≡ whiteSpaceRun cs ++ afterRun cs → c ∷ cs ≡ cond t (c ∷ whiteSpaceRun cs) [] ++ cond t (afterRun cs) (c ∷ cs)
     go true r = ap (λ (l : List ℕ). c ∷ l) r
     go false r = refl
 

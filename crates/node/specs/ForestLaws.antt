@@ -1,6 +1,6 @@
 -- Where a sound forest is laid out, going back from its last tree meets its trees one by one (N3). Assumes nothing.
 use mathlib.Core.Path.{_≡_, refl, sym, ap, _∙_}
-use mathlib.Core.Bool.{Bool, true, false, _&&_}
+use mathlib.Core.Bool.{Bool, true, false, _&&_, cond}
 use mathlib.Core.List.{List, [], _∷_, _++_, append-assoc}
 use mathlib.Core.Option.{Option, none, some}
 use Prim.Native.Nat.{ℕ, zero, suc, _+_, _-_, _*_, _<_, _≤_}
@@ -9,7 +9,6 @@ use native.Mathlib.Omega.{arith}
 use borrow.Author.Tests.{lt-ltb, le-leb, le-ltb, lt-leb, leb-true, eq-eqb, ne-eqb}
 use lib.Dec.{ltb, leb, eqb}
 use lib.ListN.{length, length-append}
-use Rattle.parser.specs.Pick.{pick}
 use Rattle.parser.specs.Layout.{laidNodes}
 use Rattle.parser.specs.declared.record.Node.{Node}
 use Rattle.node.specs.Chain.{andThen, when}
@@ -133,7 +132,7 @@ children-trees x f t = by (decLt (x .kind) 7) (decLt (x .kind) 8)
 len-children : (x : Node) → (children x ≤ 2 * len x) × (len x ≤ children x)
 len-children x = by (ltb (x .kind) 7) (eqb (x .kind) 8) (x .payload .first)
   where
-    by : (t s : Bool) (m : ℕ) → (pick t 0 (pick s (2 * m) m) ≤ 2 * pick t 0 m) × (pick t 0 m ≤ pick t 0 (pick s (2 * m) m))
+    by : (t s : Bool) (m : ℕ) → (cond t 0 (cond s (2 * m) m) ≤ 2 * cond t 0 m) × (cond t 0 m ≤ cond t 0 (cond s (2 * m) m))
     by true s m = (omega arith, omega arith)
     by false true m = (omega arith, omega arith)
     by false false m = (omega arith, omega arith)

@@ -1,6 +1,7 @@
 -- The tree that events make (N3): the children of a collection are the nodes completed directly under it, in the order of the events. It goes
 -- by what an event does to the tree and by nothing else; the completed nodes come one by one from a list, the order of their completion.
 -- What each of them is, an array, a hash or neither, is also said by the events alone (`completions`).
+use mathlib.Core.Bool.{cond}
 use mathlib.Core.Path.{_≡_}
 use Prim.Native.Nat.{ℕ, zero, suc, _≤_}
 use mathlib.Core.List.{List, [], _∷_}
@@ -9,7 +10,6 @@ use lib.ListN.{length}
 use Rattle.event.specs.Read.{readEvent}
 use Rattle.event.specs.declared.read.Event.{Event}
 use Rattle.event.specs.declared.read.Event.the-variants.{SequenceStart, SequenceEnd, MappingStart, MappingEnd, Scalar, Alias, Malformed}
-use Rattle.parser.specs.Pick.{pick}
 use Rattle.parser.specs.Machine.{nextPlace}
 use Rattle.parser.specs.declared.record.Node.{Node}
 use Rattle.node.specs.Forest.{Forest, nil, snoc}
@@ -41,7 +41,7 @@ moveOf Malformed = faulty
 -- of the events from the place i on; each takes a byte or more, and no more than f are read
 unfoldable pub movesFrom : List ℕ → ℕ → ℕ → List Move
 movesFrom events zero i = []
-movesFrom events (suc f) i = pick (ltb i (length events)) (moveOf (readEvent events i) ∷ movesFrom events f (nextPlace (readEvent events i))) []
+movesFrom events (suc f) i = cond (ltb i (length events)) (moveOf (readEvent events i) ∷ movesFrom events f (nextPlace (readEvent events i))) []
 
 abbrev pub moves : List ℕ → List Move
 moves events = movesFrom events (length events) 0

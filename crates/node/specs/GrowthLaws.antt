@@ -1,7 +1,7 @@
 -- The nodes that a call builds are the tree of its events, written in post-order, their records are sound, and each has the kind of the event
 -- that completes it (N2, N3): kept by every step of the machine. Assumes nothing.
 use mathlib.Core.Path.{_≡_, refl, sym, ap, subst, _∙_}
-use mathlib.Core.Bool.{Bool, true, false, _&&_, not}
+use mathlib.Core.Bool.{Bool, true, false, _&&_, not, cond}
 use mathlib.Core.List.{List, [], _∷_, _++_, append-assoc, append-nil}
 use mathlib.Core.Option.{Option, none, some}
 use Prim.Native.Nat.{ℕ, zero, suc, _+_, _-_, _%_, _<_, _≤_}
@@ -22,7 +22,6 @@ use Rattle.event.specs.Read.{eventsLimit, partOf, readEvent}
 use Rattle.event.specs.declared.read.Event.{Event}
 use Rattle.event.specs.declared.read.Event.the-variants.{SequenceStart, SequenceEnd, MappingStart, MappingEnd, Scalar, Alias, Malformed}
 use Rattle.event.specs.declared.tag.YamlTag.{YamlTag}
-use Rattle.parser.specs.Pick.{pick}
 use Rattle.parser.specs.Record.{withList, aliasNode}
 use Rattle.parser.specs.Scalar.{ScalarAt, scalarPieces, suffixOf, tagInfo, resolvedBy, scalarNode}
 use Rattle.parser.specs.Collection.{withChild, awaitsValue, closes, members, collectionOver, collectionNode}
@@ -99,7 +98,7 @@ true-not-false : true ≡ false → ⊥
 true-not-false e = let z : _≡_ {A = ℕ} 0 1 = cc in omega arith
 
 -- a row that does not refuse
-passes : (t : Bool) (m : ℕ) (x : Next) (n : State) → pick t (stop m) x ≡ go n → (t ≡ false) × (x ≡ go n)
+passes : (t : Bool) (m : ℕ) (x : Next) (n : State) → cond t (stop m) x ≡ go n → (t ≡ false) × (x ≡ go n)
 passes true m x n e = absurd (stop-not-go m n e)
 passes false m x n e = (refl, e)
 
@@ -176,7 +175,7 @@ scalar-kept text events room x tag g st n k d e =
 -- ---- ends
 
 -- a mapping that ends has as many values as keys
-even : (mapping is : Bool) (c : ℕ) → pick mapping (is && eqb (c % 2) 0) (not is) ≡ true → is ≡ true → c % 2 ≡ 0
+even : (mapping is : Bool) (c : ℕ) → cond mapping (is && eqb (c % 2) 0) (not is) ≡ true → is ≡ true → c % 2 ≡ 0
 even true true c e q = eqb-true (c % 2) 0 e
 even true false c e q = absurd (true-not-false (sym q))
 even false true c e q = absurd (true-not-false (sym e))
@@ -191,7 +190,7 @@ collection-tree text mapping o kids s e n ends c m = by (o .mapping) refl
     by : (is : Bool) → o .mapping ≡ is → Tree (collectionOver text o s e n) kids
     by true q =
         let p = even mapping (o .mapping) (o .children) ends q in
-        let k : _≡_ {A = ℕ} (pick (o .mapping) 8 7) 8 = rw q refl in
+        let k : _≡_ {A = ℕ} (cond (o .mapping) 8 7) 8 = rw q refl in
         record {
           kind = rw q refl;
           count = omega arith;
@@ -200,7 +199,7 @@ collection-tree text mapping o kids s e n ends c m = by (o .mapping) refl
           hash = λ h. rw q (omega arith);
         }
     by false q =
-        let k : _≡_ {A = ℕ} (pick (o .mapping) 8 7) 7 = rw q refl in
+        let k : _≡_ {A = ℕ} (cond (o .mapping) 8 7) 7 = rw q refl in
         record {
           kind = rw q refl;
           count = omega arith;
@@ -211,23 +210,23 @@ collection-tree text mapping o kids s e n ends c m = by (o .mapping) refl
 
 -- what an end of a mapping, or of a sequence, completes
 abbrev closed-shape : Bool → Shape
-closed-shape mapping = pick mapping hash array
+closed-shape mapping = cond mapping hash array
 
 -- it is of the kind of its end
-same-kind : (mapping is : Bool) (c : ℕ) → pick mapping (is && eqb (c % 2) 0) (not is) ≡ true → is ≡ mapping
+same-kind : (mapping is : Bool) (c : ℕ) → cond mapping (is && eqb (c % 2) 0) (not is) ≡ true → is ≡ mapping
 same-kind true true c e = refl
 same-kind true false c e = absurd (true-not-false (sym e))
 same-kind false true c e = absurd (true-not-false (sym e))
 same-kind false false c e = refl
 
-kind-shape : (mapping : Bool) (x : Node) → x .kind ≡ pick mapping 8 7 → HasShape (closed-shape mapping) x
+kind-shape : (mapping : Bool) (x : Node) → x .kind ≡ cond mapping 8 7 → HasShape (closed-shape mapping) x
 kind-shape true x e = e
 kind-shape false x e = e
 
 collection-shape : (text : List ℕ) (mapping : Bool) (o : Open) (i n : ℕ) → closes mapping o ≡ true → HasShape (closed-shape mapping) (collectionNode text o i n)
 unfolding collectionNode collectionOver closes
 collection-shape text mapping o i n ends =
-    kind-shape mapping (collectionNode text o i n) (ap (λ (is : Bool). pick {A = ℕ} is 8 7) (same-kind mapping (o .mapping) (o .children) ends))
+    kind-shape mapping (collectionNode text o i n) (ap (λ (is : Bool). cond {A = ℕ} is 8 7) (same-kind mapping (o .mapping) (o .children) ends))
 
 end-added :
     (text : List ℕ) (mapping : Bool) (o : Open) (os : List Open) (g : Growth) (st : State) (i : ℕ) → Kept g (o ∷ os) (st .nodes) → closes mapping o ≡ true →
@@ -250,7 +249,7 @@ end-added text mapping o os (growing (kids ∷ fs)) st i (outer, nest, l) c =
     }
 end-added text mapping o os (grown y others) st i k c = absurd (let z : _≡_ {A = ℕ} (suc (length os)) 0 = ap length (k .0) in omega arith)
 
-closes-on : (t : Bool) (m : ℕ) (x : Next) (n : State) → pick t x (stop m) ≡ go n → (t ≡ true) × (x ≡ go n)
+closes-on : (t : Bool) (m : ℕ) (x : Next) (n : State) → cond t x (stop m) ≡ go n → (t ≡ true) × (x ≡ go n)
 closes-on true m x n e = (refl, e)
 closes-on false m x n e = absurd (stop-not-go m n e)
 
@@ -300,7 +299,7 @@ nested-root (f ∷ fs) (o ∷ os) xs n e = absurd (omega arith)
 refused-not-built : (m k : ℕ) (xs : List Node) (ps : List Piece) → refused m k ≡ built xs ps → ⊥
 refused-not-built m k xs ps e = let z : _≡_ {A = ℕ} 0 1 = cc in omega arith
 
-built-at : (t : Bool) (xs ys : List Node) (ps qs : List Piece) (k : ℕ) → pick t (built xs ps) (refused 9 k) ≡ built ys qs → (t ≡ true) × (xs ≡ ys)
+built-at : (t : Bool) (xs ys : List Node) (ps qs : List Piece) (k : ℕ) → cond t (built xs ps) (refused 9 k) ≡ built ys qs → (t ≡ true) × (xs ≡ ys)
 built-at true xs ys ps qs k e = (refl, cc)
 built-at false xs ys ps qs k e = absurd (refused-not-built 9 k ys qs e)
 
@@ -401,7 +400,7 @@ admitted-built (Admitted ascii) o xs ps e = e
 admitted-built TooLong o xs ps e = absurd (refused-not-built (admissionNumber TooLong) 0 xs ps e)
 admitted-built NotUtf8 o xs ps e = absurd (refused-not-built (admissionNumber NotUtf8) 0 xs ps e)
 
-limited-built : (t : Bool) (o : Outcome) (xs : List Node) (ps : List Piece) → pick t (refused 1 0) o ≡ built xs ps → o ≡ built xs ps
+limited-built : (t : Bool) (o : Outcome) (xs : List Node) (ps : List Piece) → cond t (refused 1 0) o ≡ built xs ps → o ≡ built xs ps
 limited-built true o xs ps e = absurd (refused-not-built 1 0 xs ps e)
 limited-built false o xs ps e = e
 

@@ -1,10 +1,9 @@
 -- Kinds and counts (N3). A missing record answers none, to a test of its kind too.
 use Prim.Native.Nat.{ℕ, _*_}
-use mathlib.Core.Bool.{Bool}
+use mathlib.Core.Bool.{Bool, cond}
 use mathlib.Core.List.{List}
 use mathlib.Core.Option.{Option, none, some}
 use lib.Dec.{ltb, eqb}
-use Rattle.parser.specs.Pick.{pick}
 use Rattle.parser.specs.declared.record.Node.{Node}
 use Rattle.node.specs.Chain.{andThen}
 use Rattle.node.specs.Record.{recordAt}
@@ -26,11 +25,11 @@ isHash x = eqb (x .kind) 8
 
 -- the items of an array, the pairs of a hash, as the record says
 abbrev pub len : Node → ℕ
-len x = pick (isScalar x) 0 (x .payload .first)
+len x = cond (isScalar x) 0 (x .payload .first)
 
 -- its children: items, or keys and values
 abbrev pub children : Node → ℕ
-children x = pick (isScalar x) 0 (pick (isHash x) (2 * x .payload .first) (x .payload .first))
+children x = cond (isScalar x) 0 (cond (isHash x) (2 * x .payload .first) (x .payload .first))
 
 -- ---- of a record
 

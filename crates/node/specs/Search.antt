@@ -4,13 +4,12 @@
 -- What document 01 leaves open: a key whose payload points outside the event bytes has no bytes, so it matches none. Where a pair of the hash is
 -- missing there is no answer, whichever other pairs match.
 use Prim.Native.Nat.{ℕ, zero, suc, _+_, _-_}
-use mathlib.Core.Bool.{Bool, false, _&&_}
+use mathlib.Core.Bool.{Bool, false, _&&_, cond}
 use mathlib.Core.List.{List, [], _∷_}
 use mathlib.Core.Option.{Option, none, some}
 use lib.Dec.{ltb, leb, eqb}
 use lib.ListN.{length, take, drop}
 use Rattle.schema.specs.Tag.{sameBytes}
-use Rattle.parser.specs.Pick.{pick}
 use Rattle.parser.specs.declared.record.Node.{Node}
 use Rattle.node.specs.Chain.{andThen, when}
 use Rattle.node.specs.Record.{recordAt}
@@ -35,7 +34,7 @@ keyIs b events key k = holds (recordAt b k) (stringIs events key)
 
 -- the answer with the pair of k and v, before `later`, that of the pairs after it
 abbrev pub earlier : List ℕ → List ℕ → List ℕ → ℕ → ℕ → Option ℕ → Option ℕ
-earlier b events key k v later = pick (keyIs b events key k) (some v) later
+earlier b events key k v later = cond (keyIs b events key k) (some v) later
 
 -- over the pair whose value is v and the p pairs before it
 unfoldable pub searchBack : List ℕ → List ℕ → List ℕ → ℕ → ℕ → Option ℕ → Option ℕ
@@ -47,7 +46,7 @@ searchBack b events key (suc p) v later =
 -- the value of the first of some pairs whose key is so, else `later`
 abbrev pub firstWith : (ℕ → Bool) → List YamlHashEntry → Option ℕ → Option ℕ
 firstWith is [] later = later
-firstWith is (e ∷ es) later = pick (is (e .key)) (some (e .value)) (firstWith is es later)
+firstWith is (e ∷ es) later = cond (is (e .key)) (some (e .value)) (firstWith is es later)
 
 unfoldable pub hashValue : List ℕ → List ℕ → ℕ → List ℕ → Option ℕ
 hashValue b events n key =

@@ -1,6 +1,6 @@
 -- The search from the last pair back finds the first pair with the key, where the children of a hash are laid out (N2). Assumes nothing.
 use mathlib.Core.Path.{_≡_, refl, sym, ap, _∙_}
-use mathlib.Core.Bool.{Bool, _&&_}
+use mathlib.Core.Bool.{Bool, _&&_, cond}
 use mathlib.Core.List.{List, [], _∷_, _++_, append-assoc}
 use mathlib.Core.Option.{Option, none, some}
 use Prim.Native.Nat.{ℕ, zero, suc, _+_, _-_, _*_, _<_}
@@ -10,7 +10,6 @@ use borrow.Author.Tests.{lt-ltb, le-ltb, eq-eqb}
 use lib.Dec.{ltb}
 use lib.ListN.{length}
 use Rattle.parser.specs.Layout.{laidNodes}
-use Rattle.parser.specs.Pick.{pick}
 use Rattle.parser.specs.declared.record.Node.{Node}
 use Rattle.node.specs.Chain.{andThen, when}
 use Rattle.node.specs.Kind.{isHash}
@@ -22,9 +21,9 @@ use Rattle.node.specs.Forest.{Forest, nil, snoc, postOrder, nodesIn, tre
 use Rattle.node.specs.ForestLaws.{root-before, root-pair, last-root, collection-record}
 
 -- a last pair is looked at after all others
-first-last : (is : ℕ → Bool) (es : List YamlHashEntry) (e : YamlHashEntry) (later : Option ℕ) → firstWith is (es ++ (e ∷ [])) later ≡ firstWith is es (pick (is (e .key)) (some (e .value)) later)
+first-last : (is : ℕ → Bool) (es : List YamlHashEntry) (e : YamlHashEntry) (later : Option ℕ) → firstWith is (es ++ (e ∷ [])) later ≡ firstWith is es (cond (is (e .key)) (some (e .value)) later)
 first-last is [] e later = refl
-first-last is (d ∷ es) e later = ap (pick (is (d .key)) (some (d .value))) (first-last is es e later)
+first-last is (d ∷ es) e later = ap (cond (is (d .key)) (some (d .value))) (first-last is es e later)
 
 module _ (size : ℕ) (pre : List Node) (events key : List ℕ) where
   -- b is where f stands, and whatever follows it

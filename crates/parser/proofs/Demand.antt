@@ -1,7 +1,7 @@
 -- Demand 3 at the public calls: `scalar-demand3` of the call on one scalar, `build-demand3` of a document. A scalar's start is a boundary
 -- of its text, so the pieces that the machine keeps are those of the walk from document 01's first byte; later events only add to them.
 use mathlib.Core.Path.{_≡_, refl, sym, ap, _∙_, subst}
-use mathlib.Core.Bool.{Bool, true, false}
+use mathlib.Core.Bool.{Bool, true, false, cond}
 use mathlib.Core.Logic.{_⊎_, inl, inr}
 use mathlib.Core.List.{List, [], _∷_, _++_, append-nil, append-assoc}
 use mathlib.Core.Option.{Option, none, some}
@@ -44,7 +44,6 @@ use Rattle.provenance.specs.DemandLaws.{listed-only, listed-if, demand3}
 use Rattle.provenance.specs.declared.step.Step.{Step}
 use Rattle.provenance.specs.declared.walk.Walked.{Walked}
 use Rattle.provenance.specs.declared.walk.Walked.the-variants.{NoRoom}
-use Rattle.parser.specs.Pick.{pick}
 use Rattle.parser.specs.Record.{absent, noTag, noList, pieceList, withList}
 use Rattle.parser.specs.Scalar.{spanLen, listAt, scalarPieces, suffixOf, tagInfo, resolvedBy, scalarNode}
 use Rattle.parser.specs.Collection.{awaitsValue, closes}
@@ -255,8 +254,8 @@ module _ (text : List ℕ) (sound : Sound text) (index column style : ℕ) (empt
   alone-same none xs ps e = refl
   alone-same (some qs) xs ps e = by (ltb (pieceRoom size) (0 + length qs)) e
     where
-      by : (t : Bool) → follow (pick t (stop 8) (go (completed (withList aloneNode 0 (length qs)) (record { nodes = []; opens = []; pieces = qs })))) (λ (st : State). built (st .nodes) (st .pieces)) 0 ≡ built xs ps
-          → withList (recordOf (follow (pick t (stop 8) (go (completed (withList aloneNode 0 (length qs)) (record { nodes = []; opens = []; pieces = qs })))) (λ (st : State). built (st .nodes) (st .pieces)) 0)) absent 0 ≡ withList aloneNode absent 0
+      by : (t : Bool) → follow (cond t (stop 8) (go (completed (withList aloneNode 0 (length qs)) (record { nodes = []; opens = []; pieces = qs })))) (λ (st : State). built (st .nodes) (st .pieces)) 0 ≡ built xs ps
+          → withList (recordOf (follow (cond t (stop 8) (go (completed (withList aloneNode 0 (length qs)) (record { nodes = []; opens = []; pieces = qs })))) (λ (st : State). built (st .nodes) (st .pieces)) 0)) absent 0 ≡ withList aloneNode absent 0
       by true f = absurd (refused-not-built 8 0 xs ps f)
       by false f = refl
 
@@ -285,7 +284,7 @@ module _ (text events : List ℕ) (size pieceSize : ℕ) where
   unfolding building
   admitted-or o e = by (ltb eventsLimit (length events)) refl (admission text) refl e
     where
-      by : (t : Bool) → ltb eventsLimit (length events) ≡ t → (a : Admission) → admission text ≡ a → pick t (refused 1 0) (admitted a all) ≡ o → (o ≡ refused 1 0) ⊎ (o ≡ refused 2 0) ⊎ Passed o
+      by : (t : Bool) → ltb eventsLimit (length events) ≡ t → (a : Admission) → admission text ≡ a → cond t (refused 1 0) (admitted a all) ≡ o → (o ≡ refused 1 0) ⊎ (o ≡ refused 2 0) ⊎ Passed o
       by true l a ad f = inl (sym f)
       by false l TooLong ad f = inl (sym f)
       by false l NotUtf8 ad f = inr (inl (sym f))
@@ -301,7 +300,7 @@ room-small : (size : ℕ) → pieceRoom size < absent
 room-small size = omega arith
 
 -- a gate that is passed on the way to another number
-gate-stop : (t : Bool) (m k : ℕ) (n : Next) → (m ≡ k → ⊥) → pick t (stop m) n ≡ stop k → (t ≡ false) × (n ≡ stop k)
+gate-stop : (t : Bool) (m k : ℕ) (n : Next) → (m ≡ k → ⊥) → cond t (stop m) n ≡ stop k → (t ≡ false) × (n ≡ stop k)
 gate-stop true m k n ne e = absurd (ne (stop-is m k e))
 gate-stop false m k n ne e = (refl, e)
 
@@ -320,7 +319,7 @@ end-no-8 text room mapping index (o ∷ os) st h = by (closes mapping o) h
     within : ended text room index o os st ≡ stop 8 → ⊥
     within f = let b = gate-stop (leb room (length (st .nodes))) 7 8 _ (λ z. omega arith) f in stop-not-go 8 _ (sym (b .1))
 
-    by : (t : Bool) → pick t (ended text room index o os st) (stop 4) ≡ stop 8 → ⊥
+    by : (t : Bool) → cond t (ended text room index o os st) (stop 4) ≡ stop 8 → ⊥
     by true f = within f
     by false f = let z : _≡_ {A = ℕ} 4 8 = stop-is 4 8 f in omega arith
 
@@ -440,7 +439,7 @@ module _ (text events : List ℕ) (sound : Sound text) (room most : ℕ) (small 
       no-fit : (ps : List Piece) → keeping most nodeHere (some ps) st ≡ stop 8 → most < length (st .pieces) + length ps
       no-fit ps f = by (ltb most (length (st .pieces) + length ps)) refl f
         where
-          by : (t : Bool) → ltb most (length (st .pieces) + length ps) ≡ t → pick t (stop 8) (go (completed (withList nodeHere (length (st .pieces)) (length ps)) (record { nodes = st .nodes; opens = st .opens; pieces = st .pieces ++ ps }))) ≡ stop 8
+          by : (t : Bool) → ltb most (length (st .pieces) + length ps) ≡ t → cond t (stop 8) (go (completed (withList nodeHere (length (st .pieces)) (length ps)) (record { nodes = st .nodes; opens = st .opens; pieces = st .pieces ++ ps }))) ≡ stop 8
               → most < length (st .pieces) + length ps
           by true is g = ltb-true most (length (st .pieces) + length ps) is
           by false is g = absurd (stop-not-go 8 _ (sym g))
@@ -571,7 +570,7 @@ module _ (text events : List ℕ) (size pieceSize : ℕ) where
     unfolding ending
     ending-no-8 k n st e = by (rootDone st) e
       where
-        by : (t : Bool) → pick t (built (st .nodes) (st .pieces)) (refused 9 k) ≡ refused 8 n → ⊥
+        by : (t : Bool) → cond t (built (st .nodes) (st .pieces)) (refused 9 k) ≡ refused 8 n → ⊥
         by true f = refused-not-built 8 n _ _ (sym f)
         by false f = let z : _≡_ {A = ℕ} 9 8 = cc in omega arith
 

@@ -1,6 +1,6 @@
 -- The stack's frames after stores, and what holds of all of them. Assumes nothing.
 use mathlib.Core.Path.{_≡_, refl, sym, ap, ap₂, _∙_}
-use mathlib.Core.Bool.{Bool, true, false, _&&_}
+use mathlib.Core.Bool.{Bool, true, false, _&&_, cond}
 use mathlib.Core.List.{List, [], _∷_}
 use Prim.Native.Nat.{ℕ, zero, suc, _+_, _-_, _*_, _%_, _≤_, _<_}
 use native.Mathlib.Nat.{add-zero}
@@ -12,7 +12,6 @@ use lib.ListN.{length, getD, set, length-set}
 use lib.Seq.{sets, getD-set-same, getD-set-other}
 use Rattle.text.specs.Boundary.{Boundary}
 use Rattle.schema.specs.Record.{truth}
-use Rattle.parser.specs.Pick.{pick}
 use Rattle.parser.specs.Record.{absent}
 use Rattle.parser.specs.Collection.{withChild, awaitsValue}
 use Rattle.parser.specs.Held.{suffixAt, suffixPlace, suffixLen, frame, frameNumbers, openOf, Placed, Below, OnBoundaries}
@@ -85,12 +84,12 @@ open-push d s o h x =
 -- ---- a child more
 
 pub open-child : (d : ℕ) (s : List ℕ) (i : ℕ) → 0 < d → 7 * d ≤ length s
-    → openOf d (set (set s (7 * (d - 1) + 5) (pick (eqb (getD s (7 * (d - 1) + 4) 0) 0) i (getD s (7 * (d - 1) + 5) 0))) (7 * (d - 1) + 4) (getD s (7 * (d - 1) + 4) 0 + 1)) ≡ withChild i (openOf d s)
+    → openOf d (set (set s (7 * (d - 1) + 5) (cond (eqb (getD s (7 * (d - 1) + 4) 0) 0) i (getD s (7 * (d - 1) + 5) 0))) (7 * (d - 1) + 4) (getD s (7 * (d - 1) + 4) 0 + 1)) ≡ withChild i (openOf d s)
 open-child zero s i h l = absurd (omega arith)
 open-child (suc d) s i h l =
     let p : suc d - 1 ≡ d = omega arith in
     let k : ℕ = 7 * d in
-    let v : ℕ = pick (eqb (getD s (k + 4) 0) 0) i (getD s (k + 5) 0) in
+    let v : ℕ = cond (eqb (getD s (k + 4) 0) 0) i (getD s (k + 5) 0) in
     let t : List ℕ = set (set s (k + 5) v) (k + 4) (getD s (k + 4) 0 + 1) in
     let other : (j : ℕ) → (j ≡ k + 4 → ⊥) → (j ≡ k + 5 → ⊥) → getD t j 0 ≡ getD s j 0 =
     λ j a b. getD-set-other (set s (k + 5) v) (k + 4) j (getD s (k + 4) 0 + 1) 0 a ∙ getD-set-other s (k + 5) j v 0 b in
@@ -114,7 +113,7 @@ pub below-more : (i : ℕ) (os : List Open) (n : ℕ) → Below os n → Below (
 below-more i [] n b = tt
 below-more i (o ∷ os) n b = (omega arith, below-up os n (n + 1) (omega arith) (b .1))
 
-picked : (text : List ℕ) (t : Bool) (a b : ℕ) → Boundary text a → Boundary text b → Boundary text (pick t a b)
+picked : (text : List ℕ) (t : Bool) (a b : ℕ) → Boundary text a → Boundary text b → Boundary text (cond t a b)
 picked text true a b x y = x
 picked text false a b x y = y
 

@@ -1,7 +1,7 @@
 -- What a step of the machine adds: nodes behind those there are, pieces behind those there are, and the lists of the new nodes take the new
 -- pieces one after the other. So what stands in the buffers stays where it is, up to the end of the run (`run-grown`).
 use mathlib.Core.Path.{_≡_, refl, sym, ap, _∙_, subst}
-use mathlib.Core.Bool.{Bool, true, false}
+use mathlib.Core.Bool.{Bool, true, false, cond}
 use mathlib.Core.Logic.{inl, inr}
 use mathlib.Core.List.{List, [], _∷_, _++_, append-nil, append-assoc}
 use mathlib.Core.Option.{Option, none, some}
@@ -16,7 +16,6 @@ use Rattle.event.specs.Meaning.{placed}
 use Rattle.event.specs.declared.tag.YamlTag.{YamlTag}
 use Rattle.event.specs.declared.read.Event.{Event}
 use Rattle.event.specs.declared.read.Event.the-variants.{SequenceStart, SequenceEnd, MappingStart, MappingEnd, Scalar, Alias, Malformed}
-use Rattle.parser.specs.Pick.{pick}
 use Rattle.parser.specs.Record.{absent, noList, withList}
 use Rattle.parser.specs.Scalar.{ScalarAt, scalarNode}
 use Rattle.parser.specs.Collection.{closes, collectionOver, collectionNode}
@@ -31,7 +30,7 @@ use Rattle.parser.proofs.EventRun.{go-is, refused-not-built}
 
 -- ---- gates
 
-pub gate : (t : Bool) (m : ℕ) (n : Next) (st : State) → pick t (stop m) n ≡ go st → (t ≡ false) × (n ≡ go st)
+pub gate : (t : Bool) (m : ℕ) (n : Next) (st : State) → cond t (stop m) n ≡ go st → (t ≡ false) × (n ≡ go st)
 gate true m n st e = absurd (stop-not-go m st e)
 gate false m n st e = (refl, e)
 
@@ -144,7 +143,7 @@ module _ (text events : List ℕ) (room most : ℕ) (small : most < absent) wher
   end-grown mapping index [] st st′ e = absurd (stop-not-go 4 st′ e)
   end-grown mapping index (o ∷ os) st st′ e = by (closes mapping o) e
     where
-      by : (t : Bool) → pick t (ended text room index o os st) (stop 4) ≡ go st′ → Grown most st st′
+      by : (t : Bool) → cond t (ended text room index o os st) (stop 4) ≡ go st′ → Grown most st st′
       by true f = opened f
         where
           opened : ended text room index o os st ≡ go st′ → Grown most st st′
@@ -189,7 +188,7 @@ module _ (text events : List ℕ) (room most : ℕ) (small : most < absent) wher
   unfolding ending
   ending-grown k st xs ps e = by (rootDone st) e
     where
-      by : (t : Bool) → pick t (built (st .nodes) (st .pieces)) (refused 9 k) ≡ built xs ps → Grown most st (final xs ps)
+      by : (t : Bool) → cond t (built (st .nodes) (st .pieces)) (refused 9 k) ≡ built xs ps → Grown most st (final xs ps)
       by true f = let a : xs ≡ st .nodes = cc in let b : ps ≡ st .pieces = cc in grown-same most st (final xs ps) a b
       by false f = absurd (refused-not-built 9 k xs ps f)
 

@@ -1,7 +1,7 @@
 -- Pieces in their buffer: the free part is zero, and is lent to a walk, which lays its own pieces out from its entry 0; the whole is then
 -- the pieces so far and the walk's. Assumes nothing.
 use mathlib.Core.Path.{_≡_, refl, sym, ap, ap₂, _∙_}
-use mathlib.Core.Bool.{Bool, true, false}
+use mathlib.Core.Bool.{Bool, true, false, cond}
 use mathlib.Core.List.{List, [], _∷_, _++_, append-nil, append-assoc}
 use mathlib.Core.Option.{Option, none, some}
 use Prim.Native.Nat.{ℕ, _+_, _-_, _*_, _/_, _≤_}
@@ -11,7 +11,6 @@ use borrow.Rule.Slice.PartMut.{putMid, post-is, same-len-mid}
 use lib.Dec.{leb}
 use lib.ListN.{length, replicate, take, drop, length-drop, take-append-drop, replicate-append-replicate}
 use lib.Seq.{take-all, drop-length}
-use Rattle.provenance.specs.Run.{pick}
 use Rattle.provenance.specs.Reading.{Piece}
 use Rattle.provenance.specs.Layout.{numbers, filled, answerOf, bufferOf}
 use Rattle.provenance.specs.declared.walk.Walked.{Walked}
@@ -58,7 +57,7 @@ unfolding answerOf bufferOf
 walks-of size none r p e f = rw e f
 walks-of size (some ps) r p e f = go (leb (length ps) (size / 4)) refl e f
   where
-    go : (t : Bool) → leb (length ps) (size / 4) ≡ t → r ≡ pick t (Listed (length ps)) NoRoom → p ≡ pick t (filled size ps) (replicate size 0) → Walks size (some ps) r p
+    go : (t : Bool) → leb (length ps) (size / 4) ≡ t → r ≡ cond t (Listed (length ps)) NoRoom → p ≡ cond t (filled size ps) (replicate size 0) → Walks size (some ps) r p
     go true h e f = rw e (refl, f)
     go false h e f = rw e (leb-false (length ps) (size / 4) h, f)
 

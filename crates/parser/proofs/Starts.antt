@@ -1,6 +1,6 @@
 -- Where nodes start: at boundaries. Assumes nothing.
 use mathlib.Core.Path.{_≡_, refl, ap, subst}
-use mathlib.Core.Bool.{Bool, true, false, _&&_, not}
+use mathlib.Core.Bool.{Bool, true, false, _&&_, not, cond}
 use mathlib.Core.List.{List}
 use Prim.Native.Nat.{ℕ, _+_, _-_, _≤_, _<_}
 use native.Mathlib.Omega.{arith}
@@ -15,7 +15,6 @@ use Rattle.text.specs.Utf8Laws.{char-at, boundary-splits}
 use Rattle.text.specs.Offset.{byteOffset, cursorAt}
 use Rattle.text.specs.declared.offset.Cursor.{Cursor}
 use Rattle.measure.specs.Scalar.{scalarLen}
-use Rattle.parser.specs.Pick.{pick}
 use Rattle.parser.specs.Scalar.{ScalarAt, stepPast, scalarStart, spanLen, suffixOf, scalarNode}
 use Rattle.event.specs.Meaning.{TextParts}
 use Rattle.event.specs.Read.{partOf}
@@ -47,7 +46,7 @@ pub step-within : (text : List ℕ) (c i : ℕ) → 0 < c → i ≤ length text 
 unfolding stepPast
 step-within text c i h l = go (eqb (getD text i 0) c) refl
   where
-    go : (t : Bool) → eqb (getD text i 0) c ≡ t → pick t (i + 1) i ≤ length text
+    go : (t : Bool) → eqb (getD text i 0) c ≡ t → cond t (i + 1) i ≤ length text
     go true e = let k = inside text i c h (eqb-true (getD text i 0) c e) in omega arith
     go false e = l
 
@@ -56,7 +55,7 @@ pub step-boundary : (text : List ℕ) (c i : ℕ) → Utf8 text → 0 < c → c 
 unfolding stepPast firstChar charOf
 step-boundary text c i u h l b = go (eqb (getD text i 0) c) refl
   where
-    go : (t : Bool) → eqb (getD text i 0) c ≡ t → Boundary text (pick t (i + 1) i)
+    go : (t : Bool) → eqb (getD text i 0) c ≡ t → Boundary text (cond t (i + 1) i)
     go true e =
         let is : getD text i 0 ≡ c = eqb-true (getD text i 0) c e in
         let k = inside text i c h is in
@@ -70,7 +69,7 @@ pub offset-start : (text : List ℕ) → Utf8 text → (value : List ℕ) (style
 unfolding scalarStart
 offset-start text u value style awaited i b = go (awaited && (eqb style 0 && eqb (length value) 0))
   where
-    go : (t : Bool) → Boundary text (pick t (stepPast text 0x3a i) i)
+    go : (t : Bool) → Boundary text (cond t (stepPast text 0x3a i) i)
     go true = step-boundary text 0x3a i u (omega arith) (omega arith) b
     go false = b
 
@@ -78,7 +77,7 @@ pub collection-start-boundary : (text : List ℕ) (o : Open) → Boundary text (
 unfolding collectionStart
 collection-start-boundary text o a b = go (o .mapping && (ltb 0 (o .children) && not (eqb (getD text (o .start) 0) 0x7b)))
   where
-    go : (t : Bool) → Boundary text (pick t (o .first) (o .start))
+    go : (t : Bool) → Boundary text (cond t (o .first) (o .start))
     go true = b
     go false = a
 
@@ -88,7 +87,7 @@ pub span-within : (text : List ℕ) (x : ScalarAt) → x .start ≤ length text 
 unfolding spanLen scalarLen
 span-within text x h = go (isBoundary text (x .start))
   where
-    go : (t : Bool) → x .start + pick t (scalarLen (drop (x .start) text) (x .value) (x .style) (x .emptySpan) (x .column)) 0 ≤ length text
+    go : (t : Bool) → x .start + cond t (scalarLen (drop (x .start) text) (x .value) (x .style) (x .emptySpan) (x .column)) 0 ≤ length text
     go true = let l : length (drop (x .start) text) ≡ length text - x .start = length-drop (x .start) text in omega arith
     go false = omega arith
 

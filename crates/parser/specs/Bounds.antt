@@ -2,7 +2,7 @@
 -- leads on takes at least a byte; the pieces by their room; the number by the table's last. Assumes nothing but that events are bytes.
 use mathlib.Core.Path.{_≡_, refl, sym, ap, _∙_}
 use Prim.Native.Nat.{ℕ, zero, suc, _+_, _≤_, _<_}
-use mathlib.Core.Bool.{Bool, true, false}
+use mathlib.Core.Bool.{Bool, true, false, cond}
 use mathlib.Core.List.{List, [], _∷_, _++_}
 use mathlib.Core.Option.{Option, none, some}
 use native.Mathlib.Omega.{arith}
@@ -21,7 +21,6 @@ use Rattle.text.specs.Admission.{admission, admissionOfBoth}
 use Rattle.text.specs.declared.admission.Admission.{Admission}
 use Rattle.text.specs.declared.admission.Admission.the-variants.{Admitted, TooLong, NotUtf8}
 use Rattle.measure.specs.Scalar.{folded}
-use Rattle.parser.specs.Pick.{pick}
 use Rattle.parser.specs.Record.{withList}
 use Rattle.parser.specs.Scalar.{ScalarAt}
 use Rattle.parser.specs.Collection.{closes}
@@ -53,7 +52,7 @@ Stepped k r (go st) = Holding k r st
 Stepped k r (stop number) = number ≤ lastNumber
 
 module _ (k r : ℕ) where
-  pick-stepped : (t : Bool) (m n : Next) → Stepped k r m → Stepped k r n → Stepped k r (pick t m n)
+  pick-stepped : (t : Bool) (m n : Next) → Stepped k r m → Stepped k r n → Stepped k r (cond t m n)
   pick-stepped true m n g h = g
   pick-stepped false m n g h = h
 
@@ -93,7 +92,7 @@ module _ (text events : List ℕ) (room r k : ℕ) where
   alias-stepped index st h = before-root (k + 1) r st _ (within-room (k + 1) r room st _ (completes k r _ st h))
 
   kept-in-room : (x : Node) (ps : List Piece) (st : State) (t : Bool) → ltb r (length (st .pieces) + length ps) ≡ t → Holding k r st
-      → Stepped (k + 1) r (pick t (stop 8) (go (completed (withList x (length (st .pieces)) (length ps)) (withPieces ps st))))
+      → Stepped (k + 1) r (cond t (stop 8) (go (completed (withList x (length (st .pieces)) (length ps)) (withPieces ps st))))
   kept-in-room x ps st true e h = omega arith
   kept-in-room x ps st false e h =
       let fit = ltb-false r (length (st .pieces) + length ps) e in
@@ -124,7 +123,7 @@ ended-bounded : (n r k : ℕ) (st : State) → Holding k r st → k ≤ n → Bo
 unfolding ending
 ended-bounded n r k st h l = by (rootDone st)
   where
-    by : (t : Bool) → Bounded n r (pick t (built (st .nodes) (st .pieces)) (refused 9 k))
+    by : (t : Bool) → Bounded n r (cond t (built (st .nodes) (st .pieces)) (refused 9 k))
     by true = (omega arith, h .1)
     by false = (omega arith, l)
 
@@ -146,7 +145,7 @@ module _ (text events : List ℕ) (bytes : Bytes events) (room r : ℕ) where
     where
       by : (t : Bool) (n : Next) → step text events room r (readEvent events i) st ≡ n → Stepped (k + 1) r n
           → ((j : ℕ) (u : State) → Holding (k + 1) r u → k + 1 ≤ j → j ≤ length events → Bounded (length events) r (run text events room r f j (k + 1) u))
-          → Bounded (length events) r (pick t (follow n (λ (u : State). run text events room r f (nextPlace (readEvent events i)) (k + 1) u) k) (ending k st))
+          → Bounded (length events) r (cond t (follow n (λ (u : State). run text events room r f (nextPlace (readEvent events i)) (k + 1) u) k) (ending k st))
       by false n e g rest = ended-bounded (length events) r k st h (omega arith)
       by true (stop number) e g rest = (g, omega arith)
       by true (go u) e g rest = let on = led-on i st u e in rest (nextPlace (readEvent events i)) u g (omega arith) (on .1)
@@ -173,14 +172,14 @@ building-bounded text events size pieceSize bytes = by (ltb eventsLimit (length 
     all : Outcome
     all = run text events (recordRoom size) (pieceRoom pieceSize) (length events) 0 0 empty
 
-    by : (t : Bool) → ltb eventsLimit (length events) ≡ t → Bounded eventsLimit pieceLimit (pick t (refused 1 0) (admitted (admission text) all))
+    by : (t : Bool) → ltb eventsLimit (length events) ≡ t → Bounded eventsLimit pieceLimit (cond t (refused 1 0) (admitted (admission text) all))
     by true e = (omega arith, omega arith)
     by false e =
         admitted-bounded eventsLimit pieceLimit (admission text) all
         (bounded-wider (length events) eventsLimit (pieceRoom pieceSize) pieceLimit all (ltb-false eventsLimit (length events) e) (room-limited pieceSize)
         (run-bounded text events bytes (recordRoom size) (pieceRoom pieceSize) (length events) 0 0 empty (omega arith, omega arith) (omega arith) (omega arith)))
 
-one-bounded : (r : ℕ) (t : Bool) (n : Next) → Stepped 1 r n → Bounded 1 r (pick t (refused 3 0) (follow n (λ (st : State). built (st .nodes) (st .pieces)) 0))
+one-bounded : (r : ℕ) (t : Bool) (n : Next) → Stepped 1 r n → Bounded 1 r (cond t (refused 3 0) (follow n (λ (st : State). built (st .nodes) (st .pieces)) 0))
 one-bounded r true n g = (omega arith, omega arith)
 one-bounded r false (go st) g = g
 one-bounded r false (stop number) g = (g, omega arith)

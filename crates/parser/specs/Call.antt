@@ -1,7 +1,7 @@
 -- The two public calls, whole: what each comes to, and what it promises of its answer and of every lent number (R0 to R2, RZ, RS, B1).
 use mathlib.Core.Path.{_≡_}
 use Prim.Native.Nat.{ℕ}
-use mathlib.Core.Bool.{Bool, false}
+use mathlib.Core.Bool.{Bool, false, cond}
 use mathlib.Core.List.{List, [], _∷_}
 use lib.Dec.{ltb}
 use lib.ListN.{length, replicate}
@@ -11,7 +11,6 @@ use Rattle.text.specs.declared.admission.Admission.the-variants.{Admitted, TooL
 use Rattle.measure.specs.Scalar.{folded}
 use Rattle.event.specs.Read.{eventsLimit}
 use Rattle.event.specs.declared.tag.YamlTag.the-variants.{Absent}
-use Rattle.parser.specs.Pick.{pick}
 use Rattle.parser.specs.Record.{zeroNode}
 use Rattle.parser.specs.Machine.{State, empty, Outcome, built, refused, scalarAt, scalarKept, follow, runAll}
 use Rattle.parser.specs.Layout.{laidNodes, laidPieces, recordRoom, pieceRoom}
@@ -59,13 +58,13 @@ admitted NotUtf8 o = refused (admissionNumber NotUtf8) 0
 -- `build`, with buffers of so many numbers
 unfoldable pub building : List ℕ → List ℕ → ℕ → ℕ → Outcome
 building text events size pieceSize =
-    pick (ltb eventsLimit (length events)) (refused 1 0)
+    cond (ltb eventsLimit (length events)) (refused 1 0)
     (admitted (admission text) (runAll text events (recordRoom size) (pieceRoom pieceSize)))
 
 -- one scalar, its text and value admitted: it awaits nothing, has no tag, and its value's place is 0
 unfoldable pub oneScalar : List ℕ → ℕ → ℕ → ℕ → Bool → List ℕ → ℕ → Outcome
 oneScalar text index column style emptySpan value pieceSize =
-    pick (ltb folded style) (refused 3 0)
+    cond (ltb folded style) (refused 3 0)
     (follow (scalarKept text [] (pieceRoom pieceSize) (scalarAt text false index column style emptySpan value 0) Absent empty) (λ (st : State). built (st .nodes) (st .pieces)) 0)
 
 -- the call on one scalar

@@ -1,11 +1,10 @@
 -- Open collections, and the record of one that ends (E2, N2, S2, S3).
 use Prim.Native.Nat.{ℕ, _+_, _-_, _/_, _%_}
-use mathlib.Core.Bool.{Bool, false, _&&_, not}
+use mathlib.Core.Bool.{Bool, false, _&&_, not, cond}
 use mathlib.Core.List.{List, [], _∷_}
 use lib.Dec.{eqb, ltb}
 use lib.ListN.{getD}
 use Rattle.schema.specs.Record.{both}
-use Rattle.parser.specs.Pick.{pick}
 use Rattle.parser.specs.Record.{extent, noList}
 use Rattle.parser.specs.Scalar.{stepPast, tagInfo}
 use Rattle.parser.specs.declared.record.Node.{Node}
@@ -22,7 +21,7 @@ withChild i (o ∷ os) =
       start = o .start;
       suffix = o .suffix;
       children = o .children + 1;
-      first = pick (eqb (o .children) 0) i (o .first);
+      first = cond (eqb (o .children) 0) i (o .first);
       before = o .before;
     }
     ∷ os
@@ -34,30 +33,30 @@ awaitsValue (o ∷ os) = o .mapping && eqb (o .children % 2) 1
 
 -- whether an end of this kind ends the collection: it is of that kind, and no key is without its value (R4)
 unfoldable pub closes : Bool → Open → Bool
-closes mapping o = pick mapping (o .mapping && eqb (o .children % 2) 0) (not (o .mapping))
+closes mapping o = cond mapping (o .mapping && eqb (o .children % 2) 0) (not (o .mapping))
 
 -- ---- span
 
 -- where the end's marker stands at byte i: plus 1 on the closing bracket (S2)
 unfoldable pub collectionEnd : List ℕ → Bool → ℕ → ℕ
-collectionEnd text mapping i = stepPast text (pick mapping 0x7d 0x5d) i
+collectionEnd text mapping i = stepPast text (cond mapping 0x7d 0x5d) i
 
 -- a mapping not standing on `{` starts at its first key, if it has one (S3)
 unfoldable pub collectionStart : List ℕ → Open → ℕ
 collectionStart text o =
-    pick (o .mapping && (ltb 0 (o .children) && not (eqb (getD text (o .start) 0) 0x7b))) (o .first) (o .start)
+    cond (o .mapping && (ltb 0 (o .children) && not (eqb (getD text (o .start) 0) 0x7b))) (o .first) (o .start)
 
 -- ---- record
 
 -- children of an array, pairs of a hash
 unfoldable pub members : Open → ℕ
-members o = pick (o .mapping) (o .children / 2) (o .children)
+members o = cond (o .mapping) (o .children / 2) (o .children)
 
 -- the record of a collection that starts at byte s and ends at byte e, after n nodes; a negative length is 0 (S3)
 unfoldable pub collectionOver : List ℕ → Open → ℕ → ℕ → ℕ → Node
 collectionOver text o s e n =
     record {
-      kind = pick (o .mapping) 8 7;
+      kind = cond (o .mapping) 8 7;
       extent = extent s (s + (e - s));
       tag = tagInfo text s (o .suffix);
       subtree = n - o .before + 1;

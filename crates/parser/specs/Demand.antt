@@ -3,7 +3,7 @@
 use Prim.Native.Nat.{ℕ, zero, suc, _+_, _-_, _*_, _≤_, _<_}
 use mathlib.Core.Path.{_≡_}
 use mathlib.Core.Logic.{_⊎_}
-use mathlib.Core.Bool.{Bool, true, false}
+use mathlib.Core.Bool.{Bool, true, false, cond}
 use mathlib.Core.List.{List, [], _∷_, _++_}
 use lib.Dec.{eqb}
 use lib.ListN.{length, getD, drop}
@@ -28,7 +28,6 @@ use Rattle.provenance.specs.Demand.{Demand3}
 use Rattle.provenance.specs.declared.step.Step.{Step}
 use Rattle.provenance.specs.declared.walk.Walked.{Walked}
 use Rattle.provenance.specs.declared.walk.Walked.the-variants.{Listed, NoRoom, NoList}
-use Rattle.parser.specs.Pick.{pick}
 use Rattle.parser.specs.Record.{absent, extent, noTag, noList, zeroNode}
 use Rattle.parser.specs.Scalar.{scalarStart, withSpan}
 use Rattle.parser.specs.Collection.{awaitsValue}
@@ -82,7 +81,7 @@ TagSays text events start (tagged handle suffix) t =
 
 -- how the walk ended, as the record of its scalar tells
 abbrev pub walkedBy : PieceList → Walked
-walkedBy l = pick (eqb (l .first) absent) NoList (Listed (l .count))
+walkedBy l = cond (eqb (l .first) absent) NoList (Listed (l .count))
 
 -- n pieces of four numbers each
 unfoldable pub readPieces : ℕ → List ℕ → List Piece

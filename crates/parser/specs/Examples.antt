@@ -2,7 +2,7 @@
 -- rows, the free entry and the depth decide (R0 to R9, RO, E4, N1). Row 1 is stated for every input that is too long.
 use Prim.Native.Nat.{ℕ, zero, suc, _+_, _<_}
 use mathlib.Core.Path.{_≡_, refl}
-use mathlib.Core.Bool.{Bool, true, false}
+use mathlib.Core.Bool.{Bool, true, false, cond}
 use mathlib.Core.List.{List, [], _∷_, _++_}
 use borrow.Author.Tests.{lt-ltb}
 use lib.Dec.{ltb}
@@ -33,7 +33,6 @@ use Rattle.schema.specs.Tag.{untagged, resolveScalar}
 use Rattle.schema.specs.Record.{both}
 use Rattle.event.specs.Number.{numberAt}
 use Rattle.event.specs.Read.{eventsLimit, readString, readTag, readStartTag, readScalar, readBody, readEvent}
-use Rattle.parser.specs.Pick.{pick}
 use Rattle.parser.specs.Record.{extent, noTag, noList, pieceList, aliasNode}
 use Rattle.parser.specs.Scalar.{stepPast, scalarStart, spanLen, listAt, tagInfo, resolvedBy, scalarNode}
 use Rattle.parser.specs.Collection.{closes, collectionEnd, collectionStart, members, collectionOver, collectionNode}
@@ -76,7 +75,7 @@ deep (suc n) = sequence 0 ++ deep n
 
 -- ---- row 1: a text or event bytes above their limit, whatever else holds; so it comes before 2
 
-either : (t : Bool) (o : Outcome) → o ≡ refused 1 0 → pick t (refused 1 0) o ≡ refused 1 0
+either : (t : Bool) (o : Outcome) → o ≡ refused 1 0 → cond t (refused 1 0) o ≡ refused 1 0
 either true o e = refl
 either false o e = e
 

@@ -1,7 +1,7 @@
 -- What the code's values hold of the machine's state. Cited by the inner calls' contracts only.
 use mathlib.Core.Path.{_≡_}
 use Prim.Native.Nat.{ℕ, zero, suc, _+_, _*_, _/_, _≤_, _<_}
-use mathlib.Core.Bool.{Bool}
+use mathlib.Core.Bool.{Bool, cond}
 use mathlib.Core.List.{List, [], _∷_}
 use mathlib.Core.Option.{Option, none, some}
 use lib.Dec.{eqb}
@@ -17,7 +17,6 @@ use Rattle.event.specs.declared.tag.YamlTag.{YamlTag}
 use Rattle.event.specs.declared.tag.YamlTag.the-variants as tag
 use Rattle.event.specs.declared.read.Event.{Event}
 use Rattle.event.specs.declared.read.Event.the-variants.{SequenceStart, SequenceEnd, MappingStart, MappingEnd, Scalar, Alias, Malformed}
-use Rattle.parser.specs.Pick.{pick}
 use Rattle.parser.specs.Record.{absent, recordWidth}
 use Rattle.provenance.specs.Reading.{Piece}
 use Rattle.provenance.specs.declared.walk.Walked.{Walked}
@@ -43,7 +42,7 @@ abbrev pub stackSize : ℕ
 stackSize = 448
 
 unfoldable pub suffixAt : ℕ → ℕ → Suffix
-suffixAt i n = pick (eqb i absent) Absent (At i n)
+suffixAt i n = cond (eqb i absent) Absent (At i n)
 
 abbrev pub suffixPlace : Suffix → ℕ
 suffixPlace Absent = absent

@@ -1,6 +1,4 @@
 -- The definitions that the contracts of `parser` cite, in reading order, and the laws that callers go by.
--- a choice by a test
-pub mod Pick
 -- the twelve numbers of a record
 pub mod Record
 -- a scalar's start, span, pieces and record

@@ -4,7 +4,7 @@
 --
 -- `run` counts down the length of the event bytes, which are more than the events; what a reader expects of it stands in `RunLaws`.
 use Prim.Native.Nat.{ℕ, zero, suc, _+_}
-use mathlib.Core.Bool.{Bool, true, false, _&&_}
+use mathlib.Core.Bool.{Bool, true, false, _&&_, cond}
 use mathlib.Core.List.{List, [], _∷_, _++_}
 use mathlib.Core.Option.{Option, none, some}
 use lib.Dec.{eqb, ltb, leb}
@@ -19,7 +19,6 @@ use Rattle.event.specs.declared.string.Part.{Part}
 use Rattle.event.specs.declared.tag.YamlTag.{YamlTag}
 use Rattle.event.specs.declared.read.Event.{Event}
 use Rattle.event.specs.declared.read.Event.the-variants.{SequenceStart, SequenceEnd, MappingStart, MappingEnd, Scalar, Alias, Malformed}
-use Rattle.parser.specs.Pick.{pick}
 use Rattle.parser.specs.Record.{withList, aliasNode}
 use Rattle.parser.specs.Scalar.{ScalarAt, scalarFrom, scalarStart, scalarPieces, suffixOf, tagInfo, resolvedBy, scalarNode}
 use Rattle.parser.specs.Collection.{withChild, awaitsValue, closes, collectionNode}
@@ -51,7 +50,7 @@ rootDone st = eqb (length (st .opens)) 0 && ltb 0 (length (st .nodes))
 
 -- R5
 unfoldable pub beforeRoot : State → Next → Next
-beforeRoot st n = pick (rootDone st) (stop 5) n
+beforeRoot st n = cond (rootDone st) (stop 5) n
 
 -- how many collections may be open
 abbrev pub depthLimit : ℕ
@@ -59,11 +58,11 @@ depthLimit = 64
 
 -- R6
 unfoldable pub withinDepth : State → Next → Next
-withinDepth st n = pick (leb depthLimit (length (st .opens))) (stop 6) n
+withinDepth st n = cond (leb depthLimit (length (st .opens))) (stop 6) n
 
 -- R7
 unfoldable pub withinRoom : ℕ → State → Next → Next
-withinRoom room st n = pick (leb room (length (st .nodes))) (stop 7) n
+withinRoom room st n = cond (leb room (length (st .nodes))) (stop 7) n
 
 -- ---- what an event does
 
@@ -90,7 +89,7 @@ ended text room index o os st =
 -- R4
 abbrev pub closed : List ℕ → ℕ → Bool → ℕ → List Open → State → Next
 closed text room mapping index [] st = stop 4
-closed text room mapping index (o ∷ os) st = pick (closes mapping o) (ended text room index o os st) (stop 4)
+closed text room mapping index (o ∷ os) st = cond (closes mapping o) (ended text room index o os st) (stop 4)
 
 unfoldable pub aliased : List ℕ → ℕ → ℕ → State → Next
 aliased text room index st = beforeRoot st (withinRoom room st (go (completed (aliasNode (byteOffset text index)) st)))
@@ -99,7 +98,7 @@ aliased text room index st = beforeRoot st (withinRoom room st (go (completed (a
 unfoldable pub keeping : ℕ → Node → Option (List Piece) → State → Next
 keeping pieceRoom x none st = go (completed x st)
 keeping pieceRoom x (some ps) st =
-    pick (ltb pieceRoom (length (st .pieces) + length ps)) (stop (walkedNumber NoRoom))
+    cond (ltb pieceRoom (length (st .pieces) + length ps)) (stop (walkedNumber NoRoom))
     (go (completed (withList x (length (st .pieces)) (length ps)) (record { nodes = st .nodes; opens = st .opens; pieces = st .pieces ++ ps })))
 
 -- a scalar whose marker index is `index`
@@ -142,7 +141,7 @@ nextPlace Malformed = 0
 
 -- the events have ended, and were k (R0, R9)
 unfoldable pub ending : ℕ → State → Outcome
-ending k st = pick (rootDone st) (built (st .nodes) (st .pieces)) (refused 9 k)
+ending k st = cond (rootDone st) (built (st .nodes) (st .pieces)) (refused 9 k)
 
 abbrev pub follow : Next → (State → Outcome) → ℕ → Outcome
 follow (go st) f k = f st
@@ -152,7 +151,7 @@ follow (stop n) f k = refused n k
 unfoldable pub run : List ℕ → List ℕ → ℕ → ℕ → ℕ → ℕ → ℕ → State → Outcome
 run text events room pieceRoom zero i k st = ending k st
 run text events room pieceRoom (suc f) i k st =
-    pick (ltb i (length events))
+    cond (ltb i (length events))
     (follow (step text events room pieceRoom (readEvent events i) st) (λ (n : State). run text events room pieceRoom f (nextPlace (readEvent events i)) (k + 1) n) k)
     (ending k st)
 

@@ -3,7 +3,7 @@
 use mathlib.Core.Path.{_≡_, refl, ap, _∙_}
 use Prim.{Unit}
 use Prim.Native.Nat.{ℕ, zero, suc, _+_, _*_, _/_, _≤_, _<_}
-use mathlib.Core.Bool.{Bool, true, false}
+use mathlib.Core.Bool.{Bool, true, false, cond}
 use mathlib.Core.List.{List, [], _∷_}
 use mathlib.Core.Logic.{_⊎_, inl, inr}
 use mathlib.Core.Option.{Option, none, some}
@@ -25,7 +25,6 @@ use Rattle.event.specs.declared.read.Event.the-variants.{SequenceStart, Sequenc
 use Rattle.text.specs.Admission.{admission}
 use Rattle.text.specs.declared.admission.Admission.{Admission}
 use Rattle.text.specs.declared.admission.Admission.the-variants.{Admitted, TooLong, NotUtf8}
-use Rattle.parser.specs.Pick.{pick}
 use Rattle.parser.specs.Collection.{closes}
 use Rattle.parser.specs.Machine.{State, empty, Next, go, stop, Outcome, built, refused, depthLimit, rootDone, beforeRoot, withinDepth, withinRoom}
 use Rattle.parser.specs.Machine.{started, ended, closed, aliased, keeping, scalarKept, scalared, step, nextPlace, ending, follow, run, runAll}
@@ -50,7 +49,7 @@ abbrev Passes : Next → Type 0
 Passes (go st) = Unit {0}
 Passes (stop number) = number ≡ 7 → ⊥
 
-pick-passes : (t : Bool) (m n : Next) → Passes m → Passes n → Passes (pick t m n)
+pick-passes : (t : Bool) (m n : Next) → Passes m → Passes n → Passes (cond t m n)
 pick-passes true m n g h = g
 pick-passes false m n g h = h
 
@@ -113,7 +112,7 @@ ended-fits : (k : ℕ) (st : State) → Fits (ending k st)
 unfolding ending
 ended-fits k st = by (rootDone st)
   where
-    by : (t : Bool) → Fits (pick t (built (st .nodes) (st .pieces)) (refused 9 k))
+    by : (t : Bool) → Fits (cond t (built (st .nodes) (st .pieces)) (refused 9 k))
     by true = tt
     by false = λ e. omega arith
 
@@ -133,7 +132,7 @@ module _ (text events : List ℕ) (bytes : Bytes events) (room r : ℕ) (enough 
   run-fits (suc f) k i st h l = by (ltb i (length events)) (malformed-or-answers events bytes i) (run-fits f (k + 1))
     where
       by : (t : Bool) → (readEvent events i ≡ Malformed) ⊎ Answers events i (readEvent events i) → Rest f (k + 1)
-          → Fits (pick t (follow (step text events room r (readEvent events i) st) (λ (u : State). run text events room r f (nextPlace (readEvent events i)) (k + 1) u) k) (ending k st))
+          → Fits (cond t (follow (step text events room r (readEvent events i) st) (λ (u : State). run text events room r f (nextPlace (readEvent events i)) (k + 1) u) k) (ending k st))
       by false a rest = ended-fits k st
       by true (inl bad) rest = rw bad (λ e. omega arith)
       by true (inr a) rest =
@@ -158,7 +157,7 @@ room-enough text events size pieceSize bytes enough k e = (rw e at (by (ltb even
     all : Outcome
     all = run text events (recordRoom size) (pieceRoom pieceSize) (length events) 0 0 empty
 
-    by : (t : Bool) → Fits (pick t (refused 1 0) (admitted (admission text) all))
+    by : (t : Bool) → Fits (cond t (refused 1 0) (admitted (admission text) all))
     by true = λ e. omega arith
     by false =
         admitted-fits (admission text) all

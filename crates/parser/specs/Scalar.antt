@@ -1,7 +1,7 @@
 -- A scalar: where it starts (S1), how far it reaches, its pieces, and its record without them (E2). Measures, walk, resolution and tag
 -- search are cited from the layers below.
 use Prim.Native.Nat.{ℕ, _+_}
-use mathlib.Core.Bool.{Bool, true, false, _&&_}
+use mathlib.Core.Bool.{Bool, true, false, _&&_, cond}
 use mathlib.Core.List.{List, []}
 use mathlib.Core.Option.{Option, none}
 use lib.Dec.{eqb}
@@ -18,7 +18,6 @@ use Rattle.provenance.specs.Start.{scalarList}
 use Rattle.event.specs.Read.{partOf}
 use Rattle.event.specs.declared.tag.YamlTag.{YamlTag}
 use Rattle.event.specs.declared.tag.YamlTag.the-variants.{Absent, Present}
-use Rattle.parser.specs.Pick.{pick}
 use Rattle.parser.specs.Record.{extent, noTag, noList}
 use Rattle.parser.specs.declared.record.TagInfo.{TagInfo}
 use Rattle.parser.specs.declared.record.Node.{Node}
@@ -42,21 +41,21 @@ scalarFrom i column style emptySpan value place =
 
 -- plus 1 where the byte c stands at the place i
 unfoldable pub stepPast : List ℕ → ℕ → ℕ → ℕ
-stepPast text c i = pick (eqb (getD text i 0) c) (i + 1) i
+stepPast text c i = cond (eqb (getD text i 0) c) (i + 1) i
 
 -- an empty plain scalar awaited as a mapping's value steps past the colon it stands on (S1)
 unfoldable pub scalarStart : List ℕ → ℕ → List ℕ → ℕ → Bool → ℕ
-scalarStart text i value style awaited = pick (awaited && (eqb style plain && eqb (length value) 0)) (stepPast text 0x3a i) i
+scalarStart text i value style awaited = cond (awaited && (eqb style plain && eqb (length value) 0)) (stepPast text 0x3a i) i
 
 -- ---- span and pieces: no length and no list where the start is past the text or inside a character (S1)
 
 unfoldable pub spanLen : List ℕ → ScalarAt → ℕ
 spanLen text x =
-    pick (isBoundary text (x .start)) (scalarLen (drop (x .start) text) (x .value) (x .style) (x .emptySpan) (x .column)) 0
+    cond (isBoundary text (x .start)) (scalarLen (drop (x .start) text) (x .value) (x .style) (x .emptySpan) (x .column)) 0
 
 -- the pieces of a scalar that starts at byte i and spans n bytes, if its walk gives a list
 unfoldable pub listAt : List ℕ → ℕ → ℕ → List ℕ → ℕ → ℕ → Option (List Piece)
-listAt text i n value style column = pick (isBoundary text i) (scalarList text i n value style column) none
+listAt text i n value style column = cond (isBoundary text i) (scalarList text i n value style column) none
 
 abbrev pub scalarPieces : List ℕ → ScalarAt → Option (List Piece)
 scalarPieces text x = listAt text (x .start) (spanLen text x) (x .value) (x .style) (x .column)

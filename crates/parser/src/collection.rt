@@ -1,10 +1,10 @@
 // Where collections start and end, and their records. (01: Reading rules, Collection end; S2, S3, E2.)
+ghost use mathlib.Core.Bool.{cond};
 ghost use mathlib.Core.Path.{_≡_};
 ghost use Prim.Native.Nat.{_+_, _-_, _≤_, _<_};
 ghost use lib.ListN.{length};
 ghost use Rattle.text.specs.Boundary.{Boundary};
 ghost use Rattle.text.specs.AdmissionLaws.{Sound};
-ghost use Rattle.parser.specs.Pick.{pick};
 ghost use Rattle.parser.specs.Record.{extent};
 ghost use Rattle.parser.specs.Scalar.{stepPast, tagInfo};
 ghost use Rattle.parser.specs.Collection.{closes, members, collectionEnd, collectionStart, collectionOver, collectionNode};
@@ -104,7 +104,7 @@ fn member_count(o: Open) -> u32
 }
 
 fn kind_of(mapping: bool) -> u32
-    ensures { λ r. ⌜ r ≡ pick mapping 8 7 ⌝ }
+    ensures { λ r. ⌜ r ≡ cond mapping 8 7 ⌝ }
 {
     if mapping {
         return HASH;

@@ -1,10 +1,10 @@
 // The open collections: seven numbers for each in a stack of 64. (01: row 6; N2.)
+ghost use mathlib.Core.Bool.{cond};
 ghost use mathlib.Core.Path.{_≡_};
 ghost use Prim.Native.Nat.{_+_, _-_, _*_, _≤_, _<_};
 ghost use lib.Dec.{eqb};
 ghost use lib.ListN.{length};
 ghost use lib.Seq.{sets};
-ghost use Rattle.parser.specs.Pick.{pick};
 ghost use Rattle.parser.specs.Collection.{withChild, awaitsValue};
 ghost use Rattle.parser.specs.Held.{suffixAt, suffixPlace, suffixLen, frame, frameNumbers, openOf, Countable};
 use crate::buffer::put;
@@ -120,7 +120,7 @@ pub fn expecting_value(stack: &[u32], depth: usize) -> bool
 
 // Where the first child starts, once one that starts at `start` is added to `children` others.
 fn first_child(children: u32, first: u32, start: u32) -> u32
-    ensures { λ r. ⌜ r ≡ pick (eqb children 0) start first ⌝ }
+    ensures { λ r. ⌜ r ≡ cond (eqb children 0) start first ⌝ }
 {
     if children == 0 {
         return start;

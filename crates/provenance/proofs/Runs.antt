@@ -1,6 +1,6 @@
 -- Runs, byte by byte, as the loops go through them. Assumes nothing.
 use mathlib.Core.Path.{_≡_, refl, sym, ap, _∙_}
-use mathlib.Core.Bool.{true, false}
+use mathlib.Core.Bool.{true, false, cond}
 use mathlib.Core.List.{List, _∷_}
 use Prim.Native.Nat.{ℕ, zero, suc, _+_, _≤_, _<_}
 use native.Mathlib.Numerals.{add-one}
@@ -11,13 +11,13 @@ use lib.Seq.{drop-cons}
 use borrow.Author.Tests.{lt-ltb, le-ltb, ne-eqb}
 use Rattle.text.specs.Class.{isWhiteSpaceByte}
 use Rattle.provenance.specs.declared.run.Run.{Run}
-use Rattle.provenance.specs.Run.{pick, newline, whiteRun, newlinesIn, throughLast, isBlank, blankRun, onlyNewlines, told, runOf}
+use Rattle.provenance.specs.Run.{newline, whiteRun, newlinesIn, throughLast, isBlank, blankRun, onlyNewlines, told, runOf}
 use Rattle.provenance.specs.Start.{beforeNewline, headerEnd}
 
 -- ---- the white-space run: n bytes, k newlines, the last of them before m, and the source l is left
 
 abbrev lastWith : ℕ → ℕ → ℕ → ℕ
-lastWith n m t = pick (eqb t 0) m (n + t)
+lastWith n m t = cond (eqb t 0) m (n + t)
 
 unfoldable pub scanned : ℕ → ℕ → ℕ → List ℕ → Run
 scanned n k m l = told (n + length (whiteRun l)) (k + newlinesIn (whiteRun l)) (lastWith n m (throughLast (whiteRun l)))
@@ -29,11 +29,11 @@ last-none : (t : ℕ) → lastWith 0 0 t ≡ t
 last-none zero = refl
 last-none (suc t) = rw (ne-eqb (suc t) 0 (λ z. omega arith)) (omega arith)
 
-last-newline : (n m t : ℕ) → lastWith n m (pick (eqb t 0) 1 (suc t)) ≡ lastWith (n + 1) (n + 1) t
+last-newline : (n m t : ℕ) → lastWith n m (cond (eqb t 0) 1 (suc t)) ≡ lastWith (n + 1) (n + 1) t
 last-newline n m zero = refl
 last-newline n m (suc t) = rw (ne-eqb (suc t) 0 (λ z. omega arith), ne-eqb (suc (suc t)) 0 (λ z. omega arith)) (omega arith)
 
-last-other : (n m t : ℕ) → lastWith n m (pick (eqb t 0) 0 (suc t)) ≡ lastWith (n + 1) m t
+last-other : (n m t : ℕ) → lastWith n m (cond (eqb t 0) 0 (suc t)) ≡ lastWith (n + 1) m t
 last-other n m zero = refl
 last-other n m (suc t) = rw (ne-eqb (suc t) 0 (λ z. omega arith), ne-eqb (suc (suc t)) 0 (λ z. omega arith)) (omega arith)
 

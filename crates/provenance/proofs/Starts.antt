@@ -1,6 +1,6 @@
 -- Where the walk starts, as the code asks. Assumes nothing.
 use mathlib.Core.Path.{_≡_, sym, ap, _∙_}
-use mathlib.Core.Bool.{Bool, true, false, _&&_}
+use mathlib.Core.Bool.{Bool, true, false, _&&_, cond}
 use mathlib.Core.List.{List}
 use Prim.Native.Nat.{ℕ, _+_}
 use lib.ListN.{length, drop, getD}
@@ -8,7 +8,7 @@ use mathlib.Core.Option.{Option}
 use Rattle.text.specs.Boundary.{isBoundary}
 use Rattle.provenance.specs.declared.walk.Walked.{Walked}
 use Rattle.provenance.specs.declared.walk.Walked.the-variants.{NoList}
-use Rattle.provenance.specs.Run.{pick, onlyNewlines}
+use Rattle.provenance.specs.Run.{onlyNewlines}
 use Rattle.provenance.specs.Grammar.{isBlock, rulesOf}
 use Rattle.provenance.specs.Reading.{Piece, readingOf}
 use Rattle.provenance.specs.Layout.{room, zeros, answerOf, bufferOf, piecesIf}
@@ -25,31 +25,31 @@ header-no l v h = sym (ap (λ (x : Bool). x && onlyNewlines v) h)
 
 module _ (text : List ℕ) (start len : ℕ) (value : List ℕ) (style : ℕ) where
   abbrev elsewhere : ℕ
-  elsewhere = pick (isBlock style && atEmptyBlockHeader (drop start text) value) (start + headerEnd (drop start text) len) start
+  elsewhere = cond (isBlock style && atEmptyBlockHeader (drop start text) value) (start + headerEnd (drop start text) len) start
 
   pub start-quoted : isQuoted style ≡ true → start + 1 ≡ walkStart text start len value style
   unfolding walkStart
-  start-quoted q = sym (ap (λ (t : Bool). pick t (start + 1) elsewhere) q)
+  start-quoted q = sym (ap (λ (t : Bool). cond t (start + 1) elsewhere) q)
 
   module _ (q : isQuoted style ≡ false) where
     not-quoted : elsewhere ≡ walkStart text start len value style
     unfolding walkStart
-    not-quoted = sym (ap (λ (t : Bool). pick t (start + 1) elsewhere) q)
+    not-quoted = sym (ap (λ (t : Bool). cond t (start + 1) elsewhere) q)
 
     pub start-plain : isBlock style ≡ false → start ≡ walkStart text start len value style
-    start-plain b = sym (ap (λ (t : Bool). pick (t && atEmptyBlockHeader (drop start text) value) (start + headerEnd (drop start text) len) start) b) ∙ not-quoted
+    start-plain b = sym (ap (λ (t : Bool). cond (t && atEmptyBlockHeader (drop start text) value) (start + headerEnd (drop start text) len) start) b) ∙ not-quoted
 
     pub start-content : atEmptyBlockHeader (drop start text) value ≡ false → start ≡ walkStart text start len value style
     start-content h =
-        sym (ap (λ (t : Bool). pick (isBlock style && t) (start + headerEnd (drop start text) len) start) h
-        ∙ ap (λ (t : Bool). pick t (start + headerEnd (drop start text) len) start) (and-no (isBlock style)))
+        sym (ap (λ (t : Bool). cond (isBlock style && t) (start + headerEnd (drop start text) len) start) h
+        ∙ ap (λ (t : Bool). cond t (start + headerEnd (drop start text) len) start) (and-no (isBlock style)))
         ∙ not-quoted
 
     pub start-header : isBlock style ≡ true → atEmptyBlockHeader (drop start text) value ≡ true → (n : ℕ) → n ≡ headerEnd (drop start text) len → start + n ≡ walkStart text start len value style
     start-header b h n e =
         ap (λ (k : ℕ). start + k) e
-        ∙ sym (ap (λ (t : Bool). pick (t && atEmptyBlockHeader (drop start text) value) (start + headerEnd (drop start text) len) start) b
-        ∙ ap (λ (t : Bool). pick t (start + headerEnd (drop start text) len) start) h)
+        ∙ sym (ap (λ (t : Bool). cond (t && atEmptyBlockHeader (drop start text) value) (start + headerEnd (drop start text) len) start) b
+        ∙ ap (λ (t : Bool). cond t (start + headerEnd (drop start text) len) start) h)
         ∙ not-quoted
 
 -- ---- the list of a scalar

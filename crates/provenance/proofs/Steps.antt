@@ -1,6 +1,6 @@
 -- The step that fits, as the code finds it. Assumes nothing.
 use mathlib.Core.Path.{_≡_, refl, sym, ap, _∙_, subst}
-use mathlib.Core.Bool.{Bool, true, false, _&&_, _||_}
+use mathlib.Core.Bool.{Bool, true, false, _&&_, _||_, cond}
 use mathlib.Core.List.{List, [], _∷_}
 use Prim.Native.Nat.{ℕ, _+_, _-_, _≤_, _<_, min}
 use native.Mathlib.Omega.{arith}
@@ -14,7 +14,7 @@ use Rattle.provenance.specs.declared.escape.Escape.{Escape}
 use Rattle.provenance.specs.declared.escape.Escape.the-variants.{Takes, NoEscape}
 use Rattle.provenance.specs.declared.step.Step.{Step}
 use Rattle.provenance.specs.declared.step.Step.the-variants.{Verbatim, Replacement, NoStep}
-use Rattle.provenance.specs.Run.{pick, newline, carriageReturn, whiteRun, newlinesIn, throughLast, cut, blankRun, onlyNewlines, noRun, runOf, cutLen}
+use Rattle.provenance.specs.Run.{newline, carriageReturn, whiteRun, newlinesIn, throughLast, cut, blankRun, onlyNewlines, noRun, runOf, cutLen}
 use Rattle.provenance.specs.Grammar.{Rules, orElse, sameBytes, breakPair, startsBreak, isBreakByte, opensBreak, breakStep, asStep, escapeStep, equalStep, endStep, step}
 use Rattle.provenance.specs.Looked.{breakRun, Tells, knownAfter}
 use Rattle.text.specs.Tests.{clash, by-order}
@@ -60,7 +60,7 @@ opens-told t block block' b b' c c' e p q r = sym (e ∙ ap (λ (x : Bool). open
 
 module _ (block : Bool) (src val : List ℕ) (s v known : ℕ) where
   abbrev Looked : Run
-  Looked = pick (ltb s known) noRun (breakRun block (drop s src) (drop v val))
+  Looked = cond (ltb s known) noRun (breakRun block (drop s src) (drop v val))
 
   opens-here : (t : Bool) → opensBreak block (getD src s 0) (getD val v 0) ≡ t → opensBreak block (getD (drop s src) 0 0) (getD (drop v val) 0 0) ≡ t
   opens-here t e =
@@ -139,18 +139,18 @@ module _ (block : Bool) (column : ℕ) (l val : List ℕ) (a b : ℕ) (ea : a �
   pair-same e =
       let xy : X ≡ Y = left-is ∙ e ∙ sym right-is in
       let y : sameBytes X Y ≡ true = subst (λ (z : List ℕ). sameBytes X z ≡ true) xy (same-refl X) in
-      ap Verbatim ea ∙ sym (ap (λ (t : Bool). pick t (Verbatim (length X)) (Replacement (length X) (length Y))) y)
+      ap Verbatim ea ∙ sym (ap (λ (t : Bool). cond t (Verbatim (length X)) (Replacement (length X) (length Y))) y)
 
   pub pair-other : (t : Bool) → (take a l ≡ take b val → t ≡ true) → t ≡ false → Replacement a b ≡ breakPair block column (whiteRun l) val
   unfolding breakPair
   pair-other t f e =
       let n : sameBytes X Y ≡ false = by-answer (sameBytes X Y) (λ y. absurd (clash (sym (f (sym left-is ∙ same-true X Y y ∙ right-is)) ∙ e))) (λ y. y) in
-      ap (λ (k : ℕ). Replacement k b) ea ∙ ap (λ (k : ℕ). Replacement (length X) k) eb ∙ sym (ap (λ (t : Bool). pick t (Verbatim (length X)) (Replacement (length X) (length Y))) n)
+      ap (λ (k : ℕ). Replacement k b) ea ∙ ap (λ (k : ℕ). Replacement (length X) k) eb ∙ sym (ap (λ (t : Bool). cond t (Verbatim (length X)) (Replacement (length X) (length Y))) n)
 
 pair-first : (block : Bool) (column : ℕ) (run val : List ℕ) (t : Step) → orElse (breakPair block column run val) t ≡ breakPair block column run val
 unfolding breakPair
 pair-first block column run val t =
-    by-test (λ (b : Bool). orElse (pick b (Verbatim (length (cut block column run))) (Replacement (length (cut block column run)) (length (take (newlinesIn run) (blankRun val))))) t ≡ pick b (Verbatim (length (cut block column run))) (Replacement (length (cut block column run)) (length (take (newlinesIn run) (blankRun val)))))
+    by-test (λ (b : Bool). orElse (cond b (Verbatim (length (cut block column run))) (Replacement (length (cut block column run)) (length (take (newlinesIn run) (blankRun val))))) t ≡ cond b (Verbatim (length (cut block column run))) (Replacement (length (cut block column run)) (length (take (newlinesIn run) (blankRun val)))))
     (sameBytes (cut block column run) (take (newlinesIn run) (blankRun val))) refl refl
 
 -- ---- the four in turn
@@ -192,13 +192,13 @@ module _ (r : Rules) (src val : List ℕ) where
         unfolding equalStep endStep
         step-equal h =
             sym (ap (λ (l : List ℕ). orElse (equalStep l val) (endStep l val)) ex ∙ ap (λ (l : List ℕ). orElse (equalStep (x ∷ xs) l) (endStep (x ∷ xs) l)) ey
-            ∙ ap (λ (t : Bool). orElse (pick t (Verbatim 1) NoStep) NoStep) (eq-eqb x y h)) ∙ last-is
+            ∙ ap (λ (t : Bool). orElse (cond t (Verbatim 1) NoStep) NoStep) (eq-eqb x y h)) ∙ last-is
 
         pub step-nothing : (x ≡ y → ⊥) → NoStep ≡ step r src val
         unfolding equalStep endStep
         step-nothing h =
             sym (ap (λ (l : List ℕ). orElse (equalStep l val) (endStep l val)) ex ∙ ap (λ (l : List ℕ). orElse (equalStep (x ∷ xs) l) (endStep (x ∷ xs) l)) ey
-            ∙ ap (λ (t : Bool). orElse (pick t (Verbatim 1) NoStep) NoStep) (ne-eqb x y h)) ∙ last-is
+            ∙ ap (λ (t : Bool). orElse (cond t (Verbatim 1) NoStep) NoStep) (ne-eqb x y h)) ∙ last-is
 
 pub end-fits : (val : List ℕ) → onlyNewlines val ≡ true → Replacement 0 (length val) ≡ endStep [] val
 unfolding endStep
@@ -215,7 +215,7 @@ abbrev pub Clear : List ℕ → ℕ → ℕ → Type 0
 Clear src s known = (i : ℕ) → s ≤ i → i < known → newlinesIn (whiteRun (drop i src)) ≡ 0
 
 module _ (block : Bool) (src val : List ℕ) (s v known : ℕ) (clear : Clear src s known) (run : Run)
-    (e : run ≡ pick (ltb s known) noRun (breakRun block (drop s src) (drop v val))) where
+    (e : run ≡ cond (ltb s known) noRun (breakRun block (drop s src) (drop v val))) where
   pub tells : Tells run block (drop s src) (drop v val)
   unfolding breakRun runOf
   tells =
@@ -226,7 +226,7 @@ module _ (block : Bool) (src val : List ℕ) (s v known : ℕ) (clear : Clear sr
       record {
         fits = λ h. absurd (omega arith);
         falls = λ _.
-            by-test (λ (t : Bool). pick t (runOf (drop s src)) noRun .newlines ≡ 0) (opensBreak block (getD (drop s src) 0 0) (getD (drop v val) 0 0))
+            by-test (λ (t : Bool). cond t (runOf (drop s src)) noRun .newlines ≡ 0) (opensBreak block (getD (drop s src) 0 0) (getD (drop v val) 0 0))
             (clear s (omega arith) lt) refl;
       })
       (λ le.

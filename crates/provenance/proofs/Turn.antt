@@ -1,4 +1,5 @@
 -- A turn of the walk's loop, on plain values, over any fair step function. Assumes nothing.
+use mathlib.Core.Bool.{cond}
 use mathlib.Core.Path.{_≡_, refl, sym, ap, _∙_, subst}
 use mathlib.Core.Logic.{⊎-elim}
 use mathlib.Core.List.{List, [], _∷_, _++_, append-nil, append-assoc}
@@ -11,7 +12,6 @@ use lib.Seq.{set-at, drop-at}
 use borrow.Author.Tests.{lt-ltb, le-ltb}
 use Rattle.provenance.specs.declared.step.Step.{Step}
 use Rattle.provenance.specs.declared.step.Step.the-variants.{Verbatim, Replacement, NoStep}
-use Rattle.provenance.specs.Run.{pick}
 use Rattle.provenance.specs.Reading.{Reads, sourceLen, contentLen, Piece, piece, verbatim, replacement}
 use Rattle.provenance.specs.Layout.{pieceSize, room, zeros, numbers, filled}
 use Rattle.provenance.specs.Writing.{fourAt, putPiece, putOpen, countOpen, putReplacement, clearedTo, writtenLen}
@@ -23,7 +23,7 @@ use Rattle.provenance.specs.PieceLaws.{closed, laid}
 -- ---- the open run
 
 -- the run that is open in the source, closed in the text
-closed-at : (base from s : ℕ) → closed (base + from) (base + s) ≡ pick (ltb from s) (piece verbatim (base + from) (base + s) (s - from) ∷ []) []
+closed-at : (base from s : ℕ) → closed (base + from) (base + s) ≡ cond (ltb from s) (piece verbatim (base + from) (base + s) (s - from) ∷ []) []
 closed-at base from s =
     by-order from s
     (λ lt.

@@ -7,7 +7,7 @@
 -- more is no digit: `EscapeLaws` has it as a law. There the Rust panics.
 use Prim.Native.Nat.{ℕ, _+_, _-_, _*_, _≤_, _<_}
 use mathlib.Core.Path.{_≡_}
-use mathlib.Core.Bool.{Bool, false, _&&_, _||_}
+use mathlib.Core.Bool.{Bool, false, _&&_, _||_, cond}
 use mathlib.Core.List.{List, [], _∷_}
 use mathlib.Core.Option.{Option, none, some}
 use lib.Dec.{leb, eqb}
@@ -17,7 +17,7 @@ use Rattle.text.specs.Utf8.{encode}
 use Rattle.measure.specs.Scalar.{singleQuoted, doubleQuoted}
 use Rattle.provenance.specs.declared.escape.Escape.{Escape}
 use Rattle.provenance.specs.declared.escape.Escape.the-variants.{Takes, NoEscape}
-use Rattle.provenance.specs.Run.{pick, newline, carriageReturn, whiteRun}
+use Rattle.provenance.specs.Run.{newline, carriageReturn, whiteRun}
 
 abbrev pub EscapeTable : Type 0
 EscapeTable = List ℕ → Escape
@@ -53,12 +53,12 @@ plus = 43
 
 -- the number of a hexadecimal digit
 abbrev pub digitValue : ℕ → ℕ
-digitValue b = pick (leb b 57) (b - 48) (pick (leb b 70) (b - 55) (b - 87))
+digitValue b = cond (leb b 57) (b - 48) (cond (leb b 70) (b - 55) (b - 87))
 
 -- the number that digits have behind the number n; none where one is no digit
 unfoldable pub digitsFrom : ℕ → List ℕ → Option ℕ
 digitsFrom n [] = some n
-digitsFrom n (b ∷ bs) = pick (isHexDigit b) (digitsFrom (n * 16 + digitValue b) bs) none
+digitsFrom n (b ∷ bs) = cond (isHexDigit b) (digitsFrom (n * 16 + digitValue b) bs) none
 
 -- at least one digit
 unfoldable pub digits : List ℕ → Option ℕ
@@ -68,18 +68,18 @@ digits (b ∷ bs) = digitsFrom 0 (b ∷ bs)
 -- a plus may stand before them
 unfoldable pub radix16 : List ℕ → Option ℕ
 radix16 [] = none
-radix16 (b ∷ bs) = pick (eqb b plus) (digits bs) (digits (b ∷ bs))
+radix16 (b ∷ bs) = cond (eqb b plus) (digits bs) (digits (b ∷ bs))
 
 -- the bytes of the code's character; 1 for a surrogate and for no code
 unfoldable pub codeContent : Option ℕ → ℕ
 codeContent none = 1
-codeContent (some c) = pick (inside 0xd800 0xdfff c) 1 (length (encode c))
+codeContent (some c) = cond (inside 0xd800 0xdfff c) 1 (length (encode c))
 
 -- ---- the tables
 
 -- two quotes
 unfoldable pub singleQuoteEscapes : EscapeTable
-singleQuoteEscapes src = pick (eqb (getD src 0 0) quote && eqb (getD src 1 0) quote) (Takes 2 1) NoEscape
+singleQuoteEscapes src = cond (eqb (getD src 0 0) quote && eqb (getD src 1 0) quote) (Takes 2 1) NoEscape
 
 unfoldable pub isOneOf : List ℕ → ℕ → Bool
 isOneOf [] c = false
@@ -92,13 +92,13 @@ oneByteEscapes = 110 ∷ 116 ∷ 114 ∷ 48 ∷ 97 ∷ 98 ∷ 34 ∷ 92 ∷ 47 �
 -- by the bytes after the backslash, of which c is the first
 unfoldable pub backslashEscape : ℕ → List ℕ → Escape
 backslashEscape c after =
-    pick (isOneOf oneByteEscapes c) (Takes 2 1)
-    (pick (eqb c 120) (Takes 4 1)
-    (pick (eqb c 117) (Takes 6 (codeContent (radix16 (take 4 (drop 1 after)))))
-    (pick (eqb c newline || eqb c carriageReturn) (Takes (1 + length (whiteRun after)) 0) NoEscape)))
+    cond (isOneOf oneByteEscapes c) (Takes 2 1)
+    (cond (eqb c 120) (Takes 4 1)
+    (cond (eqb c 117) (Takes 6 (codeContent (radix16 (take 4 (drop 1 after)))))
+    (cond (eqb c newline || eqb c carriageReturn) (Takes (1 + length (whiteRun after)) 0) NoEscape)))
 
 unfoldable pub doubleQuoteEscapes : EscapeTable
-doubleQuoteEscapes src = pick (eqb (getD src 0 0) backslash) (backslashEscape (getD src 1 0) (drop 1 src)) NoEscape
+doubleQuoteEscapes src = cond (eqb (getD src 0 0) backslash) (backslashEscape (getD src 1 0) (drop 1 src)) NoEscape
 
 -- the three reach alike: `\u` with nothing after it claims 6 bytes where 2 are left, and a code has at most 3 bytes
 abbrev pub escapesReach : Reach
@@ -107,5 +107,5 @@ escapesReach = record { past = 4; content = 3 }
 -- by style; plain and block scalars have none
 unfoldable pub escapesOf : ℕ → EscapeTable
 escapesOf style src =
-    pick (eqb style singleQuoted) (singleQuoteEscapes src)
-    (pick (eqb style doubleQuoted) (doubleQuoteEscapes src) NoEscape)
+    cond (eqb style singleQuoted) (singleQuoteEscapes src)
+    (cond (eqb style doubleQuoted) (doubleQuoteEscapes src) NoEscape)

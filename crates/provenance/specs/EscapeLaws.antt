@@ -1,6 +1,6 @@
 -- The laws of escapes: today's tables are fair, and what `\u` counts where its bytes end inside a character (P7). Assumes nothing.
 use mathlib.Core.Path.{_≡_, refl, sym, ap, _∙_}
-use mathlib.Core.Bool.{Bool, true, false, _&&_, _||_}
+use mathlib.Core.Bool.{Bool, true, false, _&&_, _||_, cond}
 use mathlib.Core.List.{List, [], _∷_}
 use mathlib.Core.Option.{Option, none, some, Option·none-ne-some}
 use Prim.{Unit, tt}
@@ -19,7 +19,7 @@ use Rattle.text.specs.declared.utf8.Char.{Char}
 use Rattle.measure.specs.Scalar.{singleQuoted, doubleQuoted}
 use Rattle.provenance.specs.declared.escape.Escape.{Escape}
 use Rattle.provenance.specs.declared.escape.Escape.the-variants.{Takes, NoEscape}
-use Rattle.provenance.specs.Run.{pick, newline, carriageReturn, whiteRun}
+use Rattle.provenance.specs.Run.{newline, carriageReturn, whiteRun}
 use Rattle.provenance.specs.Escape.{FairTable, quote, backslash, plus, digitValue, digitsFrom, digits, radix16, codeContent, singleQuoteEscapes, isOneOf, oneByteEscapes, backslashEscape, doubleQuoteEscapes, escapesReach, escapesOf}
 use Rattle.text.specs.Tests.{clash, by-order, and-both}
 use Rattle.provenance.specs.Tests.{by-test, by-answer, picked, either, byte-past, byte-inside}
@@ -100,7 +100,7 @@ encode-three c h =
 
 content-three : (c : ℕ) → c < 0x1_0000 → codeContent (some c) ≤ 3
 unfolding codeContent
-content-three c h = by-test (λ (t : Bool). pick t 1 (length (encode c)) ≤ 3) (inside 0xd800 0xdfff c) (omega arith) (encode-three c h)
+content-three c h = by-test (λ (t : Bool). cond t 1 (length (encode c)) ≤ 3) (inside 0xd800 0xdfff c) (omega arith) (encode-three c h)
 
 none-three : codeContent none ≤ 3
 unfolding codeContent
@@ -124,7 +124,7 @@ pub radix-three : (l : List ℕ) → length l ≤ 4 → codeContent (radix16 l) 
 unfolding radix16
 radix-three [] h = none-three
 radix-three (b ∷ bs) h =
-    by-test (λ (t : Bool). codeContent (pick t (digits bs) (digits (b ∷ bs))) ≤ 3) (eqb b plus) (digits-three bs (omega arith)) (digits-three (b ∷ bs) h)
+    by-test (λ (t : Bool). codeContent (cond t (digits bs) (digits (b ∷ bs))) ≤ 3) (eqb b plus) (digits-three bs (omega arith)) (digits-three (b ∷ bs) h)
 
 four-few : (l : List ℕ) → length (take 4 l) ≤ 4
 four-few l = let e = length-take 4 l in omega arith

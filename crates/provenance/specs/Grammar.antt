@@ -4,7 +4,7 @@
 --
 -- The escape table and the facts of the style are parameters.
 use Prim.Native.Nat.{ℕ}
-use mathlib.Core.Bool.{Bool, true, false, _&&_, _||_}
+use mathlib.Core.Bool.{Bool, true, false, _&&_, _||_, cond}
 use mathlib.Core.List.{List, [], _∷_}
 use lib.Dec.{ltb, eqb}
 use lib.ListN.{length, take, drop, getD}
@@ -14,7 +14,7 @@ use Rattle.provenance.specs.declared.escape.Escape.{Escape}
 use Rattle.provenance.specs.declared.escape.Escape.the-variants.{Takes, NoEscape}
 use Rattle.provenance.specs.declared.step.Step.{Step}
 use Rattle.provenance.specs.declared.step.Step.the-variants.{Verbatim, Replacement, NoStep}
-use Rattle.provenance.specs.Run.{pick, tab, newline, carriageReturn, whiteRun, newlinesIn, cut, isBlank, blankRun, onlyNewlines}
+use Rattle.provenance.specs.Run.{tab, newline, carriageReturn, whiteRun, newlinesIn, cut, isBlank, blankRun, onlyNewlines}
 use Rattle.provenance.specs.Escape.{EscapeTable, escapesOf}
 
 -- what a style decides: its escapes, whether it is a block, and the column, which only blocks look at
@@ -39,18 +39,18 @@ sameBytes (x ∷ xs) (y ∷ ys) = eqb x y && sameBytes xs ys
 
 -- source bytes and content: verbatim if they are equal, else a replacement
 abbrev pub paired : List ℕ → List ℕ → Step
-paired xs ys = pick (sameBytes xs ys) (Verbatim (length xs)) (Replacement (length xs) (length ys))
+paired xs ys = cond (sameBytes xs ys) (Verbatim (length xs)) (Replacement (length xs) (length ys))
 
 -- a run, cut by the column, with at most one blank or newline of the value for each newline of the uncut run
 unfoldable pub breakPair : Bool → ℕ → List ℕ → List ℕ → Step
 breakPair block column run val = paired (cut block column run) (take (newlinesIn run) (blankRun val))
 
 abbrev pub breakOver : Bool → ℕ → List ℕ → List ℕ → Step
-breakOver block column run val = pick (ltb 0 (newlinesIn run)) (breakPair block column run val) NoStep
+breakOver block column run val = cond (ltb 0 (newlinesIn run)) (breakPair block column run val) NoStep
 
 -- the source's byte: CR or newline in a block (W3), any white space elsewhere
 abbrev pub startsBreak : Bool → ℕ → Bool
-startsBreak block b = pick block (eqb b newline || eqb b carriageReturn) (isWhiteSpaceByte b)
+startsBreak block b = cond block (eqb b newline || eqb b carriageReturn) (isWhiteSpaceByte b)
 
 -- with the value's byte: blank, newline or tab
 abbrev pub isBreakByte : ℕ → Bool
@@ -61,7 +61,7 @@ opensBreak block b c = isBreakByte c && startsBreak block b
 
 unfoldable pub breakStep : Rules → List ℕ → List ℕ → Step
 breakStep r src val =
-    pick (opensBreak (r .block) (getD src 0 0) (getD val 0 0)) (breakOver (r .block) (r .column) (whiteRun src) val) NoStep
+    cond (opensBreak (r .block) (getD src 0 0) (getD val 0 0)) (breakOver (r .block) (r .column) (whiteRun src) val) NoStep
 
 -- ---- step 2, an escape
 
@@ -77,12 +77,12 @@ escapeStep r src = asStep (r .escapes src)
 unfoldable pub equalStep : List ℕ → List ℕ → Step
 equalStep [] val = NoStep
 equalStep (x ∷ xs) [] = NoStep
-equalStep (x ∷ xs) (y ∷ ys) = pick (eqb x y) (Verbatim 1) NoStep
+equalStep (x ∷ xs) (y ∷ ys) = cond (eqb x y) (Verbatim 1) NoStep
 
 -- ---- step 4, newlines that no source is left for
 
 unfoldable pub endStep : List ℕ → List ℕ → Step
-endStep [] val = pick (onlyNewlines val) (Replacement 0 (length val)) NoStep
+endStep [] val = cond (onlyNewlines val) (Replacement 0 (length val)) NoStep
 endStep (x ∷ xs) val = NoStep
 
 -- ---- the four in turn

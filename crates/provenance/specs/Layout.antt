@@ -1,6 +1,7 @@
 -- What a walk answers, and every number of the buffer that it was lent (S13, E3, E4). The buffer is lent zero and has `size` numbers;
 -- its room is whole pieces of four. A list that fits stands from entry 0, and zeros follow it. Without a list, and without room for
 -- all of it, the buffer is all zero.
+use mathlib.Core.Bool.{cond}
 use Prim.Native.Nat.{ℕ, _-_, _*_, _/_}
 use mathlib.Core.List.{List, [], _∷_, _++_}
 use mathlib.Core.Option.{Option, none, some}
@@ -9,7 +10,6 @@ use lib.ListN.{length, replicate}
 use Rattle.provenance.specs.declared.walk.Walked.{Walked}
 use Rattle.provenance.specs.declared.walk.Walked.the-variants.{Listed, NoRoom, NoList}
 use Rattle.provenance.specs.declared.step.Step.{Step}
-use Rattle.provenance.specs.Run.{pick}
 use Rattle.provenance.specs.Reading.{Piece, piecesOf}
 
 abbrev pub pieceSize : ℕ
@@ -39,16 +39,16 @@ walkedNumber NoList = 0
 -- a piece list, or that there is none, as the walk answers it where so many pieces are let in
 unfoldable pub answerOf : ℕ → Option (List Piece) → Walked
 answerOf most none = NoList
-answerOf most (some ps) = pick (leb (length ps) most) (Listed (length ps)) NoRoom
+answerOf most (some ps) = cond (leb (length ps) most) (Listed (length ps)) NoRoom
 
 -- the pieces that are left
 unfoldable pub leftOf : ℕ → Option (List Piece) → List Piece
 leftOf most none = []
-leftOf most (some ps) = pick (leb (length ps) most) ps []
+leftOf most (some ps) = cond (leb (length ps) most) ps []
 
 unfoldable pub bufferOf : ℕ → Option (List Piece) → List ℕ
 bufferOf size none = zeros size
-bufferOf size (some ps) = pick (leb (length ps) (room size)) (filled size ps) (zeros size)
+bufferOf size (some ps) = cond (leb (length ps) (room size)) (filled size ps) (zeros size)
 
 -- the pieces of a reading, if there is one
 unfoldable pub piecesIf : ℕ → Option (List Step) → Option (List Piece)

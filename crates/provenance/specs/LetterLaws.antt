@@ -1,6 +1,6 @@
 -- At a letter the grammar's step is one equal byte, whatever the style (S11). Assumes nothing.
 use mathlib.Core.Path.{_≡_, refl, sym, ap, _∙_}
-use mathlib.Core.Bool.{Bool, true, false, _&&_, _||_}
+use mathlib.Core.Bool.{Bool, true, false, _&&_, _||_, cond}
 use mathlib.Core.Logic.{⊎-elim}
 use mathlib.Core.List.{List, [], _∷_}
 use Prim.Native.Nat.{ℕ, suc, _+_, _<_}
@@ -13,7 +13,7 @@ use Rattle.text.specs.Class.{isWhiteSpaceByte}
 use Rattle.measure.specs.Scalar.{singleQuoted, doubleQuoted}
 use Rattle.provenance.specs.declared.escape.Escape.the-variants.{NoEscape}
 use Rattle.provenance.specs.declared.step.Step.the-variants.{Verbatim, NoStep}
-use Rattle.provenance.specs.Run.{pick, whiteRun, newlinesIn}
+use Rattle.provenance.specs.Run.{whiteRun, newlinesIn}
 use Rattle.provenance.specs.Escape.{singleQuoteEscapes, doubleQuoteEscapes, escapesOf}
 use Rattle.provenance.specs.Grammar.{Rules, opensBreak, breakStep, equalStep, step, stepAt, rulesOf}
 use Rattle.measure.specs.Letters.{WordByte, LetterByte, Letters}
@@ -58,7 +58,7 @@ no-break r a src val l =
     let e : a ≡ 32 = omega arith in
     rw (no-newline a src e (⊎-elim (λ n. absurd (n e)) (λ w. w) (l .blank))) (either-way (opensBreak (r .block) a a)))
   where
-    either-way : (t : Bool) → pick t NoStep NoStep ≡ NoStep
+    either-way : (t : Bool) → cond t NoStep NoStep ≡ NoStep
     either-way true = refl
     either-way false = refl
 
@@ -68,7 +68,7 @@ no-escape : (style a : ℕ) (src : List ℕ) → (a ≡ 39 → ⊥) → (a ≡ 9
 unfolding escapesOf singleQuoteEscapes doubleQuoteEscapes
 no-escape style a src q b = rw (ne-eqb a 39 q, ne-eqb a 92 b) (any (eqb style singleQuoted) (eqb style doubleQuoted))
   where
-    any : (s t : Bool) → pick s NoEscape (pick t NoEscape NoEscape) ≡ NoEscape
+    any : (s t : Bool) → cond s NoEscape (cond t NoEscape NoEscape) ≡ NoEscape
     any true t = refl
     any false true = refl
     any false false = refl

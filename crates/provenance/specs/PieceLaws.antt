@@ -1,6 +1,7 @@
 -- The laws of a reading's pieces: they lie one after the other, copy what they say, and add up to the value. Over any fair step function.
 -- The pieces are laid as a walk writes them: a verbatim run stays open until a replacement or the value's end closes it. That these are
 -- the joined pieces of the steps is `laid-is`. Assumes nothing.
+use mathlib.Core.Bool.{cond}
 use mathlib.Core.Path.{_≡_, refl, sym, ap, _∙_, subst}
 use mathlib.Core.Logic.{⊎-elim}
 use mathlib.Core.List.{List, [], _∷_, _++_}
@@ -13,7 +14,6 @@ use lib.Seq.{take-add, drop-drop}
 use borrow.Author.Tests.{lt-ltb, le-ltb}
 use Rattle.provenance.specs.declared.step.Step.{Step}
 use Rattle.provenance.specs.declared.step.Step.the-variants.{Verbatim, Replacement, NoStep}
-use Rattle.provenance.specs.Run.{pick}
 use Rattle.provenance.specs.Escape.{Reach}
 use Rattle.provenance.specs.Reading.{Reads, contentLen, Piece, piece, verbatim, replacement, stepPieces, joinOn, joined, piecesOf}
 use Rattle.provenance.specs.Demand.{StartsAt, Follow, EndBy, Copied, AllCopied, contents}
@@ -25,7 +25,7 @@ use Rattle.provenance.specs.StepLaws.{Fair}
 
 -- the verbatim run from..s of the text, if it is not empty
 abbrev pub closed : ℕ → ℕ → List Piece
-closed from s = pick (ltb from s) (piece verbatim from s (s - from) ∷ []) []
+closed from s = cond (ltb from s) (piece verbatim from s (s - from) ∷ []) []
 
 -- the pieces of steps whose first stands at s, with the verbatim run from..s open
 unfoldable pub laid : ℕ → ℕ → List Step → List Piece

@@ -5,14 +5,13 @@
 use Prim.{Unit}
 use Prim.Native.Nat.{ℕ, zero, suc, _+_, _≤_, _<_}
 use mathlib.Core.Path.{_≡_}
-use mathlib.Core.Bool.{Bool, _&&_}
+use mathlib.Core.Bool.{Bool, _&&_, cond}
 use mathlib.Core.List.{List, [], _∷_}
 use mathlib.Core.Option.{Option, none, some}
 use lib.Dec.{leb, eqb}
 use lib.ListN.{length}
 use Rattle.provenance.specs.declared.step.Step.{Step}
 use Rattle.provenance.specs.declared.step.Step.the-variants.{Verbatim, Replacement, NoStep}
-use Rattle.provenance.specs.Run.{pick}
 use Rattle.provenance.specs.Grammar.{Rules, stepAt}
 
 -- what a step takes of the source and of the value
@@ -50,9 +49,9 @@ stepThen (Replacement a b) (some ts) = some (Replacement a b ∷ ts)
 stepThen NoStep rest = none
 
 unfoldable pub readBy : ℕ → (ℕ → ℕ → Step) → ℕ → ℕ → ℕ → Option (List Step)
-readBy zero at len s v = pick (leb len v) (some []) none
+readBy zero at len s v = cond (leb len v) (some []) none
 readBy (suc most) at len s v =
-    pick (leb len v) (some []) (stepThen (at s v) (readBy most at len (s + sourceLen (at s v)) (v + contentLen (at s v))))
+    cond (leb len v) (some []) (stepThen (at s v) (readBy most at len (s + sourceLen (at s v)) (v + contentLen (at s v))))
 
 unfoldable pub readingOf : Rules → List ℕ → List ℕ → Option (List Step)
 readingOf r src val = readBy (length src + length val) (stepAt r src val) (length val) 0 0
@@ -86,7 +85,7 @@ bothVerbatim p q = eqb (p .kind) verbatim && eqb (q .kind) verbatim
 
 abbrev pub joinOn : Piece → List Piece → List Piece
 joinOn p [] = p ∷ []
-joinOn p (q ∷ qs) = pick (bothVerbatim p q) (piece verbatim (p .start) (q .end) (p .content + q .content) ∷ qs) (p ∷ q ∷ qs)
+joinOn p (q ∷ qs) = cond (bothVerbatim p q) (piece verbatim (p .start) (q .end) (p .content + q .content) ∷ qs) (p ∷ q ∷ qs)
 
 unfoldable pub joined : List Piece → List Piece
 joined [] = []

@@ -1,16 +1,12 @@
 -- Runs of bytes (W1: the walk's white space goes by bytes, never by code points). A run is the list of its bytes: the white space that
 -- a source goes on with, and the blanks and newlines that a value goes on with.
 use Prim.Native.Nat.{ℕ, suc, _+_, min}
-use mathlib.Core.Bool.{Bool, true, false, _&&_, _||_}
+use mathlib.Core.Bool.{Bool, true, false, _&&_, _||_, cond}
 use mathlib.Core.List.{List, [], _∷_}
 use lib.Dec.{ltb, eqb}
 use lib.ListN.{length, take}
 use Rattle.text.specs.Class.{isWhiteSpaceByte}
 use Rattle.provenance.specs.declared.run.Run.{Run}
-
-abbrev pub pick : {A : Type 0} → Bool → A → A → A
-pick true a b = a
-pick false a b = b
 
 abbrev pub tab : ℕ
 tab = 9
@@ -27,20 +23,20 @@ blank = 32
 -- the white-space bytes that a source begins with
 unfoldable pub whiteRun : List ℕ → List ℕ
 whiteRun [] = []
-whiteRun (b ∷ bs) = pick (isWhiteSpaceByte b) (b ∷ whiteRun bs) []
+whiteRun (b ∷ bs) = cond (isWhiteSpaceByte b) (b ∷ whiteRun bs) []
 
 unfoldable pub newlinesIn : List ℕ → ℕ
 newlinesIn [] = 0
-newlinesIn (b ∷ bs) = pick (eqb b newline) (suc (newlinesIn bs)) (newlinesIn bs)
+newlinesIn (b ∷ bs) = cond (eqb b newline) (suc (newlinesIn bs)) (newlinesIn bs)
 
 -- how many bytes go up to the last newline, it counted in; 0 where there is none
 unfoldable pub throughLast : List ℕ → ℕ
 throughLast [] = 0
-throughLast (b ∷ bs) = pick (eqb (throughLast bs) 0) (pick (eqb b newline) 1 0) (suc (throughLast bs))
+throughLast (b ∷ bs) = cond (eqb (throughLast bs) 0) (cond (eqb b newline) 1 0) (suc (throughLast bs))
 
 -- a run as a block scalar takes it: with a column above 0, at most column bytes after its last newline
 unfoldable pub cut : Bool → ℕ → List ℕ → List ℕ
-cut block column run = pick (block && ltb 0 column) (take (throughLast run + column) run) run
+cut block column run = cond (block && ltb 0 column) (take (throughLast run + column) run) run
 
 abbrev pub isBlank : ℕ → Bool
 isBlank b = eqb b blank || eqb b newline
@@ -48,7 +44,7 @@ isBlank b = eqb b blank || eqb b newline
 -- the blanks and newlines that a value begins with
 unfoldable pub blankRun : List ℕ → List ℕ
 blankRun [] = []
-blankRun (b ∷ bs) = pick (isBlank b) (b ∷ blankRun bs) []
+blankRun (b ∷ bs) = cond (isBlank b) (b ∷ blankRun bs) []
 
 unfoldable pub onlyNewlines : List ℕ → Bool
 onlyNewlines [] = true
@@ -69,4 +65,4 @@ runOf src = inNumbers (whiteRun src)
 
 -- how many bytes of a run are left by the cut
 unfoldable pub cutLen : Bool → ℕ → Run → ℕ
-cutLen block column run = pick (block && ltb 0 column) (min (run .last + column) (run .len)) (run .len)
+cutLen block column run = cond (block && ltb 0 column) (min (run .last + column) (run .len)) (run .len)

@@ -1,6 +1,6 @@
 -- The laws of runs: a run is bytes that stand there, and no more of them than there are. Assumes nothing.
 use mathlib.Core.Path.{_≡_, refl, sym, ap, _∙_}
-use mathlib.Core.Bool.{Bool, _&&_}
+use mathlib.Core.Bool.{Bool, _&&_, cond}
 use mathlib.Core.List.{List, [], _∷_}
 use Prim.Native.Nat.{ℕ, zero, suc, _+_, _≤_, _<_, min}
 use native.Mathlib.Omega.{arith}
@@ -9,7 +9,7 @@ use lib.ListN.{length, take, drop, length-take}
 use lib.Seq.{take-all, take-take, length-take-le}
 use borrow.Author.Tests.{eqb-true, lt-ltb, le-ltb, ne-eqb}
 use Rattle.text.specs.Class.{isWhiteSpaceByte}
-use Rattle.provenance.specs.Run.{pick, newline, whiteRun, newlinesIn, throughLast, cut, isBlank, blankRun, inNumbers, cutLen}
+use Rattle.provenance.specs.Run.{newline, whiteRun, newlinesIn, throughLast, cut, isBlank, blankRun, inNumbers, cutLen}
 use Rattle.provenance.specs.Start.{beforeNewline, headerEnd}
 use Rattle.text.specs.Tests.{by-order}
 use Rattle.provenance.specs.Tests.{by-test, by-answer}
@@ -19,19 +19,19 @@ use Rattle.provenance.specs.Tests.{by-test, by-answer}
 pub run-within : (l : List ℕ) → length (whiteRun l) ≤ length l
 unfolding whiteRun
 run-within [] = omega arith
-run-within (b ∷ bs) = by-test (λ (t : Bool). length (pick t (b ∷ whiteRun bs) []) ≤ suc (length bs)) (isWhiteSpaceByte b) (let i = run-within bs in omega arith) (omega arith)
+run-within (b ∷ bs) = by-test (λ (t : Bool). length (cond t (b ∷ whiteRun bs) []) ≤ suc (length bs)) (isWhiteSpaceByte b) (let i = run-within bs in omega arith) (omega arith)
 
 pub blanks-within : (l : List ℕ) → length (blankRun l) ≤ length l
 unfolding blankRun
 blanks-within [] = omega arith
-blanks-within (b ∷ bs) = by-test (λ (t : Bool). length (pick t (b ∷ blankRun bs) []) ≤ suc (length bs)) (isBlank b) (let i = blanks-within bs in omega arith) (omega arith)
+blanks-within (b ∷ bs) = by-test (λ (t : Bool). length (cond t (b ∷ blankRun bs) []) ≤ suc (length bs)) (isBlank b) (let i = blanks-within bs in omega arith) (omega arith)
 
 pub last-within : (l : List ℕ) → throughLast l ≤ length l
 unfolding throughLast
 last-within [] = omega arith
 last-within (b ∷ bs) =
-    by-test (λ (t : Bool). pick t (pick (eqb b newline) 1 0) (suc (throughLast bs)) ≤ suc (length bs)) (eqb (throughLast bs) 0)
-    (by-test (λ (t : Bool). pick t 1 0 ≤ suc (length bs)) (eqb b newline) (omega arith) (omega arith))
+    by-test (λ (t : Bool). cond t (cond (eqb b newline) 1 0) (suc (throughLast bs)) ≤ suc (length bs)) (eqb (throughLast bs) 0)
+    (by-test (λ (t : Bool). cond t 1 0 ≤ suc (length bs)) (eqb b newline) (omega arith) (omega arith))
     (let i = last-within bs in omega arith)
 
 -- a run with newlines has a last one
@@ -40,13 +40,13 @@ unfolding throughLast newlinesIn
 last-some [] h = absurd (omega arith)
 last-some (b ∷ bs) h =
     by-answer (eqb b newline)
-    (λ e. rw e (by-test (λ (t : Bool). 0 < pick t 1 (suc (throughLast bs))) (eqb (throughLast bs) 0) (omega arith) (omega arith)))
+    (λ e. rw e (by-test (λ (t : Bool). 0 < cond t 1 (suc (throughLast bs))) (eqb (throughLast bs) 0) (omega arith) (omega arith)))
     (λ e. let i = last-some bs (rw e at h) in rw (e, ne-eqb (throughLast bs) 0 (λ z. absurd (omega arith))) (omega arith))
 
 pub cut-within : (block : Bool) (column : ℕ) (l : List ℕ) → length (cut block column l) ≤ length l
 unfolding cut
 cut-within block column l =
-    by-test (λ (t : Bool). length (pick t (take (throughLast l + column) l) l) ≤ length l) (block && ltb 0 column)
+    by-test (λ (t : Bool). length (cond t (take (throughLast l + column) l) l) ≤ length l) (block && ltb 0 column)
     (let e = length-take (throughLast l + column) l in omega arith)
     (omega arith)
 
@@ -55,7 +55,7 @@ unfolding cut
 cut-some block column l h =
     let p = last-some l h in
     let q = last-within l in
-    by-test (λ (t : Bool). 0 < length (pick t (take (throughLast l + column) l) l)) (block && ltb 0 column)
+    by-test (λ (t : Bool). 0 < length (cond t (take (throughLast l + column) l) l)) (block && ltb 0 column)
     (let e = length-take (throughLast l + column) l in omega arith)
     (omega arith)
 
@@ -82,7 +82,7 @@ front-keeps (b ∷ bs) (suc n) h =
 pub cut-keeps-newlines : (block : Bool) (column : ℕ) (l : List ℕ) → newlinesIn (cut block column l) ≡ newlinesIn l
 unfolding cut
 cut-keeps-newlines block column l =
-    by-test (λ (t : Bool). newlinesIn (pick t (take (throughLast l + column) l) l) ≡ newlinesIn l) (block && ltb 0 column)
+    by-test (λ (t : Bool). newlinesIn (cond t (take (throughLast l + column) l) l) ≡ newlinesIn l) (block && ltb 0 column)
     (front-keeps l (throughLast l + column) (omega arith))
     refl
 
@@ -90,7 +90,7 @@ cut-keeps-newlines block column l =
 pub cut-numbers : (block : Bool) (column : ℕ) (l : List ℕ) → cutLen block column (inNumbers l) ≡ length (cut block column l)
 unfolding cut cutLen
 cut-numbers block column l =
-    by-test (λ (t : Bool). pick t (min (throughLast l + column) (length l)) (length l) ≡ length (pick t (take (throughLast l + column) l) l)) (block && ltb 0 column)
+    by-test (λ (t : Bool). cond t (min (throughLast l + column) (length l)) (length l) ≡ length (cond t (take (throughLast l + column) l) l)) (block && ltb 0 column)
     (sym (length-take (throughLast l + column) l))
     refl
 
@@ -100,7 +100,7 @@ pub run-is : (l : List ℕ) → whiteRun l ≡ take (length (whiteRun l)) l
 unfolding whiteRun
 run-is [] = refl
 run-is (b ∷ bs) =
-    by-test (λ (t : Bool). pick t (b ∷ whiteRun bs) [] ≡ take (length (pick t (b ∷ whiteRun bs) [])) (b ∷ bs)) (isWhiteSpaceByte b)
+    by-test (λ (t : Bool). cond t (b ∷ whiteRun bs) [] ≡ take (length (cond t (b ∷ whiteRun bs) [])) (b ∷ bs)) (isWhiteSpaceByte b)
     (ap (λ (x : List ℕ). b ∷ x) (run-is bs))
     refl
 
@@ -108,7 +108,7 @@ pub blanks-are : (l : List ℕ) → blankRun l ≡ take (length (blankRun l)) l
 unfolding blankRun
 blanks-are [] = refl
 blanks-are (b ∷ bs) =
-    by-test (λ (t : Bool). pick t (b ∷ blankRun bs) [] ≡ take (length (pick t (b ∷ blankRun bs) [])) (b ∷ bs)) (isBlank b)
+    by-test (λ (t : Bool). cond t (b ∷ blankRun bs) [] ≡ take (length (cond t (b ∷ blankRun bs) [])) (b ∷ bs)) (isBlank b)
     (ap (λ (x : List ℕ). b ∷ x) (blanks-are bs))
     refl
 
@@ -124,7 +124,7 @@ front-of n x l e =
 pub cut-is : (block : Bool) (column : ℕ) (l : List ℕ) → cut block column (whiteRun l) ≡ take (length (cut block column (whiteRun l))) l
 unfolding cut
 cut-is block column l =
-    by-test (λ (t : Bool). pick t (take (throughLast (whiteRun l) + column) (whiteRun l)) (whiteRun l) ≡ take (length (pick t (take (throughLast (whiteRun l) + column) (whiteRun l)) (whiteRun l))) l)
+    by-test (λ (t : Bool). cond t (take (throughLast (whiteRun l) + column) (whiteRun l)) (whiteRun l) ≡ take (length (cond t (take (throughLast (whiteRun l) + column) (whiteRun l)) (whiteRun l))) l)
     (block && ltb 0 column)
     (front-of (throughLast (whiteRun l) + column) (whiteRun l) l (run-is l))
     (run-is l)

@@ -1,12 +1,11 @@
 -- Laws of tests and choices, and of the bytes of a list. Assumes nothing.
 use mathlib.Core.Path.{_≡_, refl}
-use mathlib.Core.Bool.{Bool, true, false, _&&_}
+use mathlib.Core.Bool.{Bool, true, false, _&&_, cond}
 use mathlib.Core.List.{List, [], _∷_}
 use Prim.Native.Nat.{ℕ, zero, suc, _≤_, _<_}
 use native.Mathlib.Omega.{arith}
 use lib.ListN.{length, getD}
 use Rattle.text.specs.Tests.{by-order}
-use Rattle.provenance.specs.Run.{pick}
 
 pub by-test : (P : Bool → Type 0) (t : Bool) → P true → P false → P t
 by-test P true f g = f
@@ -21,15 +20,15 @@ and-no true = refl
 and-no false = refl
 
 -- what a choice that came out as t says of the question
-pub picked : {A : Type 0} (t : Bool) (x y w : A) → (y ≡ w → ⊥) → pick t x y ≡ w → (t ≡ true) × (x ≡ w)
+pub picked : {A : Type 0} (t : Bool) (x y w : A) → (y ≡ w → ⊥) → cond t x y ≡ w → (t ≡ true) × (x ≡ w)
 picked true x y w n h = (refl, h)
 picked false x y w n h = absurd (n h)
 
-pub passed : {A : Type 0} (t : Bool) (x y w : A) → (x ≡ w → ⊥) → pick t x y ≡ w → (t ≡ false) × (y ≡ w)
+pub passed : {A : Type 0} (t : Bool) (x y w : A) → (x ≡ w → ⊥) → cond t x y ≡ w → (t ≡ false) × (y ≡ w)
 passed true x y w n h = absurd (n h)
 passed false x y w n h = (refl, h)
 
-pub either : {A X : Type 0} (t : Bool) (x y w : A) → pick t x y ≡ w → (x ≡ w → X) → (y ≡ w → X) → X
+pub either : {A X : Type 0} (t : Bool) (x y w : A) → cond t x y ≡ w → (x ≡ w → X) → (y ≡ w → X) → X
 either true x y w h f g = f h
 either false x y w h f g = g h
 

@@ -1,10 +1,11 @@
 // The steps of the piece grammar. (01: Piece grammar; S11.)
+ghost use mathlib.Core.Bool.{cond};
 ghost use mathlib.Core.Path.{_≡_};
 ghost use Prim.Native.Nat.{_^_, _≤_, _<_};
 ghost use mathlib.Core.List.{[]};
 ghost use lib.Dec.{ltb};
 ghost use lib.ListN.{length, drop};
-ghost use Rattle.provenance.specs.Run.{pick, noRun, whiteRun, runOf, newlinesIn};
+ghost use Rattle.provenance.specs.Run.{noRun, whiteRun, runOf, newlinesIn};
 ghost use Rattle.provenance.specs.Grammar.{isBlock, rulesOf, isBreakByte, opensBreak, breakPair, endStep, stepAt};
 ghost use Rattle.provenance.specs.Looked.{breakRun, Tells, knownAfter};
 use crate::escape::Escape;
@@ -72,7 +73,7 @@ fn opens_break(block: bool, b: u8, c: u8) -> bool
 
 // The run that step 1 looks at. Before `known` no run holds a newline, and none is looked at.
 pub fn break_run(src: &[u8], value: &[u8], s: usize, v: usize, style: u8, known: usize) -> Run
-    ensures { λ r. ⌜ r ≡ pick (ltb s known) noRun (breakRun (isBlock style) (drop s (now (src .entry))) (drop v (now (value .entry)))) ⌝ }
+    ensures { λ r. ⌜ r ≡ cond (ltb s known) noRun (breakRun (isBlock style) (drop s (now (src .entry))) (drop v (now (value .entry)))) ⌝ }
 {
     if s < known {
         return NO_RUN;

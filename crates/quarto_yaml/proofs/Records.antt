@@ -2,12 +2,11 @@
 -- Assumes nothing.
 use mathlib.Core.Path.{_≡_, sym, subst}
 use Prim.Native.Nat.{ℕ, zero, suc, _-_, _*_, _≤_}
-use mathlib.Core.Bool.{Bool, true, false, _&&_}
+use mathlib.Core.Bool.{Bool, true, false, _&&_, cond}
 use mathlib.Core.List.{List}
 use mathlib.Core.Option.{Option, none, some}
 use native.Mathlib.Omega.{arith}
 use lib.Dec.{ltb, leb}
-use Rattle.parser.specs.Pick.{pick}
 use Rattle.parser.specs.declared.record.Node.{Node}
 use Rattle.node.specs.Chain.{andThen, when}
 use Rattle.node.specs.Record.{recordAt}
@@ -38,7 +37,7 @@ module _ {A : Type 0} (P : A → Type 0) where
   each-when true o h = h
   each-when false o h = tt
 
-  each-pick : (t : Bool) (o u : Option A) → Each P o → Each P u → Each P (pick t o u)
+  each-pick : (t : Bool) (o u : Option A) → Each P o → Each P u → Each P (cond t o u)
   each-pick true o u h i = h
   each-pick false o u h i = i
 

@@ -1,6 +1,6 @@
 -- The framing of an answered case, as the oracle's page gives it. All numbers are four bytes, high byte first.
 use Prim.Native.Nat.{ℕ, _+_, _-_, _*_}
-use mathlib.Core.Bool.{Bool, true, false, _&&_}
+use mathlib.Core.Bool.{Bool, true, false, _&&_, cond}
 use mathlib.Core.List.{List, [], _∷_}
 use lib.Dec.{leb, ltb, eqb}
 use lib.ListN.{length, take, drop, getD}
@@ -10,13 +10,13 @@ use Rattle.replay.specs.declared.case.Case.{Case}
 unfoldable pub number : List ℕ → ℕ → ℕ
 number s i = (getD s i 0 * 256 + getD s (i + 1) 0) * 65536 + (getD s (i + 2) 0 * 256 + getD s (i + 3) 0)
 
-abbrev pub pickBytes : Bool → List ℕ → List ℕ
-pickBytes true s = s
-pickBytes false s = []
+abbrev pub bytesIf : Bool → List ℕ → List ℕ
+bytesIf true s = s
+bytesIf false s = []
 
 -- the part from `at` on, `len` bytes long, where it lies within
 unfoldable pub partOf : List ℕ → ℕ → ℕ → List ℕ
-partOf s at len = pickBytes (leb at (length s) && leb len (length s - at)) (take len (drop at s))
+partOf s at len = bytesIf (leb at (length s) && leb len (length s - at)) (take len (drop at s))
 
 abbrev pub span : ℕ → ℕ → Part
 span at len = record { at = at; len = len }
@@ -49,10 +49,6 @@ unfoldable pub sameNumbers : List ℕ → List ℕ → Bool
 sameNumbers [] s = eqb (length s) 0
 sameNumbers (n ∷ ns) s = eqb n (number s 0) && sameNumbers ns (drop 4 s)
 
-abbrev pub pickPlace : Bool → ℕ → ℕ → ℕ
-pickPlace true a b = a
-pickPlace false a b = b
-
 -- the place of the number after the one at i, in n bytes
 abbrev pub furtherOf : ℕ → ℕ → ℕ
-furtherOf i n = pickPlace (ltb i n) (i + 4) i
+furtherOf i n = cond (ltb i n) (i + 4) i

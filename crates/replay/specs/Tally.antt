@@ -1,18 +1,14 @@
 -- How cases are counted: each by its verdict, in one count alone.
 use Prim.Native.Nat.{ℕ, _+_}
-use mathlib.Core.Bool.{Bool, true, false}
+use mathlib.Core.Bool.{Bool, true, false, cond}
 use lib.Dec.{ltb}
 use Rattle.replay.specs.declared.tally.Tally.{Tally}
 use Rattle.replay.specs.declared.tally.Verdict.{Verdict}
 use Rattle.replay.specs.declared.tally.Verdict.the-variants.{Same, Panicked, TooLarge, Different}
 
-abbrev pub pickCount : Bool → ℕ → ℕ → ℕ
-pickCount true a b = a
-pickCount false a b = b
-
 -- a count stays at its largest value
 abbrev pub oneMore : ℕ → ℕ
-oneMore n = pickCount (ltb n 18446744073709551615) (n + 1) n
+oneMore n = cond (ltb n 18446744073709551615) (n + 1) n
 
 abbrev pub tally : ℕ → ℕ → ℕ → ℕ → Bool → Bool → Tally
 tally s p d q g b = record { same = s; panicked = p; different = d; passed = q; going = g; broken = b }

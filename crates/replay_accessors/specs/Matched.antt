@@ -1,12 +1,11 @@
 -- Numbers matched with a list, one after another. Once one differs, or the list has ended, all that follows differs. How each answer is told in
 -- numbers is the oracle's: 0 for none; 1 for no and 2 for yes; one more than a record's number; otherwise 1 and the numbers.
 use Prim.Native.Nat.{ℕ, _+_}
-use mathlib.Core.Bool.{Bool, true, false, _&&_}
+use mathlib.Core.Bool.{Bool, true, false, _&&_, cond}
 use mathlib.Core.List.{List, [], _∷_}
 use mathlib.Core.Option.{Option, none, some}
 use lib.Dec.{ltb, eqb}
 use lib.ListN.{length}
-use Rattle.parser.specs.Pick.{pick}
 use Rattle.parser.specs.Record.{nodeNumbers}
 use Rattle.parser.specs.declared.record.Extent.{Extent}
 use Rattle.parser.specs.declared.record.Node.{Node}
@@ -24,11 +23,11 @@ abbrev pub standsAt : List ℕ → ℕ → ℕ → Bool
 standsAt list at x = ltb at (length list) && eqb (number list at) x
 
 unfoldable pub matchAt : List ℕ → ℕ → ℕ → Matched
-matchAt list at x = pick (standsAt list at x) (record { at = at + 4; same = true }) different
+matchAt list at x = cond (standsAt list at x) (record { at = at + 4; same = true }) different
 
 -- x behind the numbers that were matched
 unfoldable pub matchNumber : List ℕ → Matched → ℕ → Matched
-matchNumber list m x = pick (m .same) (matchAt list (m .at) x) different
+matchNumber list m x = cond (m .same) (matchAt list (m .at) x) different
 
 -- whether the whole list was matched
 unfoldable pub matchedWhole : List ℕ → Matched → Bool
@@ -69,7 +68,7 @@ recordNumbers = orNone nodeNumbers
 -- ---- answers that hold a record's number, which a list of 32-bit numbers may have no room for
 
 abbrev pub matchRecord : List ℕ → Matched → ℕ → Matched
-matchRecord list m n = pick (ltb n 0xffff_ffff) (matchNumber list m (n + 1)) different
+matchRecord list m n = cond (ltb n 0xffff_ffff) (matchNumber list m (n + 1)) different
 
 abbrev pub matchPlace : List ℕ → Matched → Option ℕ → Matched
 matchPlace list m none = matchNumber list m 0

@@ -1,9 +1,9 @@
 -- All that is asked about one record, in the oracle's order: itself, its children, keys. Each answer is matched with what follows in the list.
+use mathlib.Core.Bool.{cond}
 use Prim.Native.Nat.{ℕ, zero, suc, _+_, _-_, _*_, _/_, min}
 use mathlib.Core.List.{List, _++_}
 use lib.Dec.{ltb}
 use lib.ListN.{length}
-use Rattle.parser.specs.Pick.{pick}
 use Rattle.node.specs.Record.{recordAt}
 use Rattle.node.specs.Kind.{isScalarAt, isArrayAt, isHashAt, lenAt, isEmptyAt}
 use Rattle.node.specs.Source.{spanAt, tagAt, pieceListAt}
@@ -46,7 +46,7 @@ aboutChildren records n limit list m = downFrom records n (orZero (lenAt records
 -- the value of the key whose place and length stand at a place of `keys`
 unfoldable pub aboutKey : List ℕ → List ℕ → ℕ → List ℕ → ℕ → List ℕ → Matched → Matched
 aboutKey records events n keys at list m =
-    pick (ltb at (length keys)) (matchPlace list m (hashValue records events n (partOf events (number keys at) (number keys (at + 4))))) different
+    cond (ltb at (length keys)) (matchPlace list m (hashValue records events n (partOf events (number keys at) (number keys (at + 4))))) different
 
 -- the values of the first k keys
 unfoldable pub firstKeys : List ℕ → List ℕ → ℕ → List ℕ → List ℕ → Matched → ℕ → Matched
@@ -60,7 +60,7 @@ aboutKeys records events n keys list m = firstKeys records events n keys list m 
 -- a record that is no hash is asked for the first key alone
 abbrev pub aboutHash : List ℕ → List ℕ → ℕ → List ℕ → List ℕ → Matched → Matched
 aboutHash records events n keys list m =
-    pick (isYes (isHashAt records n)) (aboutKeys records events n keys list m) (aboutKey records events n keys 0 list m)
+    cond (isYes (isHashAt records n)) (aboutKeys records events n keys list m) (aboutKey records events n keys 0 list m)
 
 unfoldable pub aboutRecord : List ℕ → List ℕ → ℕ → ℕ → List ℕ → List ℕ → Matched → Matched
 aboutRecord records events n limit keys list m = aboutHash records events n keys list (aboutChildren records n limit list (aboutItself records n list m))

@@ -2,7 +2,7 @@
 -- gives the rows' expressions after one such text. A step is then a derivative, which one computed test shows for each
 -- state and each byte; and a scalar's flags, one for each row, are those of the state that it ends in. Assumes nothing.
 use mathlib.Core.Path.{_≡_, refl, sym, _∙_, ap, ap₂}
-use mathlib.Core.Bool.{Bool, true, false, _&&_}
+use mathlib.Core.Bool.{Bool, true, false, _&&_, cond}
 use mathlib.Core.List.{List, [], _∷_, _++_, map}
 use Prim.Native.Nat.{ℕ, _+_, _*_, _-_, _≤_, _<_}
 use Prim.Native.String.{String}
@@ -15,7 +15,7 @@ use lib.ListN.{getD}
 use Rattle.text.proofs.Table.{all, all-at, both, same}
 use Rattle.schema.specs.Ascii.{bytes}
 use Rattle.schema.specs.Regex.{Regex, none, empty, range, seq, alt, star, Regex-discrete}
-use Rattle.schema.specs.Matcher.{pick, isNone, isEmpty, join, either, nullable, derivative}
+use Rattle.schema.specs.Matcher.{isNone, isEmpty, join, either, nullable, derivative}
 use Rattle.schema.specs.Rows.{trueWord}
 use Rattle.schema.specs.Standard.{Row, table}
 use Rattle.schema.proofs.Bools.{both-of, both-left, both-right, same-is}
@@ -162,18 +162,18 @@ alikeRows b c [] = true
 alikeRows b c (r ∷ rs) = both (alike b c r) (alikeRows b c rs)
 
 module _ (b c : ℕ) where
-  alike-pick : (t : Bool) (r q : Regex) → T (alike b c r) → T (alike b c q) → T (alike b c (pick t r q))
+  alike-pick : (t : Bool) (r q : Regex) → T (alike b c r) → T (alike b c q) → T (alike b c (cond t r q))
   alike-pick true r q h k = h
   alike-pick false r q h k = k
 
   alike-join : (r q : Regex) → T (alike b c r) → T (alike b c q) → T (alike b c (join r q))
   alike-join r q h k =
-      alike-pick (isNone r) none (pick (isEmpty r) q (seq r q)) tt
+      alike-pick (isNone r) none (cond (isEmpty r) q (seq r q)) tt
       (alike-pick (isEmpty r) q (seq r q) k (both-of (alike b c r) (alike b c q) h k))
 
   alike-either : (r q : Regex) → T (alike b c r) → T (alike b c q) → T (alike b c (either r q))
   alike-either r q h k =
-      alike-pick (isNone r) q (pick (isNone q) r (alt r q)) k
+      alike-pick (isNone r) q (cond (isNone q) r (alt r q)) k
       (alike-pick (isNone q) r (alt r q) h (both-of (alike b c r) (alike b c q) h k))
 
   alike-derivative : (d : ℕ) (r : Regex) → T (alike b c r) → T (alike b c (derivative d r))
@@ -197,7 +197,7 @@ module _ (b c : ℕ) where
   same-derivative none h = refl
   same-derivative empty h = refl
   same-derivative (range lo hi) h =
-      ap (λ (t : Bool). pick t empty none) (same-is (leb lo b && leb b hi) (leb lo c && leb c hi) h)
+      ap (λ (t : Bool). cond t empty none) (same-is (leb lo b && leb b hi) (leb lo c && leb c hi) h)
   same-derivative (seq r q) h =
       rw (same-derivative r (both-left (alike b c r) (alike b c q) h), same-derivative q (both-right (alike b c r) (alike b c q) h))
   same-derivative (alt r q) h =

@@ -1,7 +1,7 @@
 -- Integers at most zero, each as the negative of a natural number (F8): what the operations on an i64 do to that number,
 -- which `omega` reads; and when 64 signed bits hold it. One law for every base. Assumes nothing.
 use mathlib.Core.Path.{_≡_, refl, sym, _∙_, ap, ap₂}
-use mathlib.Core.Bool.{Bool, true, false}
+use mathlib.Core.Bool.{Bool, true, false, cond}
 use Prim.Native.Nat.{ℕ, zero, suc, _+_, _*_, _/_, _-_, _^_, _≤_, _<_}
 use native.Mathlib.Nat.{zero-mul}
 use native.Mathlib.Omega.{arith}
@@ -13,7 +13,7 @@ use mir.Syntax.{w64}
 use mir.Val.{SFits, toZ, ofZ}
 use mir.Facts.{toZ-ofZ}
 use borrow.Author.Tests.{le-ltb, lt-ltb, ltb-true, ltb-false}
-use Rattle.schema.specs.Integer.{inRange, held, pickParsed}
+use Rattle.schema.specs.Integer.{inRange, held}
 use Rattle.schema.specs.declared.integer.Parsed.the-variants.{Value, Nothing}
 
 pub neg-mul : (m k : ℕ) → negℤ (pos m) *ℤ pos k ≡ negℤ (pos (m * k))
@@ -132,8 +132,8 @@ value-neg m z e = go (decLe m (2 ^ 63))
     same-value p = cc
 
     go : Dec (m ≤ 2 ^ 63) → Neg z m × (m ≤ 2 ^ 63)
-    go (yes h) = (record { is = same-value (e ∙ ap (λ (t : Bool). pickParsed t (Value (negℤ (pos m))) Nothing) (neg-in m h)) }, h)
-    go (no n) = absurd (clash (e ∙ ap (λ (t : Bool). pickParsed t (Value (negℤ (pos m))) Nothing) (neg-out m (under-it n))))
+    go (yes h) = (record { is = same-value (e ∙ ap (λ (t : Bool). cond t (Value (negℤ (pos m))) Nothing) (neg-in m h)) }, h)
+    go (no n) = absurd (clash (e ∙ ap (λ (t : Bool). cond t (Value (negℤ (pos m))) Nothing) (neg-out m (under-it n))))
 
 pub nothing-neg : (m : ℕ) → Nothing ≡ held (negℤ (pos m)) → 2 ^ 63 < m
 unfolding held
@@ -143,7 +143,7 @@ nothing-neg m e = go (decLe m (2 ^ 63))
     clash e = let x : _≡_ {A = ℕ} 0 1 = cc in omega arith
 
     go : Dec (m ≤ 2 ^ 63) → 2 ^ 63 < m
-    go (yes h) = absurd (clash (e ∙ ap (λ (t : Bool). pickParsed t (Value (negℤ (pos m))) Nothing) (neg-in m h)))
+    go (yes h) = absurd (clash (e ∙ ap (λ (t : Bool). cond t (Value (negℤ (pos m))) Nothing) (neg-in m h)))
     go (no n) = omega arith
 
 -- the lowest integer, by its bits

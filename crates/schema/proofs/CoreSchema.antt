@@ -4,7 +4,7 @@
 -- tag reads what any row of its kind reads that matches. What is said of two rows, or of a row behind others, is one computed
 -- test over the automaton's states. Assumes nothing.
 use mathlib.Core.Path.{_≡_, refl, sym, _∙_, ap}
-use mathlib.Core.Bool.{Bool, true, false, _&&_, _||_}
+use mathlib.Core.Bool.{Bool, true, false, _&&_, _||_, cond}
 use mathlib.Core.List.{List, [], _∷_, _++_}
 use Prim.Native.Nat.{ℕ, zero, suc, _<_}
 use native.Mathlib.Nat.{le-of-suc-le-suc, not-suc-le-zero}
@@ -20,7 +20,7 @@ use Rattle.schema.specs.Regex.{Regex, none, Matches}
 use Rattle.schema.specs.Matcher.{nullable, derivative, accepts}
 use Rattle.schema.specs.Rows.{trueWord, decimal, number}
 use Rattle.schema.specs.Integer.{Base, ten, eight, sixteen, inRange, held}
-use Rattle.schema.specs.Standard.{Kind, null, Row, row, table, rowAt, decimalPlace, numberPlace, Meaning, integer, reads, pickMeaning, firstMatch, standard}
+use Rattle.schema.specs.Standard.{Kind, null, Row, row, table, rowAt, decimalPlace, numberPlace, Meaning, integer, reads, firstMatch, standard}
 use Rattle.schema.specs.Standard.{FirstRow, no-row, this-row, later-row, StandardSchema}
 use Rattle.schema.specs.CoreSchema.{limited, coreSchema, CoreSchema}
 use Rattle.schema.specs.Kinds.{tagName, hasName, rowsOf, readAs, isReal, coreReal, AnyOrder}
@@ -36,12 +36,12 @@ use Rattle.schema.proofs.Tags.{same-bytes}
 -- ---- the first row that matches
 module _ (r : Row) (rs : List Row) (s : List ℕ) where
   decided : (b : Bool) → accepts (r .expression) s ≡ b → FirstRow rs s (firstMatch rs s)
-      → FirstRow (r ∷ rs) s (pickMeaning b (reads (r .kind) s) (firstMatch rs s))
+      → FirstRow (r ∷ rs) s (cond b (reads (r .kind) s) (firstMatch rs s))
   decided true e f = this-row (accepts-sound s (r .expression) e)
   decided false e f = later-row (λ m. clash (sym (accepts-complete s (r .expression) m) ∙ e)) f
 
   passed : (a : Meaning) (b : Bool) → accepts (r .expression) s ≡ b → (Matches (r .expression) s → ⊥) → a ≡ firstMatch rs s
-      → a ≡ pickMeaning b (reads (r .kind) s) (firstMatch rs s)
+      → a ≡ cond b (reads (r .kind) s) (firstMatch rs s)
   passed a true e n p = absurd (n (accepts-sound s (r .expression) e))
   passed a false e n p = p
 

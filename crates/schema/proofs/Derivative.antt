@@ -2,7 +2,7 @@
 -- `accepts-complete`). Byte by byte: `Matches r (b ∷ s)` where and only where `Matches (derivative b r) s`, and
 -- `Matches r []` where and only where `nullable r`. Assumes nothing.
 use mathlib.Core.Path.{_≡_, refl, sym, _∙_, ap, subst}
-use mathlib.Core.Bool.{Bool, true, false, _&&_}
+use mathlib.Core.Bool.{Bool, true, false, _&&_, cond}
 use mathlib.Core.List.{List, [], _∷_, _++_}
 use mathlib.Core.Logic.{_⊎_, inl, inr, ⊎-elim}
 use Prim.Native.Nat.{ℕ, _≤_}
@@ -10,7 +10,7 @@ use native.Mathlib.Omega.{arith}
 use borrow.Author.Tests.{leb-true, le-leb}
 use lib.Dec.{leb}
 use Rattle.schema.specs.Regex.{Regex, none, empty, range, seq, alt, star, Matches, m-empty, m-range, m-seq, m-left, m-right, m-done, m-more}
-use Rattle.schema.specs.Matcher.{pick, isNone, join, either, nullable, derivative, accepts}
+use Rattle.schema.specs.Matcher.{isNone, join, either, nullable, derivative, accepts}
 use Rattle.text.specs.Tests.{clash, and-left, and-right}
 use Rattle.schema.proofs.Bools.{and-both, or-cases, or-left, or-right}
 
@@ -77,7 +77,7 @@ join-complete (seq a b) q m = m
 join-complete (alt a b) q m = m
 join-complete (star a) q m = m
 
-alt-sound : (r q : Regex) {s : List ℕ} → Matches (pick (isNone q) r (alt r q)) s → Matches r s ⊎ Matches q s
+alt-sound : (r q : Regex) {s : List ℕ} → Matches (cond (isNone q) r (alt r q)) s → Matches r s ⊎ Matches q s
 alt-sound r none m = inl m
 alt-sound r empty m = inv-alt m
 alt-sound r (range a b) m = inv-alt m
@@ -97,7 +97,7 @@ whole : {r q : Regex} {s : List ℕ} → Matches r s ⊎ Matches q s → Matches
 whole (inl a) = m-left a
 whole (inr a) = m-right a
 
-alt-complete : (r q : Regex) {s : List ℕ} → Matches r s ⊎ Matches q s → Matches (pick (isNone q) r (alt r q)) s
+alt-complete : (r q : Regex) {s : List ℕ} → Matches r s ⊎ Matches q s → Matches (cond (isNone q) r (alt r q)) s
 alt-complete r none m = ⊎-elim (λ a. a) (λ a. inv-none a) m
 alt-complete r empty m = whole m
 alt-complete r (range a b) m = whole m
@@ -134,10 +134,10 @@ nullable-complete m-done e = refl
 nullable-complete (m-more a b) e = refl
 
 -- ---- one byte
-byte-sound : (b lo hi : ℕ) {s : List ℕ} → Matches (pick (leb lo b && leb b hi) empty none) s → Matches (range lo hi) (b ∷ s)
+byte-sound : (b lo hi : ℕ) {s : List ℕ} → Matches (cond (leb lo b && leb b hi) empty none) s → Matches (range lo hi) (b ∷ s)
 byte-sound b lo hi {s} m = go (leb lo b && leb b hi) refl m
   where
-    go : (t : Bool) → leb lo b && leb b hi ≡ t → Matches (pick t empty none) s → Matches (range lo hi) (b ∷ s)
+    go : (t : Bool) → leb lo b && leb b hi ≡ t → Matches (cond t empty none) s → Matches (range lo hi) (b ∷ s)
     go true e m =
         subst (λ (t : List ℕ). Matches (range lo hi) (b ∷ t)) (sym (inv-empty m))
         (m-range (leb-true lo b (and-left (leb lo b) (leb b hi) e)) (leb-true b hi (and-right (leb lo b) (leb b hi) e)))
@@ -150,7 +150,7 @@ first b r q d f m =
     subst (λ (t : List ℕ). Matches (seq r q) (b ∷ t)) (sym (i .is)) (m-seq (f (i .u) (i .left)) (i .right))
 
 seq-sound : (b : ℕ) (r q d e : Regex) (n : Bool) {s : List ℕ} → n ≡ nullable r → ((t : List ℕ) → Matches d t → Matches r (b ∷ t)) → ((t : List ℕ) → Matches e t → Matches q (b ∷ t))
-    → Matches (pick n (either (join d q) e) (join d q)) s → Matches (seq r q) (b ∷ s)
+    → Matches (cond n (either (join d q) e) (join d q)) s → Matches (seq r q) (b ∷ s)
 seq-sound b r q d e true {s} n f g m =
     ⊎-elim (λ a. first b r q d f (join-sound d q a)) (λ a. m-seq (nullable-sound r (sym n)) (g s a)) (either-sound (join d q) e m)
 seq-sound b r q d e false n f g m = first b r q d f (join-sound d q m)
@@ -170,7 +170,7 @@ derivative-sound b (alt r q) s m = ⊎-elim (λ a. m-left (derivative-sound b r 
 derivative-sound b (star r) s m = again b r (derivative b r) (derivative-sound b r) (join-sound (derivative b r) (star r) m)
 
 -- ---- and back
-byte-complete : (b lo hi : ℕ) → lo ≤ b → b ≤ hi → Matches (pick (leb lo b && leb b hi) empty none) []
+byte-complete : (b lo hi : ℕ) → lo ≤ b → b ≤ hi → Matches (cond (leb lo b && leb b hi) empty none) []
 byte-complete b lo hi p q = rw (le-leb lo b p, le-leb b hi q) m-empty
 
 -- the parts of a list that begins with b
@@ -184,7 +184,7 @@ cut (c ∷ u) v b t e = now u (cc) (cc)
 
 seq-complete : (b : ℕ) (r q d e : Regex) (n : Bool) (u v t : List ℕ) → n ≡ nullable r → Matches r u → Matches q v
     → ((w : List ℕ) → u ≡ b ∷ w → Matches d w) → (v ≡ b ∷ t → Matches e t)
-    → Cut u v b t → Matches (pick n (either (join d q) e) (join d q)) t
+    → Cut u v b t → Matches (cond n (either (join d q) e) (join d q)) t
 seq-complete b r q d e true u v t n x y f g (later p k) = either-complete (join d q) e (inr (g k))
 seq-complete b r q d e false u v t n x y f g (later p k) = absurd (clash (sym (nullable-complete x p) ∙ sym n))
 seq-complete b r q d e true u v t n x y f g (now w p k) = either-complete (join d q) e (inl (join-complete d q (rw k (m-seq (f w p) y))))

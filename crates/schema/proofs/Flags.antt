@@ -3,7 +3,7 @@
 -- test, holds of every scalar (`by-states`). The form of a scalar by some of the rows is read off its flags (`form-by`).
 -- Assumes nothing.
 use mathlib.Core.Path.{_≡_, refl, sym, _∙_, ap, subst}
-use mathlib.Core.Bool.{Bool, true, false, _&&_}
+use mathlib.Core.Bool.{Bool, true, false, _&&_, cond}
 use mathlib.Core.List.{List, [], _∷_, _++_, map}
 use Prim.Native.Nat.{ℕ, suc, _+_, _<_, _≤_}
 use native.Mathlib.Numerals.{add-one}
@@ -19,8 +19,8 @@ use Rattle.schema.specs.Matcher.{nullable, derivative, accepts}
 use Rattle.schema.specs.Rows.{trueWord}
 use Rattle.schema.specs.Integer.{ten, eight, sixteen}
 use Rattle.schema.specs.Standard.{Kind, null, bool, int, float, Row, table, reads, firstMatch}
-use Rattle.schema.specs.Kinds.{pickRows, rowsOf}
-use Rattle.schema.specs.Form.{formFor, formOf, pickForm, beginsNoRow}
+use Rattle.schema.specs.Kinds.{rowsOf}
+use Rattle.schema.specs.Form.{formFor, formOf, beginsNoRow}
 use Rattle.schema.specs.declared.form.Form.{Form}
 use Rattle.schema.specs.declared.form.Form.the-variants.{Null, True, False, Decimal, Octal, Hexadecimal, Float, Other}
 use Rattle.schema.proofs.Automaton.{expressions, rows, awaits, texts, symbols, next, forms, step, step-low, step-is}
@@ -76,7 +76,7 @@ flag k fs = getD fs k false
 -- the form of a scalar whose first row is of this kind, by whether it is a word that is true
 abbrev pub formOfKind : Kind → Bool → Form
 formOfKind null t = Null
-formOfKind bool t = pickForm t True False
+formOfKind bool t = cond t True False
 formOfKind (int ten) t = Decimal
 formOfKind (int eight) t = Octal
 formOfKind (int sixteen) t = Hexadecimal
@@ -85,7 +85,7 @@ formOfKind float t = Float
 abbrev formAmong : (Kind → Bool) → List Row → Bool → List Bool → Form
 formAmong p [] t fs = Other
 formAmong p (r ∷ rs) t [] = Other
-formAmong p (r ∷ rs) t (f ∷ fs) = pickForm (p (r .kind) && f) (formOfKind (r .kind) t) (formAmong p rs t fs)
+formAmong p (r ∷ rs) t (f ∷ fs) = cond (p (r .kind) && f) (formOfKind (r .kind) t) (formAmong p rs t fs)
 
 -- the place of the last flag, behind the table's nine
 abbrev pub truthPlace : ℕ
@@ -111,7 +111,7 @@ kind-form float s = refl
 
 module _ (p : Kind → Bool) (s : List ℕ) where
   row-form : (c a : Bool) (r : Row) (rs : List Row) (f : Form) → accepts (r .expression) s ≡ a → formFor (firstMatch rs s) ≡ f
-      → formFor (firstMatch (pickRows c (r ∷ rs) rs) s) ≡ pickForm (c && a) (formOfKind (r .kind) (accepts trueWord s)) f
+      → formFor (firstMatch (cond c (r ∷ rs) rs) s) ≡ cond (c && a) (formOfKind (r .kind) (accepts trueWord s)) f
   unfolding firstMatch
   row-form true true r rs f e h = rw e (kind-form (r .kind) s)
   row-form true false r rs f e h = rw e h
@@ -146,13 +146,13 @@ dead s t e = sym (form-is t ∙ ap formAt (sym e) ∙ rw none-accepts refl)
 -- ---- the letter of a form
 abbrev pub formOfLetter : ℕ → Form
 formOfLetter x =
-    pickForm (eqb x 110) Null
-    (pickForm (eqb x 116) True
-    (pickForm (eqb x 102) False
-    (pickForm (eqb x 100) Decimal
-    (pickForm (eqb x 111) Octal
-    (pickForm (eqb x 120) Hexadecimal
-    (pickForm (eqb x 114) Float
+    cond (eqb x 110) Null
+    (cond (eqb x 116) True
+    (cond (eqb x 102) False
+    (cond (eqb x 100) Decimal
+    (cond (eqb x 111) Octal
+    (cond (eqb x 120) Hexadecimal
+    (cond (eqb x 114) Float
     Other))))))
 
 abbrev pub formNumber : Form → ℕ
@@ -167,13 +167,13 @@ formNumber Other = 7
 
 abbrev numbered : ℕ → Form
 numbered n =
-    pickForm (eqb n 0) Null
-    (pickForm (eqb n 1) True
-    (pickForm (eqb n 2) False
-    (pickForm (eqb n 3) Decimal
-    (pickForm (eqb n 4) Octal
-    (pickForm (eqb n 5) Hexadecimal
-    (pickForm (eqb n 6) Float
+    cond (eqb n 0) Null
+    (cond (eqb n 1) True
+    (cond (eqb n 2) False
+    (cond (eqb n 3) Decimal
+    (cond (eqb n 4) Octal
+    (cond (eqb n 5) Hexadecimal
+    (cond (eqb n 6) Float
     Other))))))
 
 numbered-number : (f : Form) → numbered (formNumber f) ≡ f
@@ -227,13 +227,9 @@ at-end s i q h l e = letter-is q s l (ap (accepted (awaits q)) (sym (drop-of-len
 
 -- ---- letters that no row begins with
 
-abbrev pick : Bool → Bool → Bool → Bool
-pick true a b = a
-pick false a b = b
-
-letters-stop : T (all 256 (λ b. pick (beginsNoRow b) (eqb (step 3 b) 2) true))
+letters-stop : T (all 256 (λ b. cond (beginsNoRow b) (eqb (step 3 b) 2) true))
 unfolding beginsNoRow symbols next
 letters-stop = tt
 
 pub letter-stops : (b : ℕ) → b < 256 → beginsNoRow b ≡ true → step 3 b ≡ 2
-letter-stops b h e = eqb→eq (step 3 b) 2 (rw e at (all-at 256 (λ b. pick (beginsNoRow b) (eqb (step 3 b) 2) true) letters-stop b h))
+letter-stops b h e = eqb→eq (step 3 b) 2 (rw e at (all-at 256 (λ b. cond (beginsNoRow b) (eqb (step 3 b) 2) true) letters-stop b h))

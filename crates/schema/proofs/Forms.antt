@@ -2,7 +2,7 @@
 -- its form says (`by-form`), whatever the rows; and the form by the rows of one kind is told by the form by all of them, which
 -- is one computed test over the automaton's states for each kind. Assumes nothing.
 use mathlib.Core.Path.{_≡_, refl, sym, _∙_, ap}
-use mathlib.Core.Bool.{Bool, true, false}
+use mathlib.Core.Bool.{Bool, true, false, cond}
 use mathlib.Core.List.{List, [], _∷_}
 use Prim.Native.Nat.{ℕ}
 use lib.Dec.{T, eqb}
@@ -11,8 +11,8 @@ use Rattle.schema.specs.Ascii.{bytes, Bytes, sameBytes}
 use Rattle.schema.specs.Matcher.{nullable, derivative, accepts}
 use Rattle.schema.specs.Rows.{trueWord, decimal, octal, hexadecimal, number, infinity, notANumber}
 use Rattle.schema.specs.Integer.{ten, eight, sixteen, integerIn}
-use Rattle.schema.specs.Standard.{Kind, null, bool, int, float, Row, table, Meaning, nullValue, truth, integer, real, string, reads, pickMeaning, firstMatch, standard}
-use Rattle.schema.specs.CoreSchema.{pickResolved, integerOr, limited, coreSchema}
+use Rattle.schema.specs.Standard.{Kind, null, bool, int, float, Row, table, Meaning, nullValue, truth, integer, real, string, reads, firstMatch, standard}
+use Rattle.schema.specs.CoreSchema.{integerOr, limited, coreSchema}
 use Rattle.schema.specs.Form.{formFor, formOf, integerOf}
 use Rattle.schema.specs.Kinds.{hasName, rowsOf, readAs, integerRead, isReal, coreInteger, coreReal}
 use Rattle.schema.specs.Tag.{fitted, taggedAs}
@@ -47,7 +47,7 @@ kind-by-form (int sixteen) s = refl
 kind-by-form float s = refl
 
 either-form : (b : Bool) (m n : Meaning) (s : List ℕ) → m ≡ meaningOf (formFor m) s → n ≡ meaningOf (formFor n) s
-    → pickMeaning b m n ≡ meaningOf (formFor (pickMeaning b m n)) s
+    → cond b m n ≡ meaningOf (formFor (cond b m n)) s
 either-form true m n s e f = e
 either-form false m n s e f = f
 
@@ -114,7 +114,7 @@ unfolding coreInteger
 core-integer s f = ap integerRead (read-as (bytes "int") onlyInteger integers s f) ∙ integer-read (formOf s) s
 
 fitted-integer : (d o x : Bool) (s : List ℕ)
-    → let m = pickMeaning d (reads (int ten) s) (pickMeaning o (reads (int eight) s) (pickMeaning x (reads (int sixteen) s) string)) in
+    → let m = cond d (reads (int ten) s) (cond o (reads (int eight) s) (cond x (reads (int sixteen) s) string)) in
     integerOr (integerRead m) BadValue ≡ fitted m
 fitted-integer true o x s = refl
 fitted-integer false true x s = refl
@@ -148,14 +148,14 @@ unfolding coreReal
 core-real s f = ap isReal (read-as (bytes "float") onlyReal reals s f)
 
 fitted-real : (n i a : Bool)
-    → let m = pickMeaning n real (pickMeaning i real (pickMeaning a real string)) in
-    pickResolved (isReal m) Real BadValue ≡ fitted m
+    → let m = cond n real (cond i real (cond a real string)) in
+    cond (isReal m) Real BadValue ≡ fitted m
 fitted-real true i a = refl
 fitted-real false true a = refl
 fitted-real false false true = refl
 fitted-real false false false = refl
 
-pub tagged-float : (s : List ℕ) → pickResolved (coreReal s) Real BadValue ≡ taggedAs (bytes "float") s
+pub tagged-float : (s : List ℕ) → cond (coreReal s) Real BadValue ≡ taggedAs (bytes "float") s
 unfolding coreReal taggedAs readAs table firstMatch sameBytes
 tagged-float s = fitted-real (accepts number s) (accepts infinity s) (accepts notANumber s)
 

@@ -1,6 +1,6 @@
 -- Equal bytes and standard tags, as the tests of the code tell them. Assumes nothing.
 use mathlib.Core.Path.{_≡_, refl, sym, _∙_, ap}
-use mathlib.Core.Bool.{Bool, true, false, _&&_}
+use mathlib.Core.Bool.{Bool, true, false, _&&_, cond}
 use mathlib.Core.List.{List, [], _∷_}
 use Prim.Native.Nat.{ℕ, _-_, _≤_, _<_}
 use native.Mathlib.Omega.{arith}
@@ -10,7 +10,7 @@ use lib.ListN.{length, take, drop, length-take, length-drop}
 use lib.Seq.{take-all}
 use Rattle.schema.specs.Ascii.{bytes, sameBytes}
 use Rattle.schema.specs.CoreSchema.{coreSchema}
-use Rattle.schema.specs.Tag.{standardHandle, startsWith, standardTagSuffix, pickTag, taggedAs, taggedSchema, untagged, resolveScalar}
+use Rattle.schema.specs.Tag.{standardHandle, startsWith, standardTagSuffix, taggedAs, taggedSchema, untagged, resolveScalar}
 use Rattle.schema.specs.declared.plain.Resolved.the-variants.{Str}
 use Rattle.schema.specs.declared.tag.StandardTag.the-variants.{NameAt, NotStandard}
 use Rattle.text.specs.Tests.{clash, and-left, and-right}
@@ -49,7 +49,7 @@ unfolding sameBytes
 some-bytes [] n = absurd (n refl)
 some-bytes (b ∷ s) n = refl
 
-never : (b : Bool) → NotStandard ≡ pickTag (b && false) (NameAt 18) NotStandard
+never : (b : Bool) → NotStandard ≡ cond (b && false) (NameAt 18) NotStandard
 never true = refl
 never false = refl
 
@@ -99,7 +99,7 @@ name-within h s at e = go (sameBytes h standardHandle) (sameBytes h []) (startsW
     none-at : NameAt at ≡ NotStandard → at ≤ length s
     none-at p = absurd (let z : _≡_ {A = ℕ} 0 1 = cc in omega arith)
 
-    go : (a b c : Bool) → startsWith standardHandle s ≡ c → NameAt at ≡ pickTag a (NameAt 0) (pickTag (b && c) (NameAt 18) NotStandard)
+    go : (a b c : Bool) → startsWith standardHandle s ≡ c → NameAt at ≡ cond a (NameAt 0) (cond (b && c) (NameAt 18) NotStandard)
         → at ≤ length s
     go true b c q p = zero-at p
     go false true true q p = later-at q p

@@ -14,10 +14,6 @@ use Rattle.schema.specs.declared.integer.Parsed.the-variants.{Value, Not
 use Rattle.schema.specs.declared.plain.Resolved.{Resolved}
 use Rattle.schema.specs.declared.plain.Resolved.the-variants.{Null, Boolean, Integer, Real, Str}
 
-abbrev pub pickResolved : Bool → Resolved → Resolved → Resolved
-pickResolved true p q = p
-pickResolved false p q = q
-
 -- the integer, or something else where there is none
 abbrev pub integerOr : Parsed → Resolved → Resolved
 integerOr (Value z) other = Integer z

@@ -1,7 +1,7 @@
 -- The form of a scalar: which kind of row of the standard's table is the first to match it (P2). The forms are the
 -- code's, an enum; `Float` stands for the table's last three rows. Assumes nothing.
 use Prim.Native.Nat.{ℕ}
-use mathlib.Core.Bool.{Bool, true, false, _||_}
+use mathlib.Core.Bool.{Bool, true, false, _||_, cond}
 use mathlib.Core.List.{List}
 use Rattle.text.specs.Class.{inside}
 use Rattle.schema.specs.Integer.{ten, eight, sixteen, integerIn, held}
@@ -11,14 +11,10 @@ use Rattle.schema.specs.declared.form.Form.the-variants.{Null, True, Fal
 use Rattle.schema.specs.declared.integer.Parsed.{Parsed}
 use Rattle.schema.specs.declared.integer.Parsed.the-variants.{Nothing}
 
-abbrev pub pickForm : Bool → Form → Form → Form
-pickForm true f g = f
-pickForm false f g = g
-
 -- the form of a scalar that means this
 abbrev pub formFor : Meaning → Form
 formFor nullValue = Null
-formFor (truth b) = pickForm b True False
+formFor (truth b) = cond b True False
 formFor (integer ten z) = Decimal
 formFor (integer eight z) = Octal
 formFor (integer sixteen z) = Hexadecimal

@@ -1,7 +1,7 @@
 -- The integers that digits write, and the range of 64 signed bits (F8, K2 to K5). A byte that is no digit counts nothing
 -- here; the forms of the table let none in. Assumes nothing.
 use Prim.Native.Nat.{ℕ, _+_, _*_, _-_, _^_}
-use mathlib.Core.Bool.{Bool, true, false}
+use mathlib.Core.Bool.{Bool, true, false, cond}
 use mathlib.Core.List.{List, [], _∷_}
 use lib.Dec.{ltb, eqb}
 use lib.IntN.{ℤ, pos, negsuc, negℤ}
@@ -10,24 +10,12 @@ use Rattle.text.specs.Class.{inside, isDecimalDigit}
 use Rattle.schema.specs.declared.integer.Parsed.{Parsed}
 use Rattle.schema.specs.declared.integer.Parsed.the-variants.{Value, Nothing}
 
-abbrev pub pickNumber : Bool → ℕ → ℕ → ℕ
-pickNumber true m n = m
-pickNumber false m n = n
-
-abbrev pub pickInteger : Bool → ℤ → ℤ → ℤ
-pickInteger true y z = y
-pickInteger false y z = z
-
-abbrev pub pickParsed : Bool → Parsed → Parsed → Parsed
-pickParsed true p q = p
-pickParsed false p q = q
-
 -- 0 to 9, and A to F or a to f for ten to fifteen
 unfoldable pub digitValue : ℕ → ℕ
 digitValue b =
-    pickNumber (isDecimalDigit b) (b - 48)
-    (pickNumber (inside 65 70 b) (b - 65 + 10)
-    (pickNumber (inside 97 102 b) (b - 97 + 10)
+    cond (isDecimalDigit b) (b - 48)
+    (cond (inside 65 70 b) (b - 65 + 10)
+    (cond (inside 97 102 b) (b - 97 + 10)
     0))
 
 -- the positional value of some digits that follow digits of the value m
@@ -42,8 +30,8 @@ valueOf base s = positional base 0 s
 unfoldable pub signedValue : List ℕ → ℤ
 signedValue [] = pos 0
 signedValue (b ∷ s) =
-    pickInteger (eqb b 45) (negℤ (pos (valueOf 10 s)))
-    (pickInteger (eqb b 43) (pos (valueOf 10 s))
+    cond (eqb b 45) (negℤ (pos (valueOf 10 s)))
+    (cond (eqb b 43) (pos (valueOf 10 s))
     (pos (valueOf 10 (b ∷ s))))
 
 -- the bases of the table's three integer rows
@@ -65,4 +53,4 @@ inRange (negsuc m) = ltb m (2 ^ 63)
 
 -- the integer, where 64 signed bits hold it
 unfoldable pub held : ℤ → Parsed
-held z = pickParsed (inRange z) (Value z) Nothing
+held z = cond (inRange z) (Value z) Nothing

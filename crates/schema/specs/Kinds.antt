@@ -4,7 +4,7 @@
 use Prim.Native.Nat.{ℕ, _<_}
 use Prim.Native.String.{String}
 use mathlib.Core.Path.{_≡_}
-use mathlib.Core.Bool.{Bool, true, false}
+use mathlib.Core.Bool.{Bool, true, false, cond}
 use mathlib.Core.List.{List, [], _∷_}
 use lib.ListN.{length}
 use Rattle.schema.specs.Ascii.{bytes, Bytes, sameBytes}
@@ -24,14 +24,10 @@ tagName float = "float"
 abbrev pub hasName : List ℕ → Kind → Bool
 hasName name k = sameBytes (bytes (tagName k)) name
 
-abbrev pub pickRows : Bool → List Row → List Row → List Row
-pickRows true rs qs = rs
-pickRows false rs qs = qs
-
 -- the rows of some kinds, in their order
 abbrev pub rowsOf : (Kind → Bool) → List Row → List Row
 rowsOf p [] = []
-rowsOf p (r ∷ rs) = pickRows (p (r .kind)) (r ∷ rowsOf p rs) (rowsOf p rs)
+rowsOf p (r ∷ rs) = cond (p (r .kind)) (r ∷ rowsOf p rs) (rowsOf p rs)
 
 -- what the rows of a tag read in a scalar; a string where none of them matches
 unfoldable pub readAs : List ℕ → List ℕ → Meaning

@@ -3,14 +3,10 @@
 -- contracts cite it because it computes. `join` and `either` drop what matches nothing, so that derivatives stay small.
 -- Assumes nothing.
 use Prim.Native.Nat.{ℕ}
-use mathlib.Core.Bool.{Bool, true, false, _&&_, _||_}
+use mathlib.Core.Bool.{Bool, true, false, _&&_, _||_, cond}
 use mathlib.Core.List.{List, [], _∷_}
 use lib.Dec.{leb}
 use Rattle.schema.specs.Regex.{Regex, none, empty, range, seq, alt, star}
-
-abbrev pub pick : Bool → Regex → Regex → Regex
-pick true r q = r
-pick false r q = q
 
 abbrev pub isNone : Regex → Bool
 isNone none = true
@@ -30,10 +26,10 @@ isEmpty (star r) = false
 
 -- `seq` and `alt`, where a part that is `none` or `empty` is left out
 abbrev pub join : Regex → Regex → Regex
-join r q = pick (isNone r) none (pick (isEmpty r) q (seq r q))
+join r q = cond (isNone r) none (cond (isEmpty r) q (seq r q))
 
 abbrev pub either : Regex → Regex → Regex
-either r q = pick (isNone r) q (pick (isNone q) r (alt r q))
+either r q = cond (isNone r) q (cond (isNone q) r (alt r q))
 
 -- whether r matches the list of no bytes
 unfoldable pub nullable : Regex → Bool
@@ -47,8 +43,8 @@ nullable (star r) = true
 unfoldable pub derivative : ℕ → Regex → Regex
 derivative b none = none
 derivative b empty = none
-derivative b (range lo hi) = pick (leb lo b && leb b hi) empty none
-derivative b (seq r q) = pick (nullable r) (either (join (derivative b r) q) (derivative b q)) (join (derivative b r) q)
+derivative b (range lo hi) = cond (leb lo b && leb b hi) empty none
+derivative b (seq r q) = cond (nullable r) (either (join (derivative b r) q) (derivative b q)) (join (derivative b r) q)
 derivative b (alt r q) = either (derivative b r) (derivative b q)
 derivative b (star r) = join (derivative b r) (star r)
 

@@ -4,7 +4,7 @@
 -- both ways, and where the order of the rows tells; its proof is in proofs/CoreSchema.antt. Assumes nothing.
 use Prim.Native.Nat.{ℕ, _<_}
 use mathlib.Core.Path.{_≡_}
-use mathlib.Core.Bool.{Bool, true, false}
+use mathlib.Core.Bool.{Bool, true, false, cond}
 use mathlib.Core.List.{List, [], _∷_}
 use lib.IntN.{ℤ}
 use lib.ListN.{length, getD}
@@ -56,13 +56,9 @@ reads bool s = truth (accepts trueWord s)
 reads (int base) s = integer base (integerIn base s)
 reads float s = real
 
-abbrev pub pickMeaning : Bool → Meaning → Meaning → Meaning
-pickMeaning true m n = m
-pickMeaning false m n = n
-
 unfoldable pub firstMatch : List Row → List ℕ → Meaning
 firstMatch [] s = string
-firstMatch (r ∷ rs) s = pickMeaning (accepts (r .expression) s) (reads (r .kind) s) (firstMatch rs s)
+firstMatch (r ∷ rs) s = cond (accepts (r .expression) s) (reads (r .kind) s) (firstMatch rs s)
 
 abbrev pub standard : List ℕ → Meaning
 standard s = firstMatch table s

@@ -1,7 +1,7 @@
 -- Tagged scalars, and the whole of a scalar's resolution (S10). A tag is a handle and a suffix, each a list of bytes.
 -- Assumes nothing.
 use Prim.Native.Nat.{ℕ}
-use mathlib.Core.Bool.{Bool, true, false, _&&_}
+use mathlib.Core.Bool.{Bool, true, false, _&&_, cond}
 use mathlib.Core.List.{List, []}
 use lib.Dec.{eqb}
 use lib.ListN.{length, take, drop}
@@ -9,7 +9,7 @@ use Rattle.schema.specs.Ascii.{bytes}
 unfoldable pub use Rattle.schema.specs.Ascii.{sameBytes}
 use Rattle.schema.specs.Integer.{held}
 use Rattle.schema.specs.Standard.{Meaning, nullValue, truth, integer, real, string}
-use Rattle.schema.specs.CoreSchema.{pickResolved, integerOr, coreSchema}
+use Rattle.schema.specs.CoreSchema.{integerOr, coreSchema}
 use Rattle.schema.specs.Kinds.{readAs}
 use Rattle.schema.specs.declared.plain.Resolved.{Resolved}
 use Rattle.schema.specs.declared.plain.Resolved.the-variants.{Null, Boolean, Real, Str, BadValue}
@@ -22,15 +22,11 @@ standardHandle = bytes "tag:yaml.org,2002:"
 abbrev pub startsWith : List ℕ → List ℕ → Bool
 startsWith p s = sameBytes (take (length p) s) p
 
-abbrev pub pickTag : Bool → StandardTag → StandardTag → StandardTag
-pickTag true p q = p
-pickTag false p q = q
-
 -- the standard handle, whose suffix is the name; or no handle, and a suffix that starts with the standard one
 unfoldable pub standardTagSuffix : List ℕ → List ℕ → StandardTag
 standardTagSuffix handle suffix =
-    pickTag (sameBytes handle standardHandle) (NameAt 0)
-    (pickTag (sameBytes handle [] && startsWith standardHandle suffix) (NameAt 18)
+    cond (sameBytes handle standardHandle) (NameAt 0)
+    (cond (sameBytes handle [] && startsWith standardHandle suffix) (NameAt 18)
     NotStandard)
 
 -- a misfit is a bad value: no row of the tag matches, or 64 signed bits do not hold the integer
@@ -48,16 +44,16 @@ taggedAs name s = fitted (readAs name s)
 -- by the tag's name: a misfit is a bad value, a name that is none of the five leaves a string
 unfoldable pub taggedSchema : List ℕ → List ℕ → Resolved
 taggedSchema name s =
-    pickResolved (sameBytes name (bytes "str")) Str
-    (pickResolved (sameBytes name (bytes "bool")) (taggedAs (bytes "bool") s)
-    (pickResolved (sameBytes name (bytes "int")) (taggedAs (bytes "int") s)
-    (pickResolved (sameBytes name (bytes "float")) (taggedAs (bytes "float") s)
-    (pickResolved (sameBytes name (bytes "null")) (taggedAs (bytes "null") s)
+    cond (sameBytes name (bytes "str")) Str
+    (cond (sameBytes name (bytes "bool")) (taggedAs (bytes "bool") s)
+    (cond (sameBytes name (bytes "int")) (taggedAs (bytes "int") s)
+    (cond (sameBytes name (bytes "float")) (taggedAs (bytes "float") s)
+    (cond (sameBytes name (bytes "null")) (taggedAs (bytes "null") s)
     Str))))
 
 -- style 0 is plain; quoted and block values are strings
 unfoldable pub untagged : List ℕ → ℕ → Resolved
-untagged s style = pickResolved (eqb style 0) (coreSchema s) Str
+untagged s style = cond (eqb style 0) (coreSchema s) Str
 
 -- by what the tag turned out to be
 abbrev pub byTag : StandardTag → List ℕ → ℕ → List ℕ → Resolved
@@ -66,4 +62,4 @@ byTag NotStandard s style suffix = untagged s style
 
 unfoldable pub resolveScalar : List ℕ → ℕ → Bool → List ℕ → List ℕ → Resolved
 resolveScalar s style tagged handle suffix =
-    pickResolved tagged (byTag (standardTagSuffix handle suffix) s style suffix) (untagged s style)
+    cond tagged (byTag (standardTagSuffix handle suffix) s style suffix) (untagged s style)

@@ -1,19 +1,15 @@
 -- The two steps back that the search is made of: over white space to a token's end, and over the token to its start. They are
 -- stated on the code points before a place; `TokenLaws` says what they are to the tokens.
 use Prim.Native.Nat.{ℕ}
-use mathlib.Core.Bool.{Bool, true, false, not}
+use mathlib.Core.Bool.{Bool, true, false, not, cond}
 use mathlib.Core.List.{List, [], _∷_}
 use Rattle.text.specs.WhiteSpace.{isWhiteSpace}
 use Rattle.tag.specs.Tokens.{bytes, before}
 
-abbrev pub pickCodes : Bool → List ℕ → List ℕ → List ℕ
-pickCodes true a b = a
-pickCodes false a b = b
-
 -- code points from the first on that is not of a kind
 unfoldable pub skip : (ℕ → Bool) → List ℕ → List ℕ
 skip kind [] = []
-skip kind (c ∷ cs) = pickCodes (kind c) (skip kind cs) (c ∷ cs)
+skip kind (c ∷ cs) = cond (kind c) (skip kind cs) (c ∷ cs)
 
 -- from byte i of the text s back over the characters of a kind
 unfoldable pub backOver : (ℕ → Bool) → List ℕ → ℕ → ℕ

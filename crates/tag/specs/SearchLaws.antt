@@ -1,7 +1,7 @@
 -- The search by the text's bytes: `[`, `{`, `,`, `!` and `&` are one byte each, and no byte of another character is one of them. So the
 -- bytes of the last token before a place say what it decides. Only the search itself and `TagLaws` look in here. Assumes nothing.
 use mathlib.Core.Path.{_≡_, refl, sym, _∙_, ap}
-use mathlib.Core.Bool.{Bool, true, false}
+use mathlib.Core.Bool.{Bool, true, false, cond}
 use mathlib.Core.List.{List, [], _∷_, _++_}
 use Prim.Native.Nat.{ℕ, suc, _+_, _-_, _/_, _%_, _≤_, _<_}
 use native.Mathlib.Decide.{decLt}
@@ -10,10 +10,10 @@ use borrow.Author.Tests.{lt-ltb, le-ltb, ne-eqb}
 use lib.Dec.{ltb, eqb}
 use lib.ListN.{length, take, drop, getD, List·getD-eq-default}
 use lib.Seq.{getD-take, getD-drop}
-use Rattle.text.specs.Utf8.{Utf8, pickBytes, encode, encodeAll}
+use Rattle.text.specs.Utf8.{Utf8, encode, encodeAll}
 use Rattle.text.specs.Boundary.{Boundary}
 use Rattle.tag.specs.Tokens.{bytes, before, token, withWord, tokens, tokensBefore}
-use Rattle.tag.specs.Tag.{isOpening, pickCount, openings, property, span, found, none, pickFound, spanOf, decide, firstTag, tagAt}
+use Rattle.tag.specs.Tag.{isOpening, openings, property, span, found, none, spanOf, decide, firstTag, tagAt}
 use Rattle.tag.specs.Back.{tokenEnd, tokenStart}
 use Rattle.tag.specs.TokenLaws.{bytes-cons, bytes-before, lastWord, Last-token, last-token}
 
@@ -29,8 +29,8 @@ wide-begins c t h = rw (le-ltb c 0x80 h) (go (ltb c 0x800) (ltb c 0x1_0000))
   where
     go : (x y : Bool)
         → 0x80
-        ≤ getD (pickBytes x ((0xc0 + c / 64) ∷ (0x80 + c % 64) ∷ [])
-        (pickBytes y ((0xe0 + c / 4096) ∷ (0x80 + c / 64 % 64) ∷ (0x80 + c % 64) ∷ [])
+        ≤ getD (cond x ((0xc0 + c / 64) ∷ (0x80 + c % 64) ∷ [])
+        (cond y ((0xe0 + c / 4096) ∷ (0x80 + c / 64 % 64) ∷ (0x80 + c % 64) ∷ [])
         ((0xf0 + c / 262144) ∷ (0x80 + c / 4096 % 64) ∷ (0x80 + c / 64 % 64) ∷ (0x80 + c % 64) ∷ [])) ++ t) 0 0
     go true y = omega arith
     go false true = omega arith
@@ -49,8 +49,8 @@ unfolding openings encodeAll
 openings-bytes [] = refl
 openings-bytes (c ∷ cs) = go (decLt c 0x80) (openings-bytes cs)
   where
-    go : Dec (c < 0x80) → openings (encodeAll cs) ≡ openings cs → openings (encode c ++ encodeAll cs) ≡ pickCount (isOpening c) (suc (openings cs)) 0
-    go (yes h) r = rw (ascii-encode c h) (ap (λ (n : ℕ). pickCount (isOpening c) (suc n) 0) r)
+    go : Dec (c < 0x80) → openings (encodeAll cs) ≡ openings cs → openings (encode c ++ encodeAll cs) ≡ cond (isOpening c) (suc (openings cs)) 0
+    go (yes h) r = rw (ascii-encode c h) (ap (λ (n : ℕ). cond (isOpening c) (suc n) 0) r)
     go (no h) r = wide-no-openings (encode c ++ encodeAll cs) (wide-begins c (encodeAll cs) (omega arith)) ∙ rw (wide-no-opening c (omega arith))
 
 opening-encode : (c : ℕ) → isOpening c ≡ true → encode c ≡ c ∷ []
@@ -66,7 +66,7 @@ openings-whole [] = omega arith
 openings-whole (c ∷ cs) = go (isOpening c) refl (openings-whole cs)
   where
     go : (t : Bool) → isOpening c ≡ t → bytes cs ≡ openings cs + bytes (drop (openings cs) cs)
-        → bytes (c ∷ cs) ≡ pickCount t (suc (openings cs)) 0 + bytes (drop (pickCount t (suc (openings cs)) 0) (c ∷ cs))
+        → bytes (c ∷ cs) ≡ cond t (suc (openings cs)) 0 + bytes (drop (cond t (suc (openings cs)) 0) (c ∷ cs))
     go true e r = let n : length (encode c) ≡ 1 = ap length (opening-encode c e) in let w = bytes-cons c cs in omega arith
     go false e r = omega arith
 
@@ -83,7 +83,7 @@ mark-bytes k l (c ∷ cs) = go (isOpening c) refl (mark-bytes k l cs)
         ne-eqb (getD (encode c ++ encodeAll cs) 0 0) k (λ e. omega arith) ∙ sym (ne-eqb c k (λ e. omega arith))
 
     go : (t : Bool) → isOpening c ≡ t → eqb (getD (encodeAll cs) (openings cs) 0) k ≡ eqb (getD (drop (openings cs) cs) 0 0) k
-        → eqb (getD (encode c ++ encodeAll cs) (pickCount t (suc (openings cs)) 0) 0) k ≡ eqb (getD (drop (pickCount t (suc (openings cs)) 0) (c ∷ cs)) 0 0) k
+        → eqb (getD (encode c ++ encodeAll cs) (cond t (suc (openings cs)) 0) 0) k ≡ eqb (getD (drop (cond t (suc (openings cs)) 0) (c ∷ cs)) 0 0) k
     go true e r = rw (opening-encode c e) r
     go false e r = first (decLt c 0x80)
 
@@ -107,7 +107,7 @@ pub record Last-property (s : List ℕ) (i a e n m : ℕ) : Type 0 where
   pub back : e ≤ i
   pub left : 1 ≤ m → a + n < e
   pub first : 1 ≤ m → getD s (a + n) 0 ≡ m
-  pub decides : tagAt s i ≡ pickFound (eqb m 0x21) (found (span (a + n) e)) (pickFound (eqb m 0x26) (tagAt s a) none)
+  pub decides : tagAt s i ≡ cond (eqb m 0x21) (found (span (a + n) e)) (cond (eqb m 0x26) (tagAt s a) none)
 
 pub last-property : {s : List ℕ} {i e a n m : ℕ} → Utf8 s → Boundary s i → e ≡ tokenEnd s i → a ≡ tokenStart s e
     → n ≡ openings (take (e - a) (drop a s)) → m ≡ getD (take (e - a) (drop a s)) n 0 → Last-property s i a e n m

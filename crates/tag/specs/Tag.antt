@@ -2,7 +2,7 @@
 -- leading `[`, `{` and `,`, the first that does not begin with `&` decides. It is the property if it begins with `!`; otherwise, and
 -- where no token is left, there is none, and the span is guessed. What callers may count on stands in `TagLaws`.
 use Prim.Native.Nat.{ℕ, suc, _+_, _-_, min}
-use mathlib.Core.Bool.{Bool, true, false, _||_}
+use mathlib.Core.Bool.{Bool, true, false, _||_, cond}
 use mathlib.Core.List.{List, [], _∷_}
 use lib.Dec.{eqb}
 use lib.ListN.{length, take, drop, getD}
@@ -15,14 +15,10 @@ use Rattle.tag.specs.declared.property.Span.{Span}
 abbrev pub isOpening : ℕ → Bool
 isOpening c = eqb c 0x5b || (eqb c 0x7b || eqb c 0x2c)
 
-abbrev pub pickCount : Bool → ℕ → ℕ → ℕ
-pickCount true a b = a
-pickCount false a b = b
-
 -- how many of them stand in front
 unfoldable pub openings : List ℕ → ℕ
 openings [] = 0
-openings (c ∷ cs) = pickCount (isOpening c) (suc (openings cs)) 0
+openings (c ∷ cs) = cond (isOpening c) (suc (openings cs)) 0
 
 -- a token without them
 unfoldable pub property : Token → Token
@@ -47,16 +43,12 @@ pub data Found : Type 0 where
   found : Span → Found
   none : Found
 
-abbrev pub pickFound : Bool → Found → Found → Found
-pickFound true a b = a
-pickFound false a b = b
-
 unfoldable pub spanOf : Token → Span
 spanOf t = span (t .start) (t .start + bytes (t .chars))
 
 -- what a property says, where `further` is what the tokens before it say
 unfoldable pub decide : Token → Found → Found
-decide p further = pickFound (isTag p) (found (spanOf p)) (pickFound (isAnchor p) further none)
+decide p further = cond (isTag p) (found (spanOf p)) (cond (isAnchor p) further none)
 
 -- of tokens, the nearest first
 unfoldable pub firstTag : List Token → Found

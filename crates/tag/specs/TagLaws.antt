@@ -1,7 +1,7 @@
 -- What callers may count on: a property found lies before the node and within the text and begins with `!`, a guess lies within the
 -- text, and no span ends before it starts. Assumes nothing.
 use mathlib.Core.Path.{_≡_, refl, sym, _∙_, ap, subst}
-use mathlib.Core.Bool.{Bool, true, false}
+use mathlib.Core.Bool.{Bool, true, false, cond}
 use mathlib.Core.List.{List, []}
 use Prim.Native.Nat.{ℕ, zero, suc, _+_, _-_, _≤_, _<_}
 use native.Mathlib.Omega.{arith}
@@ -13,7 +13,7 @@ use Rattle.text.specs.Utf8.{Utf8}
 use Rattle.text.specs.Boundary.{Boundary}
 use Rattle.tag.specs.declared.property.Span.{Span}
 use Rattle.tag.specs.Tokens.{withWord, tokens, tokensBefore}
-use Rattle.tag.specs.Tag.{span, Found, found, none, pickFound, firstTag, tagAt, foundOr, propertySpan, part, tagProperty, tagOffset, guess, tagSpan}
+use Rattle.tag.specs.Tag.{span, Found, found, none, firstTag, tagAt, foundOr, propertySpan, part, tagProperty, tagOffset, guess, tagSpan}
 use Rattle.tag.specs.TokenLaws.{before-start}
 use Rattle.tag.specs.SearchLaws.{Last-property, last-property}
 
@@ -32,7 +32,7 @@ by-mark : {s : List ℕ} {i a e n m : ℕ} {p : Span} → Last-property s i a e 
     → (a < i → tagAt s a ≡ found p → Tagged s a p) → tagAt s i ≡ found p → Tagged s i p
 by-mark {s} {i} {a} {e} {n} {m} {p} k r f = go (eqb m 0x21) (eqb m 0x26) refl refl (sym (k .decides) ∙ f)
   where
-    go : (x y : Bool) → eqb m 0x21 ≡ x → eqb m 0x26 ≡ y → pickFound x (found (span (a + n) e)) (pickFound y (tagAt s a) none) ≡ found p → Tagged s i p
+    go : (x y : Bool) → eqb m 0x21 ≡ x → eqb m 0x26 ≡ y → cond x (found (span (a + n) e)) (cond y (tagAt s a) none) ≡ found p → Tagged s i p
     go true y ex ey g =
         let is : span (a + n) e ≡ p = cc in
         let tag = eqb-true m 0x21 ex in

@@ -1,7 +1,7 @@
 -- The laws of tokens: the code points before a place, one step back at a time; what a step back over some characters leaves and
 -- passes; what a token is (`no-tokens`, `next-token`); and the last token before a place as the search reads it. Assumes nothing.
 use mathlib.Core.Path.{_≡_, refl, sym, _∙_, ap, subst}
-use mathlib.Core.Bool.{Bool, true, false, not}
+use mathlib.Core.Bool.{Bool, true, false, not, cond}
 use mathlib.Core.List.{List, [], _∷_, _++_, append-assoc, append-nil, reverse, reverseAux, reverseAux-eq, reverse-append, reverse-reverse}
 use Prim.Native.Nat.{ℕ, _+_, _-_, _≤_, _<_}
 use native.Mathlib.Omega.{arith}
@@ -13,8 +13,8 @@ use Rattle.text.specs.Boundary.{Boundary}
 use Rattle.text.specs.WhiteSpace.{isWhiteSpace}
 use Rattle.text.specs.Utf8Laws.{codes-encode, codes-encodeAll, encodeAll-append, scalars-front, Place, place-at, place-front, place-back, place-boundary, boundary-splits, char-before}
 use Rattle.text.specs.declared.utf8.Char.{Char}
-use Rattle.tag.specs.Tokens.{bytes, before, token, pickTokens, withWord, tokens, tokensBefore}
-use Rattle.tag.specs.Back.{pickCodes, skip, backOver, isTokenChar, tokenEnd, tokenStart}
+use Rattle.tag.specs.Tokens.{bytes, before, token, withWord, tokens, tokensBefore}
+use Rattle.tag.specs.Back.{skip, backOver, isTokenChar, tokenEnd, tokenStart}
 
 -- ---- bytes
 
@@ -112,7 +112,7 @@ cut {s} {i} u b front word e =
 -- what is passed, in the order of the text, and `word` behind it
 unfoldable pub passed : (ℕ → Bool) → List ℕ → List ℕ → List ℕ
 passed kind word [] = word
-passed kind word (c ∷ cs) = pickCodes (kind c) (passed kind (c ∷ word) cs) word
+passed kind word (c ∷ cs) = cond (kind c) (passed kind (c ∷ word) cs) word
 
 module _ (kind : ℕ → Bool) where
   skip-passed : (cs word : List ℕ) → reverseAux cs word ≡ reverse (skip kind cs) ++ passed kind word cs
@@ -121,7 +121,7 @@ module _ (kind : ℕ → Bool) where
   skip-passed (c ∷ cs) word = go (kind c) (skip-passed cs (c ∷ word))
     where
       go : (t : Bool) → reverseAux cs (c ∷ word) ≡ reverse (skip kind cs) ++ passed kind (c ∷ word) cs
-          → reverseAux cs (c ∷ word) ≡ reverse (pickCodes t (skip kind cs) (c ∷ cs)) ++ pickCodes t (passed kind (c ∷ word) cs) word
+          → reverseAux cs (c ∷ word) ≡ reverse (cond t (skip kind cs) (c ∷ cs)) ++ cond t (passed kind (c ∷ word) cs) word
       go true r = r
       go false r = reverseAux-eq (c ∷ cs) word
 
@@ -154,7 +154,7 @@ tokens-space [] = refl
 tokens-space (c ∷ cs) = go (isWhiteSpace c) refl (tokens-space cs)
   where
     go : (t : Bool) → isWhiteSpace c ≡ t → tokens [] (skip isWhiteSpace cs) ≡ tokens [] cs
-        → tokens [] (pickCodes t (skip isWhiteSpace cs) (c ∷ cs)) ≡ pickTokens t (tokens [] cs) (tokens (c ∷ []) cs)
+        → tokens [] (cond t (skip isWhiteSpace cs) (c ∷ cs)) ≡ cond t (tokens [] cs) (tokens (c ∷ []) cs)
     go true e r = r
     go false e r = rw e
 
@@ -166,8 +166,8 @@ tokens-word word (c ∷ cs) = go (isWhiteSpace c) refl (tokens-word (c ∷ word)
   where
     go : (t : Bool) → isWhiteSpace c ≡ t
         → tokens (c ∷ word) cs ≡ withWord (passed isTokenChar (c ∷ word) cs) (skip isTokenChar cs) (tokens [] (skip isTokenChar cs))
-        → pickTokens t (withWord word (c ∷ cs) (tokens [] cs)) (tokens (c ∷ word) cs)
-        ≡ withWord (pickCodes (not t) (passed isTokenChar (c ∷ word) cs) word) (pickCodes (not t) (skip isTokenChar cs) (c ∷ cs)) (tokens [] (pickCodes (not t) (skip isTokenChar cs) (c ∷ cs)))
+        → cond t (withWord word (c ∷ cs) (tokens [] cs)) (tokens (c ∷ word) cs)
+        ≡ withWord (cond (not t) (passed isTokenChar (c ∷ word) cs) word) (cond (not t) (skip isTokenChar cs) (c ∷ cs)) (tokens [] (cond (not t) (skip isTokenChar cs) (c ∷ cs)))
     go true e r = rw e
     go false e r = r
 
@@ -176,7 +176,7 @@ unfolding passed
 some-passed kind c word [] = omega arith
 some-passed kind c word (d ∷ cs) = go (kind d) (some-passed kind d (c ∷ word) cs)
   where
-    go : (t : Bool) → 1 ≤ length (passed kind (d ∷ c ∷ word) cs) → 1 ≤ length (pickCodes t (passed kind (d ∷ c ∷ word) cs) (c ∷ word))
+    go : (t : Bool) → 1 ≤ length (passed kind (d ∷ c ∷ word) cs) → 1 ≤ length (cond t (passed kind (d ∷ c ∷ word) cs) (c ∷ word))
     go true r = r
     go false r = omega arith
 
@@ -187,8 +187,8 @@ no-token [] e = refl
 no-token (c ∷ cs) e = go (isWhiteSpace c) refl (no-token cs) e
   where
     go : (t : Bool) → isWhiteSpace c ≡ t → (length (passed isTokenChar [] (skip isWhiteSpace cs)) ≡ 0 → tokens [] cs ≡ [])
-        → length (passed isTokenChar [] (pickCodes t (skip isWhiteSpace cs) (c ∷ cs))) ≡ 0
-        → pickTokens t (tokens [] cs) (tokens (c ∷ []) cs) ≡ []
+        → length (passed isTokenChar [] (cond t (skip isWhiteSpace cs) (c ∷ cs))) ≡ 0
+        → cond t (tokens [] cs) (tokens (c ∷ []) cs) ≡ []
     go true q r e = r e
     go false q r e =
         absurd

@@ -2,7 +2,7 @@
 -- the byte classes (W1), so tokens are made of code points and not of bytes. `tokens` gathers a token's characters as it meets them; the
 -- equations that say what a token is, `no-tokens` and `next-token`, stand in `TokenLaws`.
 use Prim.Native.Nat.{ℕ}
-use mathlib.Core.Bool.{Bool, true, false}
+use mathlib.Core.Bool.{Bool, true, false, cond}
 use mathlib.Core.List.{List, [], _∷_, reverse}
 use lib.ListN.{length, take}
 use Rattle.text.specs.Utf8.{encodeAll, codes}
@@ -24,10 +24,6 @@ pub record Token : Type 0 where
 abbrev pub token : ℕ → List ℕ → Token
 token n cs = record { start = n; chars = cs }
 
-abbrev pub pickTokens : Bool → List Token → List Token → List Token
-pickTokens true a b = a
-pickTokens false a b = b
-
 -- the tokens `ts`, and in front of them the one that `word` makes behind the code points `rest`, if it has any
 unfoldable pub withWord : List ℕ → List ℕ → List Token → List Token
 withWord [] rest ts = ts
@@ -36,7 +32,7 @@ withWord (c ∷ word) rest ts = token (bytes rest) (c ∷ word) ∷ ts
 -- the tokens of some code points, both nearest first; `word` is what was met of the token at hand
 unfoldable pub tokens : List ℕ → List ℕ → List Token
 tokens word [] = withWord word [] []
-tokens word (c ∷ cs) = pickTokens (isWhiteSpace c) (withWord word (c ∷ cs) (tokens [] cs)) (tokens (c ∷ word) cs)
+tokens word (c ∷ cs) = cond (isWhiteSpace c) (withWord word (c ∷ cs) (tokens [] cs)) (tokens (c ∷ word) cs)
 
 -- the tokens before byte i of the text s, the nearest first
 unfoldable pub tokensBefore : List ℕ → ℕ → List Token

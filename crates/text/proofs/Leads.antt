@@ -1,6 +1,6 @@
 -- The length of a character by its first byte. Assumes nothing.
 use mathlib.Core.Path.{_≡_, refl, ap, _∙_, subst}
-use mathlib.Core.Bool.{Bool, true, false, not, _&&_}
+use mathlib.Core.Bool.{Bool, true, false, not, _&&_, cond}
 use mathlib.Core.List.{List}
 use Prim.Native.Nat.{ℕ, _+_, _≤_, _<_}
 use native.Mathlib.Decide.{decLt}
@@ -9,12 +9,12 @@ use borrow.Author.Tests.{lt-ltb, le-ltb}
 use lib.Dec.{leb}
 use lib.ListN.{length, drop, getD}
 use Rattle.text.specs.Class.{inside, isContinuation}
-use Rattle.text.specs.Utf8.{Utf8, character, noChar, pickChar, codeOf2, codeOf3, codeOf4, twoBytes, threeBytes, fourBytes, multiByte, firstChar}
+use Rattle.text.specs.Utf8.{Utf8, character, noChar, codeOf2, codeOf3, codeOf4, twoBytes, threeBytes, fourBytes, multiByte, firstChar}
 use Rattle.text.specs.Boundary.{Boundary}
 use Rattle.text.specs.Utf8Laws.{char-at, first-char-ascii, first-char-multi}
 use Rattle.text.specs.declared.utf8.Char.{Char}
 
-some-len : (t : Bool) (c n : ℕ) → 1 ≤ pickChar t (character c n) noChar .len → pickChar t (character c n) noChar .len ≡ n
+some-len : (t : Bool) (c n : ℕ) → 1 ≤ cond t (character c n) noChar .len → cond t (character c n) noChar .len ≡ n
 some-len true c n h = refl
 some-len false c n h = absurd (omega arith)
 

@@ -1,6 +1,6 @@
 -- A search in a rising table, and the table that ranges spell out. Assumes nothing.
 use mathlib.Core.Path.{_≡_, refl, sym, _∙_, ap}
-use mathlib.Core.Bool.{Bool, true, false, _&&_, _||_}
+use mathlib.Core.Bool.{Bool, true, false, _&&_, _||_, cond}
 use mathlib.Core.List.{List, [], _∷_, _++_}
 use Prim.Native.Nat.{ℕ, zero, suc, _+_, _-_, _≤_, _<_}
 use native.Mathlib.Decide.{decLt}
@@ -15,14 +15,10 @@ use Rattle.text.specs.Bytes.{is-inside, below-inside, above-inside}
 use Rattle.text.specs.WhiteSpace.{Range, whiteSpace, isIn, isWhiteSpace}
 use Rattle.text.proofs.Table.{both, both-left, both-right}
 
-abbrev pick : Bool → Bool → Bool → Bool
-pick true a b = a
-pick false a b = b
-
 -- the first entry that is not below c decides
 unfoldable pub find : List ℕ → ℕ → Bool
 find [] c = false
-find (w ∷ ws) c = pick (leb c w) (eqb c w) (find ws c)
+find (w ∷ ws) c = cond (leb c w) (eqb c w) (find ws c)
 
 member : List ℕ → ℕ → Bool
 member [] c = false
@@ -65,7 +61,7 @@ unfolding find member
 find-member [] c t = refl
 find-member (w ∷ ws) c t = go (decLt w c) (find-member ws c (both-right (above w ws) (rising ws) t))
   where
-    go : Dec (w < c) → find ws c ≡ member ws c → pick (leb c w) (eqb c w) (find ws c) ≡ eqb c w || member ws c
+    go : Dec (w < c) → find ws c ≡ member ws c → cond (leb c w) (eqb c w) (find ws c) ≡ eqb c w || member ws c
     go (yes h) r = let n : c ≡ w → ⊥ = (λ e. omega arith) in rw (lt-leb c w h, ne-eqb c w n) r
     go (no h) r = rw (le-leb c w (omega arith), none-below w c ws (omega arith) (both-left (above w ws) (rising ws) t)) (last (eqb c w))
       where

@@ -1,7 +1,7 @@
 -- The first two rows of document 01's table, which every public call tests before anything else (R1, R2, RO): all sizes first, then
 -- UTF-8. A text that is admitted is said to be ASCII or not, since marker offsets go by that.
 use Prim.Native.Nat.{ℕ}
-use mathlib.Core.Bool.{Bool, true, false, _&&_, _||_}
+use mathlib.Core.Bool.{Bool, true, false, _&&_, _||_, cond}
 use mathlib.Core.List.{List}
 use lib.Dec.{ltb}
 use lib.ListN.{length}
@@ -17,18 +17,14 @@ textLimit = 1_048_576
 abbrev pub isTooLong : List ℕ → Bool
 isTooLong s = ltb textLimit (length s)
 
-abbrev pub pickAdmission : Bool → Admission → Admission → Admission
-pickAdmission true a b = a
-pickAdmission false a b = b
-
 -- of a text
 unfoldable pub admission : List ℕ → Admission
-admission s = pickAdmission (isTooLong s) TooLong (pickAdmission (isUtf8 s) (Admitted (isAscii s)) NotUtf8)
+admission s = cond (isTooLong s) TooLong (cond (isUtf8 s) (Admitted (isAscii s)) NotUtf8)
 
 -- of a text and a value: either can be refused, and the sizes of both come before the UTF-8 of either
 unfoldable pub admissionOfBoth : List ℕ → List ℕ → Admission
 admissionOfBoth s v =
-    pickAdmission (isTooLong s || isTooLong v) TooLong (pickAdmission (isUtf8 s && isUtf8 v) (Admitted (isAscii s)) NotUtf8)
+    cond (isTooLong s || isTooLong v) TooLong (cond (isUtf8 s && isUtf8 v) (Admitted (isAscii s)) NotUtf8)
 
 -- the table's number for each answer
 abbrev pub admissionNumber : Admission → ℕ

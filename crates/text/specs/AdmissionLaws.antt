@@ -1,6 +1,6 @@
 -- What an admitted text is: within the limit, UTF-8, and ASCII where the answer says so. Assumes nothing.
 use mathlib.Core.Path.{_≡_, refl, sym}
-use mathlib.Core.Bool.{Bool, true, false, _&&_, _||_}
+use mathlib.Core.Bool.{Bool, true, false, _&&_, _||_, cond}
 use mathlib.Core.List.{List}
 use Prim.Native.Nat.{ℕ, _≤_}
 use native.Mathlib.Omega.{arith}
@@ -10,7 +10,7 @@ use Rattle.text.specs.Utf8.{Utf8, isUtf8}
 use Rattle.text.specs.Utf8Laws.{utf8-sound}
 use Rattle.text.specs.Tests.{and-left, and-right}
 use Rattle.text.specs.Offset.{isAscii}
-use Rattle.text.specs.Admission.{textLimit, isTooLong, pickAdmission, admission, admissionOfBoth}
+use Rattle.text.specs.Admission.{textLimit, isTooLong, admission, admissionOfBoth}
 use Rattle.text.specs.declared.admission.Admission.{Admission}
 use Rattle.text.specs.declared.admission.Admission.the-variants.{Admitted, TooLong, NotUtf8}
 
@@ -24,7 +24,7 @@ record Passed (l u a x : Bool) : Type 0 where
   whole : u ≡ true
   told : x ≡ a
 
-passed : (l u a x : Bool) → pickAdmission l TooLong (pickAdmission u (Admitted a) NotUtf8) ≡ Admitted x → Passed l u a x
+passed : (l u a x : Bool) → cond l TooLong (cond u (Admitted a) NotUtf8) ≡ Admitted x → Passed l u a x
 passed true u a x e = record { short = cc; whole = cc; told = cc }
 passed false true a x e = record { short = refl; whole = refl; told = cc }
 passed false false a x e = record { short = refl; whole = cc; told = cc }

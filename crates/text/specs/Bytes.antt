@@ -1,7 +1,7 @@
 -- The bytes of one character, both ways: what `encode` writes, `firstChar` reads, and what `firstChar` reads, `encode` writes.
 -- Only `Utf8Laws` looks in here. Assumes nothing.
 use mathlib.Core.Path.{_≡_, refl, sym, _∙_, ap, subst}
-use mathlib.Core.Bool.{Bool, true, false, not, _&&_}
+use mathlib.Core.Bool.{Bool, true, false, not, _&&_, cond}
 use mathlib.Core.List.{List, [], _∷_, _++_}
 use mathlib.Core.Logic.{_⊎_, inl, inr}
 use Prim.Native.Nat.{ℕ, zero, suc, _+_, _-_, _*_, _/_, _%_, _≤_, _<_}
@@ -12,7 +12,7 @@ use lib.Dec.{ltb, leb}
 use lib.ListN.{length, drop, getD}
 use Rattle.text.specs.Tests.{and-left, and-right}
 use Rattle.text.specs.Class.{inside, isContinuation}
-use Rattle.text.specs.Utf8.{ScalarValue, encode, character, noChar, pickChar, codeOf2, codeOf3, codeOf4, twoBytes, threeBytes, fourBytes, multiByte, charOf, firstChar}
+use Rattle.text.specs.Utf8.{ScalarValue, encode, character, noChar, codeOf2, codeOf3, codeOf4, twoBytes, threeBytes, fourBytes, multiByte, charOf, firstChar}
 use Rattle.text.specs.declared.utf8.Char.{Char}
 
 -- ---- tests
@@ -195,7 +195,7 @@ Reading s k = 1 ≤ k .len → Written s k
 none-read : (s : List ℕ) → Reading s noChar
 none-read s h = absurd (omega arith)
 
-by-test : (t : Bool) (x y : Char) (P : Char → Type 0) → (t ≡ true → P x) → (t ≡ false → P y) → P (pickChar t x y)
+by-test : (t : Bool) (x y : Char) (P : Char → Type 0) → (t ≡ true → P x) → (t ≡ false → P y) → P (cond t x y)
 by-test true x y P f g = f refl
 by-test false x y P f g = g refl
 

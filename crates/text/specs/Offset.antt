@@ -27,8 +27,3 @@ pub record Stands (s : List ℕ) (chars offset : ℕ) : Type 0 where
 unfoldable pub isAscii : List ℕ → Bool
 isAscii [] = true
 isAscii (b ∷ s) = ltb b 0x80 && isAscii s
-
--- one length or the other
-abbrev pub pickLength : Bool → ℕ → ℕ → ℕ
-pickLength true a b = a
-pickLength false a b = b

@@ -4,7 +4,7 @@
 -- Bytes past the end are read as 0, which continues nothing: a character that is cut off is none by itself.
 use Prim.Native.Nat.{ℕ, zero, suc, _+_, _-_, _*_, _/_, _%_, _<_}
 use mathlib.Core.Path.{_≡_}
-use mathlib.Core.Bool.{Bool, true, false, not, _&&_}
+use mathlib.Core.Bool.{Bool, true, false, not, _&&_, cond}
 use mathlib.Core.List.{List, [], _∷_, _++_, map}
 use mathlib.Core.Logic.{_⊎_}
 use lib.Dec.{ltb, leb}
@@ -19,16 +19,12 @@ pub record ScalarValue (c : ℕ) : Type 0 where
   pub low : c < 0x11_0000
   pub whole : (c < 0xd800) ⊎ (0xdfff < c)
 
-abbrev pub pickBytes : Bool → List ℕ → List ℕ → List ℕ
-pickBytes true a b = a
-pickBytes false a b = b
-
 -- the bytes of a code point
 unfoldable pub encode : ℕ → List ℕ
 encode c =
-    pickBytes (ltb c 0x80) (c ∷ [])
-    (pickBytes (ltb c 0x800) ((0xc0 + c / 64) ∷ (0x80 + c % 64) ∷ [])
-    (pickBytes (ltb c 0x1_0000) ((0xe0 + c / 4096) ∷ (0x80 + c / 64 % 64) ∷ (0x80 + c % 64) ∷ [])
+    cond (ltb c 0x80) (c ∷ [])
+    (cond (ltb c 0x800) ((0xc0 + c / 64) ∷ (0x80 + c % 64) ∷ [])
+    (cond (ltb c 0x1_0000) ((0xe0 + c / 4096) ∷ (0x80 + c / 64 % 64) ∷ (0x80 + c % 64) ∷ [])
     ((0xf0 + c / 262144) ∷ (0x80 + c / 4096 % 64) ∷ (0x80 + c / 64 % 64) ∷ (0x80 + c % 64) ∷ [])))
 
 unfoldable pub encodeAll : List ℕ → List ℕ
@@ -53,10 +49,6 @@ character c n = record { code = c; len = n }
 abbrev pub noChar : Char
 noChar = character 0 0
 
-abbrev pub pickChar : Bool → Char → Char → Char
-pickChar true a b = a
-pickChar false a b = b
-
 -- the code point in the bits of two, three and four bytes
 abbrev pub codeOf2 : ℕ → ℕ → ℕ
 codeOf2 a b = (a - 0xc0) * 64 + (b - 0x80)
@@ -68,30 +60,30 @@ abbrev pub codeOf4 : ℕ → ℕ → ℕ → ℕ → ℕ
 codeOf4 a b c d = (a - 0xf0) * 262144 + (b - 0x80) * 4096 + (c - 0x80) * 64 + (d - 0x80)
 
 unfoldable pub twoBytes : ℕ → ℕ → Char
-twoBytes a b = pickChar (isContinuation b && leb 0x80 (codeOf2 a b)) (character (codeOf2 a b) 2) noChar
+twoBytes a b = cond (isContinuation b && leb 0x80 (codeOf2 a b)) (character (codeOf2 a b) 2) noChar
 
 unfoldable pub threeBytes : ℕ → ℕ → ℕ → Char
 threeBytes a b c =
-    pickChar (isContinuation b && (isContinuation c && (leb 0x800 (codeOf3 a b c) && not (inside 0xd800 0xdfff (codeOf3 a b c)))))
+    cond (isContinuation b && (isContinuation c && (leb 0x800 (codeOf3 a b c) && not (inside 0xd800 0xdfff (codeOf3 a b c)))))
     (character (codeOf3 a b c) 3)
     noChar
 
 unfoldable pub fourBytes : ℕ → ℕ → ℕ → ℕ → Char
 fourBytes a b c d =
-    pickChar (isContinuation b && (isContinuation c && (isContinuation d && inside 0x1_0000 0x10_ffff (codeOf4 a b c d))))
+    cond (isContinuation b && (isContinuation c && (isContinuation d && inside 0x1_0000 0x10_ffff (codeOf4 a b c d))))
     (character (codeOf4 a b c d) 4)
     noChar
 
 -- the character that begins with the byte a of 0x80 or more, of which b, c and d are the next
 unfoldable pub multiByte : ℕ → ℕ → ℕ → ℕ → Char
 multiByte a b c d =
-    pickChar (ltb a 0xc0) noChar
-    (pickChar (ltb a 0xe0) (twoBytes a b)
-    (pickChar (ltb a 0xf0) (threeBytes a b c)
-    (pickChar (ltb a 0xf8) (fourBytes a b c d) noChar)))
+    cond (ltb a 0xc0) noChar
+    (cond (ltb a 0xe0) (twoBytes a b)
+    (cond (ltb a 0xf0) (threeBytes a b c)
+    (cond (ltb a 0xf8) (fourBytes a b c d) noChar)))
 
 unfoldable pub charOf : ℕ → ℕ → ℕ → ℕ → Char
-charOf a b c d = pickChar (ltb a 0x80) (character a 1) (multiByte a b c d)
+charOf a b c d = cond (ltb a 0x80) (character a 1) (multiByte a b c d)
 
 -- the character that the bytes begin with
 unfoldable pub firstChar : List ℕ → Char

@@ -17,9 +17,6 @@ abbrev μ-loop : tie.MeasureT-loop
 loop-holds : tie.Need-loop-holds Inv-loop μ-loop
 loop-holds c = (refl, refl)
 
-number-at-requires : tie.Need-number-at-requires Inv-loop μ-loop
-number-at-requires c κs = tt
-
 mul-buffer : tie.Need-mul-buffer Inv-loop μ-loop
 mul-buffer c = omega arith
 
@@ -38,25 +35,7 @@ loop-less c = simp length-set (omega arith)
 loop-again : tie.Need-loop-again Inv-loop μ-loop
 loop-again c = (simp length-set (omega arith), omega arith)
 
-same-length : tie.Need-same-length Inv-loop μ-loop
-same-length c = search needs
-
-returns : tie.Need-returns Inv-loop μ-loop
-returns c = tt
-
 pub read-numbers-spec : {M : Type 1} → statement M
 read-numbers-spec =
     tie.close
-    (tie.spec
-    Inv-loop
-    μ-loop
-    loop-holds
-    number-at-requires
-    mul-buffer
-    slice-write-buffer
-    add-i
-    add-at
-    loop-less
-    loop-again
-    same-length
-    returns)
+    (tie.spec Inv-loop μ-loop loop-holds (λ c κs. tt) mul-buffer slice-write-buffer add-i add-at loop-less loop-again (λ c. search needs) (λ c. tt))

@@ -23,9 +23,6 @@ add-loop c = omega arith
 add-number-at : tie.Need-add-number-at Inv-loop μ-loop
 add-number-at c = omega arith
 
-number-at-requires : tie.Need-number-at-requires Inv-loop μ-loop
-number-at-requires c κs = tt
-
 cast-marker : tie.Need-cast-marker Inv-loop μ-loop
 cast-marker c = omega arith
 
@@ -35,20 +32,11 @@ byte-offset-of-char-requires c κs = (c .before .before .before .before .before 
 sub-if1 : tie.Need-sub-if1 Inv-loop μ-loop
 sub-if1 c = omega arith
 
-returns : tie.Need-returns Inv-loop μ-loop
-returns c = tt
-
 add-number-at-2 : tie.Need-add-number-at-2 Inv-loop μ-loop
 add-number-at-2 c = omega arith
 
-number-at-requires-2 : tie.Need-number-at-requires-2 Inv-loop μ-loop
-number-at-requires-2 c κs = tt
-
 cast-if2 : tie.Need-cast-if2 Inv-loop μ-loop
 cast-if2 c = omega arith
-
-returns-2 : tie.Need-returns-2 Inv-loop μ-loop
-returns-2 c = tt
 
 add-event : tie.Need-add-event Inv-loop μ-loop
 add-event c = omega arith
@@ -65,30 +53,8 @@ loop-again c = (rw (c .before .before .before .before .byte-offset-of-char .ensu
 sub-result : tie.Need-sub-result Inv-loop μ-loop
 sub-result c = omega arith
 
-returns-3 : tie.Need-returns-3 Inv-loop μ-loop
-returns-3 c = tt
-
 pub same-offsets-spec : {M : Type 1} → statement M
 same-offsets-spec =
     tie.close
-    (tie.spec
-    Inv-loop
-    μ-loop
-    loop-holds
-    add-loop
-    add-number-at
-    number-at-requires
-    cast-marker
-    byte-offset-of-char-requires
-    sub-if1
-    returns
-    add-number-at-2
-    number-at-requires-2
-    cast-if2
-    returns-2
-    add-event
-    add-place
-    loop-less
-    loop-again
-    sub-result
-    returns-3)
+    (tie.spec Inv-loop μ-loop loop-holds add-loop add-number-at (λ c κs. tt) cast-marker byte-offset-of-char-requires sub-if1 (λ c. tt)
+    add-number-at-2 (λ c κs. tt) cast-if2 (λ c. tt) add-event add-place loop-less loop-again sub-result (λ c. tt))

@@ -6,21 +6,9 @@ use Rattle.event.specs.Read.{readBody}
 use Rattle.event.proofs.read.read_body.Statement.{statement}
 use Rattle.event.proofs.read.read_body.Tie as tie
 
-read-scalar-requires : tie.Need-read-scalar-requires
-read-scalar-requires c κs = search needs
-
 returns : tie.Need-returns
 unfolding readBody
 returns c = rw (eq-eqb _ _ (c .before .if1 .taken)) (c .read-scalar .ensures)
-
-start-tag-requires : tie.Need-start-tag-requires
-start-tag-requires c κs = search needs
-
-enum-known-tag : tie.Need-enum-known-tag
-enum-known-tag c = search needs
-
-enum-told : tie.Need-enum-told
-enum-told c = search needs
 
 returns-2 : tie.Need-returns-2
 unfolding readBody
@@ -39,15 +27,6 @@ returns-3 c =
       eq-eqb _ _ (c .before .before .before .before .if2 .taken),
       sym (c .before .before .before .start-tag .ensures) ∙ c .before .tag .given .1,
     )
-
-start-tag-requires-2 : tie.Need-start-tag-requires-2
-start-tag-requires-2 c κs = search needs
-
-enum-known-tag-2 : tie.Need-enum-known-tag-2
-enum-known-tag-2 c = search needs
-
-enum-told-2 : tie.Need-enum-told-2
-enum-told-2 c = search needs
 
 returns-4 : tie.Need-returns-4
 unfolding readBody
@@ -131,21 +110,5 @@ returns-10 c =
 pub read-body-spec : {M : Type 1} → statement M
 read-body-spec =
     tie.close
-    (tie.spec
-    read-scalar-requires
-    returns
-    start-tag-requires
-    enum-known-tag
-    enum-told
-    returns-2
-    returns-3
-    start-tag-requires-2
-    enum-known-tag-2
-    enum-told-2
-    returns-4
-    returns-5
-    returns-6
-    returns-7
-    returns-8
-    returns-9
-    returns-10)
+    (tie.spec (λ c κs. search needs) returns (λ c κs. search needs) (λ c. search needs) (λ c. search needs) returns-2 returns-3 (λ c κs. search needs)
+    (λ c. search needs) (λ c. search needs) returns-4 returns-5 returns-6 returns-7 returns-8 returns-9 returns-10)

@@ -11,28 +11,10 @@ returns c =
     let given = c .before .before .args in
     sym (header-cut (given .events .now) (given .at) (omega arith))
 
-sub-if2 : tie.Need-sub-if2
-sub-if2 c = search needs
-
 returns-2 : tie.Need-returns-2
 returns-2 c =
     let given = c .before .before .before .args in
     sym (header-cut (given .events .now) (given .at) (omega arith))
-
-add-number-at : tie.Need-add-number-at
-add-number-at c = search needs
-
-number-at-requires : tie.Need-number-at-requires
-number-at-requires c κs = search needs
-
-cast-len : tie.Need-cast-len
-cast-len c = search needs
-
-add-body : tie.Need-add-body
-add-body c = search needs
-
-sub-if3 : tie.Need-sub-if3
-sub-if3 c = search needs
 
 returns-3 : tie.Need-returns-3
 returns-3 c =
@@ -46,21 +28,6 @@ returns-4 c =
     let len = c .before .before .number-at .ensures in
     sym (body-short (given .events .now) (given .at) (omega arith) (omega arith))
 
-number-at-requires-2 : tie.Need-number-at-requires-2
-number-at-requires-2 c κs = search needs
-
-shared-slice-read-read-body : tie.Need-shared-slice-read-read-body
-shared-slice-read-read-body c = search needs
-
-add-read-body : tie.Need-add-read-body
-add-read-body c = search needs
-
-add-read-body-2 : tie.Need-add-read-body-2
-add-read-body-2 c = search needs
-
-read-body-requires : tie.Need-read-body-requires
-read-body-requires c κs = search needs
-
 returns-5 : tie.Need-returns-5
 returns-5 c =
     let given = c .before .before .before .before .before .before .before .before .before .args in
@@ -70,20 +37,6 @@ returns-5 c =
 pub read-event-spec : {M : Type 1} → statement M
 read-event-spec =
     tie.close
-    (tie.spec
-    returns
-    sub-if2
-    returns-2
-    add-number-at
-    number-at-requires
-    cast-len
-    add-body
-    sub-if3
-    returns-3
-    returns-4
-    number-at-requires-2
-    shared-slice-read-read-body
-    add-read-body
-    add-read-body-2
-    read-body-requires
+    (tie.spec returns (λ c. search needs) returns-2 (λ c. search needs) (λ c κs. search needs) (λ c. search needs) (λ c. search needs)
+    (λ c. search needs) returns-3 returns-4 (λ c κs. search needs) (λ c. search needs) (λ c. search needs) (λ c. search needs) (λ c κs. search needs)
     returns-5)

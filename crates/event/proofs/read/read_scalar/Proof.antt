@@ -7,51 +7,21 @@ use Rattle.event.specs.ReadCases.{scalar-cut, scalar-style-unknown, scal
 use Rattle.event.proofs.read.read_scalar.Statement.{statement}
 use Rattle.event.proofs.read.read_scalar.Tie as tie
 
-sub-if1 : tie.Need-sub-if1
-sub-if1 c = search needs
-
 returns : tie.Need-returns
 returns c =
     let given = c .before .before .args in
     sym (scalar-cut (given .events .now) (given .index) (given .at) (given .end) (omega arith))
-
-number-at-requires : tie.Need-number-at-requires
-number-at-requires c κs = search needs
-
-add-style : tie.Need-add-style
-add-style c = search needs
-
-shared-slice-read-style : tie.Need-shared-slice-read-style
-shared-slice-read-style c = search needs
 
 returns-2 : tie.Need-returns-2
 returns-2 c =
     let given = c .before .before .before .before .before .args in
     sym (scalar-style-unknown (given .events .now) (given .index) (given .at) (given .end) (omega arith) (c .if2 .taken))
 
-add-flag : tie.Need-add-flag
-add-flag c = search needs
-
-shared-slice-read-flag : tie.Need-shared-slice-read-flag
-shared-slice-read-flag c = search needs
-
 returns-3 : tie.Need-returns-3
 returns-3 c =
     let given = c .before .before .before .before .before .before .before .args in
     sym
     (scalar-flag-unknown (given .events .now) (given .index) (given .at) (given .end) (omega arith) (c .before .before .if2 .left) (c .if3 .taken))
-
-add-tag-at : tie.Need-add-tag-at
-add-tag-at c = search needs
-
-tag-at-requires : tie.Need-tag-at-requires
-tag-at-requires c κs = search needs
-
-enum-known-tag : tie.Need-enum-known-tag
-enum-known-tag c = search needs
-
-enum-told : tie.Need-enum-told
-enum-told c = search needs
 
 returns-4 : tie.Need-returns-4
 returns-4 c =
@@ -75,12 +45,6 @@ part-is-utf8-start c =
     let t = c .before .tag .given in
     let ends = tag-ended (given .events .now) (given .at + 6) (given .end) (t .0 .0) (t .0 .1 .0) (sym (at-tag .tag-at .ensures) ∙ t .1) in
     search needs
-
-part-is-utf8-end : tie.Need-part-is-utf8-end
-part-is-utf8-end c = search needs
-
-is-utf8-requires : tie.Need-is-utf8-requires
-is-utf8-requires c κs = search needs
 
 sub-t21 : tie.Need-sub-t21
 sub-t21 c =
@@ -112,25 +76,6 @@ returns-6 c =
 pub read-scalar-spec : {M : Type 1} → statement M
 read-scalar-spec =
     tie.close
-    (tie.spec
-    sub-if1
-    returns
-    number-at-requires
-    add-style
-    shared-slice-read-style
-    returns-2
-    add-flag
-    shared-slice-read-flag
-    returns-3
-    add-tag-at
-    tag-at-requires
-    enum-known-tag
-    enum-told
-    returns-4
-    sub-is-utf8
-    part-is-utf8-start
-    part-is-utf8-end
-    is-utf8-requires
-    sub-t21
-    returns-5
-    returns-6)
+    (tie.spec (λ c. search needs) returns (λ c κs. search needs) (λ c. search needs) (λ c. search needs) returns-2 (λ c. search needs)
+    (λ c. search needs) returns-3 (λ c. search needs) (λ c κs. search needs) (λ c. search needs) (λ c. search needs) returns-4 sub-is-utf8
+    part-is-utf8-start (λ c. search needs) (λ c κs. search needs) sub-t21 returns-5 returns-6)

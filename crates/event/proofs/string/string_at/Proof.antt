@@ -10,46 +10,16 @@ use Rattle.event.specs.ReadCases.{string-cut, string-past, string-tested
 use Rattle.event.proofs.string.string_at.Statement.{statement}
 use Rattle.event.proofs.string.string_at.Tie as tie
 
-sub-if1 : tie.Need-sub-if1
-sub-if1 c = search needs
-
 returns : tie.Need-returns
 returns c =
     let given = c .before .before .args in
     sym (string-cut (given .events .now) (given .at) (given .end) (omega arith))
-
-number-at-requires : tie.Need-number-at-requires
-number-at-requires c κs = search needs
-
-cast-len : tie.Need-cast-len
-cast-len c = search needs
-
-add-from : tie.Need-add-from
-add-from c = search needs
-
-sub-if2 : tie.Need-sub-if2
-sub-if2 c = search needs
 
 returns-2 : tie.Need-returns-2
 returns-2 c =
     let given = c .before .before .before .before .args in
     let len = c .before .number-at .ensures in
     sym (string-past (given .events .now) (given .at) (given .end) (omega arith) (omega arith))
-
-add-is-utf8 : tie.Need-add-is-utf8
-add-is-utf8 c = search needs
-
-sub-is-utf8 : tie.Need-sub-is-utf8
-sub-is-utf8 c = search needs
-
-part-is-utf8-start : tie.Need-part-is-utf8-start
-part-is-utf8-start c = search needs
-
-part-is-utf8-end : tie.Need-part-is-utf8-end
-part-is-utf8-end c = search needs
-
-is-utf8-requires : tie.Need-is-utf8-requires
-is-utf8-requires c κs = search needs
 
 returns-3 : tie.Need-returns-3
 returns-3 c =
@@ -70,18 +40,5 @@ returns-4 c =
 pub string-at-spec : {M : Type 1} → statement M
 string-at-spec =
     tie.close
-    (tie.spec
-    sub-if1
-    returns
-    number-at-requires
-    cast-len
-    add-from
-    sub-if2
-    returns-2
-    add-is-utf8
-    sub-is-utf8
-    part-is-utf8-start
-    part-is-utf8-end
-    is-utf8-requires
-    returns-3
-    returns-4)
+    (tie.spec (λ c. search needs) returns (λ c κs. search needs) (λ c. search needs) (λ c. search needs) (λ c. search needs) returns-2
+    (λ c. search needs) (λ c. search needs) (λ c. search needs) (λ c. search needs) (λ c κs. search needs) returns-3 returns-4)

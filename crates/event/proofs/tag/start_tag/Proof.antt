@@ -6,15 +6,6 @@ use Rattle.event.specs.Read.{wholeTag, readStartTag}
 use Rattle.event.proofs.tag.start_tag.Statement.{statement}
 use Rattle.event.proofs.tag.start_tag.Tie as tie
 
-tag-at-requires : tie.Need-tag-at-requires
-tag-at-requires c κs = search needs
-
-enum-known-tag : tie.Need-enum-known-tag
-enum-known-tag c = search needs
-
-enum-told : tie.Need-enum-told
-enum-told c = search needs
-
 returns : tie.Need-returns
 unfolding readStartTag
 returns c =
@@ -34,4 +25,4 @@ returns-3 c =
 
 pub start-tag-spec : {M : Type 1} → statement M
 start-tag-spec =
-    tie.close (tie.spec tag-at-requires enum-known-tag enum-told returns returns-2 returns-3)
+    tie.close (tie.spec (λ c κs. search needs) (λ c. search needs) (λ c. search needs) returns returns-2 returns-3)

@@ -14,12 +14,6 @@ returns c =
     let given = c .before .before .args in
     sym (tag-cut (given .events .now) (given .at) (given .end) (omega arith))
 
-shared-slice-read-flag : tie.Need-shared-slice-read-flag
-shared-slice-read-flag c = search needs
-
-add-t12 : tie.Need-add-t12
-add-t12 c = search needs
-
 returns-2 : tie.Need-returns-2
 returns-2 c =
     let given = c .before .before .before .before .args in
@@ -29,18 +23,6 @@ returns-3 : tie.Need-returns-3
 returns-3 c =
     let given = c .before .before .before .before .before .args in
     sym (tag-flag-unknown (given .events .now) (given .at) (given .end) (omega (arith, c .before .before .before .if1 .left)) (c .if3 .taken))
-
-add-string-at : tie.Need-add-string-at
-add-string-at c = search needs
-
-string-at-requires : tie.Need-string-at-requires
-string-at-requires c κs = search needs
-
-enum-known-handle : tie.Need-enum-known-handle
-enum-known-handle c = search needs
-
-enum-told : tie.Need-enum-told
-enum-told c = search needs
 
 returns-4 : tie.Need-returns-4
 returns-4 c =
@@ -63,12 +45,6 @@ string-at-requires-2 c κs =
     let given = c .before .before .before .before .before .before .before .before .before .before .args in
     let h = c .before .before .handle .given in
     (string-ended (given .events .now) (given .at + 1) (given .end) (h .0 .0) (sym (c .before .before .before .before .string-at .ensures) ∙ h .1), omega arith)
-
-enum-known-suffix : tie.Need-enum-known-suffix
-enum-known-suffix c = search needs
-
-enum-told-2 : tie.Need-enum-told-2
-enum-told-2 c = search needs
 
 returns-5 : tie.Need-returns-5
 returns-5 c =
@@ -104,21 +80,5 @@ returns-6 c =
 pub tag-at-spec : {M : Type 1} → statement M
 tag-at-spec =
     tie.close
-    (tie.spec
-    returns
-    shared-slice-read-flag
-    add-t12
-    returns-2
-    returns-3
-    add-string-at
-    string-at-requires
-    enum-known-handle
-    enum-told
-    returns-4
-    add-from
-    string-at-requires-2
-    enum-known-suffix
-    enum-told-2
-    returns-5
-    add-t14
-    returns-6)
+    (tie.spec returns (λ c. search needs) (λ c. search needs) returns-2 returns-3 (λ c. search needs) (λ c κs. search needs) (λ c. search needs)
+    (λ c. search needs) returns-4 add-from string-at-requires-2 (λ c. search needs) (λ c. search needs) returns-5 add-t14 returns-6)

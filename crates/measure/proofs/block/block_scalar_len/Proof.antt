@@ -50,12 +50,6 @@ loop-holds c = block-begins (c .before .before .before .args .column) (c .before
 sub-first-line : tie.Need-sub-first-line Inv-loop μ-loop
 sub-first-line c = omega arith
 
-part-first-line-start : tie.Need-part-first-line-start Inv-loop μ-loop
-part-first-line-start c = search needs
-
-part-first-line-end : tie.Need-part-first-line-end Inv-loop μ-loop
-part-first-line-end c = search needs
-
 first-line-requires-2 : tie.Need-first-line-requires-2 Inv-loop μ-loop
 first-line-requires-2 c κs = part-utf8 (c .before .before .before .before .before .before .pre) (c .before .before .loop .inv .place (c .before .loop-test .taken))
 
@@ -91,20 +85,5 @@ returns-2 c = block-at-end (c .before .loop .inv) (c .loop-test .left)
 pub block-scalar-len-spec : {M : Type 1} → statement M
 block-scalar-len-spec =
     tie.close
-    (tie.spec
-    Inv-loop
-    μ-loop
-    first-line-requires
-    add-at
-    loop-holds
-    sub-first-line
-    part-first-line-start
-    part-first-line-end
-    first-line-requires-2
-    returns
-    add-end
-    add-at-2
-    add-at-3
-    loop-less
-    loop-again
-    returns-2)
+    (tie.spec Inv-loop μ-loop first-line-requires add-at loop-holds sub-first-line (λ c. search needs) (λ c. search needs) first-line-requires-2
+    returns add-end add-at-2 add-at-3 loop-less loop-again returns-2)

@@ -42,17 +42,11 @@ module _ (c : tie.After-letters Inv-loop μ-loop) where
 loop-holds : tie.Need-loop-holds Inv-loop μ-loop
 loop-holds c = line-begins (c .before .pre)
 
-first-char-requires : tie.Need-first-char-requires Inv-loop μ-loop
-first-char-requires c κs = tt
-
 returns : tie.Need-returns Inv-loop μ-loop
 returns c = line-stops (c .before .before .before .before .loop .inv) (char-here (c .before .before)) (c .if1 .taken)
 
 add-len : tie.Need-add-len Inv-loop μ-loop
 add-len c = let k = char-here (c .before .before .before) in omega arith
-
-is-white-space-requires : tie.Need-is-white-space-requires Inv-loop μ-loop
-is-white-space-requires c κs = tt
 
 loop-less : tie.Need-loop-less Inv-loop μ-loop
 loop-less c = let k = char-here (c .before .before .before .before .before .before) in omega arith
@@ -88,9 +82,6 @@ part-letters-start-2 c = let k = char-here (c .before .before .before .before .b
 part-letters-end-2 : tie.Need-part-letters-end-2 Inv-loop μ-loop
 part-letters-end-2 c = let k = char-here (c .before .before .before .before .before .before) in omega arith
 
-letters-requires : tie.Need-letters-requires Inv-loop μ-loop
-letters-requires c κs = tt
-
 add-len-2 : tie.Need-add-len-2 Inv-loop μ-loop
 add-len-2 c = let f = letters-fit c in omega arith
 
@@ -113,26 +104,6 @@ returns-2 c = line-at-end (c .before .loop .inv) (c .loop-test .left)
 pub first-line-spec : {M : Type 1} → statement M
 first-line-spec =
     tie.close
-    (tie.spec
-    Inv-loop
-    μ-loop
-    loop-holds
-    first-char-requires
-    returns
-    add-len
-    is-white-space-requires
-    loop-less
-    loop-again
-    loop-less-2
-    loop-again-2
-    sub-letters
-    part-letters-start
-    part-letters-end
-    sub-letters-2
-    part-letters-start-2
-    part-letters-end-2
-    letters-requires
-    add-len-2
-    loop-less-3
-    loop-again-3
+    (tie.spec Inv-loop μ-loop loop-holds (λ c κs. tt) returns add-len (λ c κs. tt) loop-less loop-again loop-less-2 loop-again-2 sub-letters
+    part-letters-start part-letters-end sub-letters-2 part-letters-start-2 part-letters-end-2 (λ c κs. tt) add-len-2 loop-less-3 loop-again-3
     returns-2)

@@ -34,26 +34,11 @@ shared-slice-read-no-letter c = omega arith
 shared-slice-read-no-letter-2 : tie.Need-shared-slice-read-no-letter-2 Inv-loop μ-loop
 shared-slice-read-no-letter-2 c = omega arith
 
-no-letter-requires : tie.Need-no-letter-requires Inv-loop μ-loop
-no-letter-requires c κs = tt
-
 shared-slice-read-differ : tie.Need-shared-slice-read-differ Inv-loop μ-loop
 shared-slice-read-differ c = omega arith
 
-differ-requires : tie.Need-differ-requires Inv-loop μ-loop
-differ-requires c κs = tt
-
-either-requires : tie.Need-either-requires Inv-loop μ-loop
-either-requires c κs = tt
-
 cast-place-of : tie.Need-cast-place-of Inv-loop μ-loop
 cast-place-of c = omega arith
-
-place-of-requires : tie.Need-place-of-requires Inv-loop μ-loop
-place-of-requires c κs = tt
-
-least-requires : tie.Need-least-requires Inv-loop μ-loop
-least-requires c κs = tt
 
 add-i : tie.Need-add-i Inv-loop μ-loop
 add-i c = omega arith
@@ -82,23 +67,5 @@ returns c = let w = c .before .loop in record { within = w .inv .1; each = λ j 
 pub first-letters-spec : {M : Type 1} → statement M
 first-letters-spec =
     tie.close
-    (tie.spec
-    Inv-loop
-    μ-loop
-    cast-first
-    loop-holds
-    shared-slice-read-a
-    shared-slice-read-no-letter
-    shared-slice-read-no-letter-2
-    no-letter-requires
-    shared-slice-read-differ
-    differ-requires
-    either-requires
-    cast-place-of
-    place-of-requires
-    least-requires
-    add-i
-    loop-less
-    loop-again
-    cast-result
-    returns)
+    (tie.spec Inv-loop μ-loop cast-first loop-holds shared-slice-read-a shared-slice-read-no-letter shared-slice-read-no-letter-2 (λ c κs. tt)
+    shared-slice-read-differ (λ c κs. tt) (λ c κs. tt) cast-place-of (λ c κs. tt) (λ c κs. tt) add-i loop-less loop-again cast-result returns)

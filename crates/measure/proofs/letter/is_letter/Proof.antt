@@ -8,9 +8,6 @@ use Rattle.text.specs.Tests.{clash}
 use Rattle.measure.proofs.letter.is_letter.Statement.{statement}
 use Rattle.measure.proofs.letter.is_letter.Tie as tie
 
-begins-word-requires : tie.Need-begins-word-requires
-begins-word-requires c κs = search needs
-
 returns : tie.Need-returns
 returns c = λ e. let z = c .before .if2 .taken in (record { above = omega arith; no-quote = λ x. omega arith; no-backslash = λ x. omega arith; no-c2 = λ x. omega arith; no-e1 = λ x. omega arith; e2 = inl (λ x. omega arith); e3 = inl (λ x. omega arith); blank = inr (c .begins-word .ensures e) })
 
@@ -19,9 +16,6 @@ returns-2 c = λ e. absurd (clash (sym e))
 
 returns-3 : tie.Need-returns-3
 returns-3 c = λ e. let z = c .if3 .taken in (record { above = omega arith; no-quote = λ x. omega arith; no-backslash = λ x. omega arith; no-c2 = λ x. omega arith; no-e1 = λ x. omega arith; e2 = inl (λ x. omega arith); e3 = inl (λ x. omega arith); blank = inl (λ x. omega arith) })
-
-no-letter-requires : tie.Need-no-letter-requires
-no-letter-requires c κs = search needs
 
 returns-4 : tie.Need-returns-4
 returns-4 c = λ e. c .no-letter .ensures (eqb-true (c .no-letter .result) 0 e)
@@ -41,13 +35,4 @@ returns-7 c = λ e.
 pub is-letter-spec : {M : Type 1} → statement M
 is-letter-spec =
     tie.close
-    (tie.spec
-    begins-word-requires
-    returns
-    returns-2
-    returns-3
-    no-letter-requires
-    returns-4
-    returns-5
-    returns-6
-    returns-7)
+    (tie.spec (λ c κs. search needs) returns returns-2 returns-3 (λ c κs. search needs) returns-4 returns-5 returns-6 returns-7)

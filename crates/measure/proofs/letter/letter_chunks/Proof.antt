@@ -135,34 +135,6 @@ returns-3 c = c .before .loop .inv
 pub letter-chunks-spec : {M : Type 1} → statement M
 letter-chunks-spec =
     tie.close
-    (tie.spec
-    Inv-loop
-    μ-loop
-    loop-holds
-    add-loop
-    sub-loop
-    sub-if1
-    returns
-    add-end
-    add-next
-    add-next-2
-    sub-next
-    part-next-start
-    part-next-end
-    add-after
-    add-after-2
-    sub-after
-    part-after-start
-    part-after-end
-    sub-first-letters
-    part-first-letters-start
-    part-first-letters-end
-    sub-first-letters-2
-    part-first-letters-start-2
-    part-first-letters-end-2
-    first-letters-requires
-    add-result
-    returns-2
-    loop-less
-    loop-again
-    returns-3)
+    (tie.spec Inv-loop μ-loop loop-holds add-loop sub-loop sub-if1 returns add-end add-next add-next-2 sub-next part-next-start part-next-end
+    add-after add-after-2 sub-after part-after-start part-after-end sub-first-letters part-first-letters-start part-first-letters-end
+    sub-first-letters-2 part-first-letters-start-2 part-first-letters-end-2 first-letters-requires add-result returns-2 loop-less loop-again returns-3)

@@ -16,9 +16,6 @@ Inv-loop src value i₀ i = LetterRun src value i
 abbrev μ-loop : tie.MeasureT-loop
 μ-loop src value i₀ i = length value - i
 
-letter-chunks-requires : tie.Need-letter-chunks-requires Inv-loop μ-loop
-letter-chunks-requires c κs = tt
-
 loop-holds : tie.Need-loop-holds Inv-loop μ-loop
 loop-holds c = c .letter-chunks .ensures
 
@@ -37,17 +34,8 @@ returns-2 c = c .before .before .before .before .before .loop .inv
 add-byte-at : tie.Need-add-byte-at Inv-loop μ-loop
 add-byte-at c = omega arith
 
-byte-at-requires : tie.Need-byte-at-requires Inv-loop μ-loop
-byte-at-requires c κs = tt
-
 add-byte-at-2 : tie.Need-add-byte-at-2 Inv-loop μ-loop
 add-byte-at-2 c = omega arith
-
-byte-at-requires-2 : tie.Need-byte-at-requires-2 Inv-loop μ-loop
-byte-at-requires-2 c κs = tt
-
-is-letter-requires : tie.Need-is-letter-requires Inv-loop μ-loop
-is-letter-requires c κs = tt
 
 returns-3 : tie.Need-returns-3 Inv-loop μ-loop
 returns-3 c = c .before .before .before .before .before .before .before .before .before .loop .inv
@@ -72,22 +60,5 @@ returns-4 c = c .before .loop .inv
 pub letter-run-spec : {M : Type 1} → statement M
 letter-run-spec =
     tie.close
-    (tie.spec
-    Inv-loop
-    μ-loop
-    letter-chunks-requires
-    loop-holds
-    returns
-    shared-slice-read-a
-    shared-slice-read-if2
-    returns-2
-    add-byte-at
-    byte-at-requires
-    add-byte-at-2
-    byte-at-requires-2
-    is-letter-requires
-    returns-3
-    add-i
-    loop-less
-    loop-again
-    returns-4)
+    (tie.spec Inv-loop μ-loop (λ c κs. tt) loop-holds returns shared-slice-read-a shared-slice-read-if2 returns-2 add-byte-at (λ c κs. tt)
+    add-byte-at-2 (λ c κs. tt) (λ c κs. tt) returns-3 add-i loop-less loop-again returns-4)

@@ -12,9 +12,6 @@ Inv-loop src value n₀ n = LetterRun src value n
 abbrev μ-loop : tie.MeasureT-loop
 μ-loop src value n₀ n = n
 
-letter-run-requires : tie.Need-letter-run-requires Inv-loop μ-loop
-letter-run-requires c κs = tt
-
 loop-holds : tie.Need-loop-holds Inv-loop μ-loop
 loop-holds c = c .letter-run .ensures
 
@@ -39,14 +36,4 @@ returns-2 c = no-word _ _
 pub letters-spec : {M : Type 1} → statement M
 letters-spec =
     tie.close
-    (tie.spec
-    Inv-loop
-    μ-loop
-    letter-run-requires
-    loop-holds
-    ends-word-requires
-    returns
-    sub-n
-    loop-less
-    loop-again
-    returns-2)
+    (tie.spec Inv-loop μ-loop (λ c κs. tt) loop-holds ends-word-requires returns sub-n loop-less loop-again returns-2)

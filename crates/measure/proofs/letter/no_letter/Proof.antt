@@ -5,75 +5,6 @@ use borrow.Author.Needs.{needs}
 use Rattle.measure.proofs.letter.no_letter.Statement.{statement}
 use Rattle.measure.proofs.letter.no_letter.Tie as tie
 
-up-to-requires : tie.Need-up-to-requires
-up-to-requires c κs = search needs
-
-same-requires : tie.Need-same-requires
-same-requires c κs = search needs
-
-same-requires-2 : tie.Need-same-requires-2
-same-requires-2 c κs = search needs
-
-either-requires : tie.Need-either-requires
-either-requires c κs = search needs
-
-either-requires-2 : tie.Need-either-requires-2
-either-requires-2 c κs = search needs
-
-same-requires-3 : tie.Need-same-requires-3
-same-requires-3 c κs = search needs
-
-same-requires-4 : tie.Need-same-requires-4
-same-requires-4 c κs = search needs
-
-either-requires-3 : tie.Need-either-requires-3
-either-requires-3 c κs = search needs
-
-same-requires-5 : tie.Need-same-requires-5
-same-requires-5 c κs = search needs
-
-no-letter-after-e2-requires : tie.Need-no-letter-after-e2-requires
-no-letter-after-e2-requires c κs = search needs
-
-both-requires : tie.Need-both-requires
-both-requires c κs = search needs
-
-same-requires-6 : tie.Need-same-requires-6
-same-requires-6 c κs = search needs
-
-same-requires-7 : tie.Need-same-requires-7
-same-requires-7 c κs = search needs
-
-same-requires-8 : tie.Need-same-requires-8
-same-requires-8 c κs = search needs
-
-both-requires-2 : tie.Need-both-requires-2
-both-requires-2 c κs = search needs
-
-both-requires-3 : tie.Need-both-requires-3
-both-requires-3 c κs = search needs
-
-same-requires-9 : tie.Need-same-requires-9
-same-requires-9 c κs = search needs
-
-no-word-requires : tie.Need-no-word-requires
-no-word-requires c κs = search needs
-
-both-requires-4 : tie.Need-both-requires-4
-both-requires-4 c κs = search needs
-
-either-requires-4 : tie.Need-either-requires-4
-either-requires-4 c κs = search needs
-
-either-requires-5 : tie.Need-either-requires-5
-either-requires-5 c κs = search needs
-
-either-requires-6 : tie.Need-either-requires-6
-either-requires-6 c κs = search needs
-
-either-requires-7 : tie.Need-either-requires-7
-either-requires-7 c κs = search needs
-
 returns : tie.Need-returns
 returns c = λ e.
     let p = c .either7 .ensures e in
@@ -113,28 +44,7 @@ returns c = λ e.
 pub no-letter-spec : {M : Type 1} → statement M
 no-letter-spec =
     tie.close
-    (tie.spec
-    up-to-requires
-    same-requires
-    same-requires-2
-    either-requires
-    either-requires-2
-    same-requires-3
-    same-requires-4
-    either-requires-3
-    same-requires-5
-    no-letter-after-e2-requires
-    both-requires
-    same-requires-6
-    same-requires-7
-    same-requires-8
-    both-requires-2
-    both-requires-3
-    same-requires-9
-    no-word-requires
-    both-requires-4
-    either-requires-4
-    either-requires-5
-    either-requires-6
-    either-requires-7
-    returns)
+    (tie.spec (λ c κs. search needs) (λ c κs. search needs) (λ c κs. search needs) (λ c κs. search needs) (λ c κs. search needs)
+    (λ c κs. search needs) (λ c κs. search needs) (λ c κs. search needs) (λ c κs. search needs) (λ c κs. search needs) (λ c κs. search needs)
+    (λ c κs. search needs) (λ c κs. search needs) (λ c κs. search needs) (λ c κs. search needs) (λ c κs. search needs) (λ c κs. search needs)
+    (λ c κs. search needs) (λ c κs. search needs) (λ c κs. search needs) (λ c κs. search needs) (λ c κs. search needs) (λ c κs. search needs) returns)

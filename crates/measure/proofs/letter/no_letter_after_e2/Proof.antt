@@ -5,27 +5,6 @@ use borrow.Author.Needs.{needs}
 use Rattle.measure.proofs.letter.no_letter_after_e2.Statement.{statement}
 use Rattle.measure.proofs.letter.no_letter_after_e2.Tie as tie
 
-up-to-requires : tie.Need-up-to-requires
-up-to-requires c κs = search needs
-
-up-to-requires-2 : tie.Need-up-to-requires-2
-up-to-requires-2 c κs = search needs
-
-either-requires : tie.Need-either-requires
-either-requires c κs = search needs
-
-up-to-requires-3 : tie.Need-up-to-requires-3
-up-to-requires-3 c κs = search needs
-
-same-requires : tie.Need-same-requires
-same-requires c κs = search needs
-
-either-requires-2 : tie.Need-either-requires-2
-either-requires-2 c κs = search needs
-
-both-requires : tie.Need-both-requires
-both-requires c κs = search needs
-
 returns : tie.Need-returns
 returns c = λ e.
     elim (c .both .ensures e) [
@@ -39,12 +18,5 @@ returns c = λ e.
 pub no-letter-after-e2-spec : {M : Type 1} → statement M
 no-letter-after-e2-spec =
     tie.close
-    (tie.spec
-    up-to-requires
-    up-to-requires-2
-    either-requires
-    up-to-requires-3
-    same-requires
-    either-requires-2
-    both-requires
-    returns)
+    (tie.spec (λ c κs. search needs) (λ c κs. search needs) (λ c κs. search needs) (λ c κs. search needs) (λ c κs. search needs)
+    (λ c κs. search needs) (λ c κs. search needs) returns)

@@ -5,51 +5,6 @@ use borrow.Author.Needs.{needs}
 use Rattle.measure.proofs.letter.no_word.Statement.{statement}
 use Rattle.measure.proofs.letter.no_word.Tie as tie
 
-up-to-requires : tie.Need-up-to-requires
-up-to-requires c κs = search needs
-
-up-to-requires-2 : tie.Need-up-to-requires-2
-up-to-requires-2 c κs = search needs
-
-both-requires : tie.Need-both-requires
-both-requires c κs = search needs
-
-same-requires : tie.Need-same-requires
-same-requires c κs = search needs
-
-up-to-requires-3 : tie.Need-up-to-requires-3
-up-to-requires-3 c κs = search needs
-
-both-requires-2 : tie.Need-both-requires-2
-both-requires-2 c κs = search needs
-
-same-requires-2 : tie.Need-same-requires-2
-same-requires-2 c κs = search needs
-
-same-requires-3 : tie.Need-same-requires-3
-same-requires-3 c κs = search needs
-
-both-requires-3 : tie.Need-both-requires-3
-both-requires-3 c κs = search needs
-
-up-to-requires-4 : tie.Need-up-to-requires-4
-up-to-requires-4 c κs = search needs
-
-same-requires-4 : tie.Need-same-requires-4
-same-requires-4 c κs = search needs
-
-either-requires : tie.Need-either-requires
-either-requires c κs = search needs
-
-either-requires-2 : tie.Need-either-requires-2
-either-requires-2 c κs = search needs
-
-either-requires-3 : tie.Need-either-requires-3
-either-requires-3 c κs = search needs
-
-either-requires-4 : tie.Need-either-requires-4
-either-requires-4 c κs = search needs
-
 returns : tie.Need-returns
 returns c = λ e.
     let p = c .either4 .ensures e in
@@ -79,20 +34,6 @@ returns c = λ e.
 pub no-word-spec : {M : Type 1} → statement M
 no-word-spec =
     tie.close
-    (tie.spec
-    up-to-requires
-    up-to-requires-2
-    both-requires
-    same-requires
-    up-to-requires-3
-    both-requires-2
-    same-requires-2
-    same-requires-3
-    both-requires-3
-    up-to-requires-4
-    same-requires-4
-    either-requires
-    either-requires-2
-    either-requires-3
-    either-requires-4
-    returns)
+    (tie.spec (λ c κs. search needs) (λ c κs. search needs) (λ c κs. search needs) (λ c κs. search needs) (λ c κs. search needs)
+    (λ c κs. search needs) (λ c κs. search needs) (λ c κs. search needs) (λ c κs. search needs) (λ c κs. search needs) (λ c κs. search needs)
+    (λ c κs. search needs) (λ c κs. search needs) (λ c κs. search needs) (λ c κs. search needs) returns)

@@ -5,9 +5,6 @@ use Rattle.measure.specs.Plain.{hasByte}
 use Rattle.measure.proofs.plain.has_byte.Statement.{statement}
 use Rattle.measure.proofs.plain.has_byte.Tie as tie
 
-shared-slice-read-result : tie.Need-shared-slice-read-result
-shared-slice-read-result c = search needs
-
 returns : tie.Need-returns
 unfolding hasByte
 returns c = rw (lt-ltb _ _ (c .before .if1 .taken))
@@ -17,4 +14,4 @@ unfolding hasByte
 returns-2 c = rw (le-ltb _ _ (c .if1 .left))
 
 pub has-byte-spec : {M : Type 1} → statement M
-has-byte-spec = tie.close (tie.spec shared-slice-read-result returns returns-2)
+has-byte-spec = tie.close (tie.spec (λ c. search needs) returns returns-2)

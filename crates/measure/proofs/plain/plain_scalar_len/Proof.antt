@@ -127,12 +127,6 @@ module _ (c : tie.After-letters Inv-loop μ-loop Inv-characters μ-characters) w
 characters-holds : tie.Need-characters-holds Inv-loop μ-loop Inv-characters μ-characters
 characters-holds c = match-begins (c .before .before .pre .0) (c .before .before .pre .1)
 
-first-char-requires : tie.Need-first-char-requires Inv-loop μ-loop Inv-characters μ-characters
-first-char-requires c κs = tt
-
-is-fold-requires : tie.Need-is-fold-requires Inv-loop μ-loop Inv-characters μ-characters
-is-fold-requires c κs = tt
-
 sub-white-space-run : tie.Need-sub-white-space-run Inv-loop μ-loop Inv-characters μ-characters
 sub-white-space-run c = let b = c .before .before .before .before .before .characters .inv .rest-place .within in omega arith
 
@@ -187,9 +181,6 @@ shared-slice-read-has-byte :
     tie.Need-shared-slice-read-has-byte Inv-loop μ-loop Inv-characters μ-characters
 shared-slice-read-has-byte c = let a = char-here (c .before .before .before .before .before) in omega arith
 
-has-byte-requires : tie.Need-has-byte-requires Inv-loop μ-loop Inv-characters μ-characters
-has-byte-requires c κs = tt
-
 add-k : tie.Need-add-k Inv-loop μ-loop Inv-characters μ-characters
 add-k c = omega arith
 
@@ -231,9 +222,6 @@ part-letters-start-2 c = let a = char-here (c .before .before .before .before .b
 part-letters-end-2 : tie.Need-part-letters-end-2 Inv-loop μ-loop Inv-characters μ-characters
 part-letters-end-2 c = let a = char-here (c .before .before .before .before .before .before .before) in omega arith
 
-letters-requires : tie.Need-letters-requires Inv-loop μ-loop Inv-characters μ-characters
-letters-requires c κs = tt
-
 add-at-3 : tie.Need-add-at-3 Inv-loop μ-loop Inv-characters μ-characters
 add-at-3 c = let f = letters-fit c in omega arith
 
@@ -264,43 +252,7 @@ returns-2 c =
 pub plain-scalar-len-spec : {M : Type 1} → statement M
 plain-scalar-len-spec =
     tie.close
-    (tie.spec
-    Inv-loop
-    μ-loop
-    Inv-characters
-    μ-characters
-    characters-holds
-    first-char-requires
-    is-fold-requires
-    sub-white-space-run
-    part-white-space-run-start
-    part-white-space-run-end
-    white-space-run-requires
-    add-at
-    add-v
-    characters-less
-    characters-again
-    add-known
-    loop-holds
-    add-has-byte
-    add-has-byte-2
-    shared-slice-read-has-byte
-    has-byte-requires
-    add-k
-    loop-less
-    loop-again
-    add-at-2
-    add-v-2
-    sub-letters
-    part-letters-start
-    part-letters-end
-    sub-letters-2
-    part-letters-start-2
-    part-letters-end-2
-    letters-requires
-    add-at-3
-    add-v-3
-    characters-less-2
-    characters-again-2
-    returns
-    returns-2)
+    (tie.spec Inv-loop μ-loop Inv-characters μ-characters characters-holds (λ c κs. tt) (λ c κs. tt) sub-white-space-run part-white-space-run-start
+    part-white-space-run-end white-space-run-requires add-at add-v characters-less characters-again add-known loop-holds add-has-byte add-has-byte-2
+    shared-slice-read-has-byte (λ c κs. tt) add-k loop-less loop-again add-at-2 add-v-2 sub-letters part-letters-start part-letters-end sub-letters-2
+    part-letters-start-2 part-letters-end-2 (λ c κs. tt) add-at-3 add-v-3 characters-less-2 characters-again-2 returns returns-2)

@@ -23,23 +23,8 @@ loop-holds c = (omega arith, omega arith, λ j h g. absurd (omega arith))
 shared-slice-read-b : tie.Need-shared-slice-read-b Inv-loop μ-loop
 shared-slice-read-b c = omega arith
 
-same-requires : tie.Need-same-requires Inv-loop μ-loop
-same-requires c κs = tt
-
-same-requires-2 : tie.Need-same-requires-2 Inv-loop μ-loop
-same-requires-2 c κs = tt
-
-either-requires : tie.Need-either-requires Inv-loop μ-loop
-either-requires c κs = tt
-
 cast-place-of : tie.Need-cast-place-of Inv-loop μ-loop
 cast-place-of c = omega arith
-
-place-of-requires : tie.Need-place-of-requires Inv-loop μ-loop
-place-of-requires c κs = tt
-
-least-requires : tie.Need-least-requires Inv-loop μ-loop
-least-requires c κs = tt
 
 add-i : tie.Need-add-i Inv-loop μ-loop
 add-i c = omega arith
@@ -70,20 +55,5 @@ returns c = let w = c .before .loop in record { within = w .inv .1; each = λ j 
 pub first-mark-spec : {M : Type 1} → statement M
 first-mark-spec =
     tie.close
-    (tie.spec
-    Inv-loop
-    μ-loop
-    cast-first
-    loop-holds
-    shared-slice-read-b
-    same-requires
-    same-requires-2
-    either-requires
-    cast-place-of
-    place-of-requires
-    least-requires
-    add-i
-    loop-less
-    loop-again
-    cast-result
-    returns)
+    (tie.spec Inv-loop μ-loop cast-first loop-holds shared-slice-read-b (λ c κs. tt) (λ c κs. tt) (λ c κs. tt) cast-place-of (λ c κs. tt) (λ c κs. tt)
+    add-i loop-less loop-again cast-result returns)

@@ -6,15 +6,6 @@ use Rattle.measure.specs.Quoted.{foundOr, quotedOrValueLen}
 use Rattle.measure.proofs.quoted.quoted_or_value_len.Statement.{statement}
 use Rattle.measure.proofs.quoted.quoted_or_value_len.Tie as tie
 
-quoted-scalar-len-requires : tie.Need-quoted-scalar-len-requires
-quoted-scalar-len-requires c κs = search needs
-
-enum-known-n : tie.Need-enum-known-n
-enum-known-n c = search needs
-
-enum-told : tie.Need-enum-told
-enum-told c = search needs
-
 returns : tie.Need-returns
 unfolding quotedOrValueLen
 returns c = ap (foundOr (length (c .before .before .before .before .before .args .value .now))) (sym (c .enum-told .given .1) ∙ c .before .before .quoted-scalar-len .ensures)
@@ -25,4 +16,4 @@ returns-2 c = ap (foundOr (length (c .before .before .before .before .before .be
 
 pub quoted-or-value-len-spec : {M : Type 1} → statement M
 quoted-or-value-len-spec =
-    tie.close (tie.spec quoted-scalar-len-requires enum-known-n enum-told returns returns-2)
+    tie.close (tie.spec (λ c κs. search needs) (λ c. search needs) (λ c. search needs) returns returns-2)

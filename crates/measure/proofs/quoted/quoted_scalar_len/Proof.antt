@@ -53,12 +53,6 @@ shared-slice-read-b c = omega arith
 add-byte-at : tie.Need-add-byte-at Inv-loop μ-loop
 add-byte-at c = omega arith
 
-byte-at-requires : tie.Need-byte-at-requires Inv-loop μ-loop
-byte-at-requires c κs = tt
-
-passed-together-requires : tie.Need-passed-together-requires Inv-loop μ-loop
-passed-together-requires c κs = tt
-
 add-i : tie.Need-add-i Inv-loop μ-loop
 add-i c = omega arith
 
@@ -90,9 +84,6 @@ part-unmarked-start c = omega arith
 part-unmarked-end : tie.Need-part-unmarked-end Inv-loop μ-loop
 part-unmarked-end c = omega arith
 
-unmarked-requires : tie.Need-unmarked-requires Inv-loop μ-loop
-unmarked-requires c κs = tt
-
 add-i-3 : tie.Need-add-i-3 Inv-loop μ-loop
 add-i-3 c = let w = passed c .within in let l = length-drop (i-now (c .before .before .before .before) + 1) (rest-now (c .before .before .before .before)) in omega arith
 
@@ -115,28 +106,6 @@ returns-4 c =
 pub quoted-scalar-len-spec : {M : Type 1} → statement M
 quoted-scalar-len-spec =
     tie.close
-    (tie.spec
-    Inv-loop
-    μ-loop
-    returns
-    shared-slice-read-if2
-    returns-2
-    loop-holds
-    shared-slice-read-b
-    add-byte-at
-    byte-at-requires
-    passed-together-requires
-    add-i
-    loop-less
-    loop-again
-    add-t15
-    returns-3
-    add-i-2
-    sub-unmarked
-    part-unmarked-start
-    part-unmarked-end
-    unmarked-requires
-    add-i-3
-    loop-less-2
-    loop-again-2
+    (tie.spec Inv-loop μ-loop returns shared-slice-read-if2 returns-2 loop-holds shared-slice-read-b add-byte-at (λ c κs. tt) (λ c κs. tt) add-i
+    loop-less loop-again add-t15 returns-3 add-i-2 sub-unmarked part-unmarked-start part-unmarked-end (λ c κs. tt) add-i-3 loop-less-2 loop-again-2
     returns-4)

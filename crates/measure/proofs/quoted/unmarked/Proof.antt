@@ -68,18 +68,5 @@ returns-2 c = c .before .loop .inv
 pub unmarked-spec : {M : Type 1} → statement M
 unmarked-spec =
     tie.close
-    (tie.spec
-    Inv-loop
-    μ-loop
-    loop-holds
-    sub-loop
-    add-end
-    sub-first-mark
-    part-first-mark-start
-    part-first-mark-end
-    first-mark-requires
-    add-result
-    returns
-    loop-less
-    loop-again
-    returns-2)
+    (tie.spec Inv-loop μ-loop loop-holds sub-loop add-end sub-first-mark part-first-mark-start part-first-mark-end first-mark-requires add-result
+    returns loop-less loop-again returns-2)

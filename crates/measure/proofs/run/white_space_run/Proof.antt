@@ -24,12 +24,6 @@ char-here c = char-read (c .before .before .before .before .pre) (c .before .bef
 loop-holds : tie.Need-loop-holds Inv-loop μ-loop
 loop-holds c = run-begins (c .before .pre)
 
-first-char-requires : tie.Need-first-char-requires Inv-loop μ-loop
-first-char-requires c κs = tt
-
-is-white-space-requires : tie.Need-is-white-space-requires Inv-loop μ-loop
-is-white-space-requires c κs = tt
-
 returns : tie.Need-returns Inv-loop μ-loop
 returns c = run-stops (c .before .before .before .before .loop .inv) (char-here (c .before .before)) (sym (c .before .is-white-space .ensures) ∙ not-true _ (c .if1 .taken))
 
@@ -54,14 +48,4 @@ returns-2 c = run-at-end (c .before .loop .inv) (c .loop-test .left)
 pub white-space-run-spec : {M : Type 1} → statement M
 white-space-run-spec =
     tie.close
-    (tie.spec
-    Inv-loop
-    μ-loop
-    loop-holds
-    first-char-requires
-    is-white-space-requires
-    returns
-    add-len
-    loop-less
-    loop-again
-    returns-2)
+    (tie.spec Inv-loop μ-loop loop-holds (λ c κs. tt) (λ c κs. tt) returns add-len loop-less loop-again returns-2)

@@ -11,15 +11,9 @@ returns : tie.Need-returns
 unfolding styleLen
 returns c = rw (eq-eqb _ _ (c .before .if1 .taken)) (c .plain-scalar-len .ensures)
 
-quoted-or-value-len-requires : tie.Need-quoted-or-value-len-requires
-quoted-or-value-len-requires c κs = tt
-
 returns-2 : tie.Need-returns-2
 unfolding styleLen
 returns-2 c = rw (ne-eqb _ _ (c .before .before .if1 .left), eq-eqb _ _ (c .before .if2 .taken)) (c .quoted-or-value-len .ensures)
-
-quoted-or-value-len-requires-2 : tie.Need-quoted-or-value-len-requires-2
-quoted-or-value-len-requires-2 c κs = tt
 
 returns-3 : tie.Need-returns-3
 unfolding styleLen
@@ -48,13 +42,4 @@ returns-5 c =
 pub style-len-spec : {M : Type 1} → statement M
 style-len-spec =
     tie.close
-    (tie.spec
-    plain-scalar-len-requires
-    returns
-    quoted-or-value-len-requires
-    returns-2
-    quoted-or-value-len-requires-2
-    returns-3
-    returns-4
-    block-scalar-len-requires
-    returns-5)
+    (tie.spec plain-scalar-len-requires returns (λ c κs. tt) returns-2 (λ c κs. tt) returns-3 returns-4 block-scalar-len-requires returns-5)

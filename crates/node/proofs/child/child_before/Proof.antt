@@ -8,22 +8,10 @@ use Rattle.node.specs.Child.{childBefore}
 use Rattle.node.proofs.child.child_before.Statement.{statement}
 use Rattle.node.proofs.child.child_before.Tie as tie
 
-get-record-requires : tie.Need-get-record-requires
-get-record-requires c κs = search needs
-
-enum-known-x : tie.Need-enum-known-x
-enum-known-x c = search needs
-
-enum-told : tie.Need-enum-told
-enum-told c = search needs
-
 returns : tie.Need-returns
 unfolding childBefore
 returns c =
     let e = rw (c .enum-told .given .1) at (c .before .before .get-record .ensures) in rw (← e)
-
-cast-count : tie.Need-cast-count
-cast-count c = search needs
 
 returns-2 : tie.Need-returns-2
 unfolding childBefore
@@ -39,9 +27,6 @@ returns-3 c =
     let z : 0 < c .before .before .before .before .x .given .0 .0 .subtree = omega arith in
     rw (← e, lt-ltb 0 _ z, lt-leb _ _ (c .if2 .taken))
 
-existing-place-requires : tie.Need-existing-place-requires
-existing-place-requires c κs = search needs
-
 returns-4 : tie.Need-returns-4
 unfolding childBefore
 returns-4 c =
@@ -52,13 +37,5 @@ returns-4 c =
 pub child-before-spec : {M : Type 1} → statement M
 child-before-spec =
     tie.close
-    (tie.spec
-    get-record-requires
-    enum-known-x
-    enum-told
-    returns
-    cast-count
-    returns-2
-    returns-3
-    existing-place-requires
+    (tie.spec (λ c κs. search needs) (λ c. search needs) (λ c. search needs) returns (λ c. search needs) returns-2 returns-3 (λ c κs. search needs)
     returns-4)

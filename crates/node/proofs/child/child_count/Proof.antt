@@ -7,12 +7,6 @@ use Rattle.node.proofs.child.child_count.Tie as tie
 returns : tie.Need-returns
 returns c = rw (lt-ltb _ 7 (c .if1 .taken))
 
-cast-count : tie.Need-cast-count
-cast-count c = search needs
-
-mul-result : tie.Need-mul-result
-mul-result c = search needs
-
 returns-2 : tie.Need-returns-2
 returns-2 c = rw (le-ltb _ 7 (c .before .before .before .if1 .left), eq-eqb _ 8 (c .if2 .taken))
 
@@ -20,4 +14,4 @@ returns-3 : tie.Need-returns-3
 returns-3 c = rw (le-ltb _ 7 (c .before .before .before .if1 .left), ne-eqb _ 8 (c .if2 .left))
 
 pub child-count-spec : {M : Type 1} → statement M
-child-count-spec = tie.close (tie.spec returns cast-count mul-result returns-2 returns-3)
+child-count-spec = tie.close (tie.spec returns (λ c. search needs) (λ c. search needs) returns-2 returns-3)

@@ -4,15 +4,6 @@ use Rattle.node.specs.Child.{placeAt}
 use Rattle.node.proofs.child.existing_place.Statement.{statement}
 use Rattle.node.proofs.child.existing_place.Tie as tie
 
-get-record-requires : tie.Need-get-record-requires
-get-record-requires c κs = search needs
-
-enum-told : tie.Need-enum-told
-enum-told c = search needs
-
-enum-told-2 : tie.Need-enum-told-2
-enum-told-2 c = search needs
-
 returns : tie.Need-returns
 unfolding placeAt
 returns c =
@@ -25,4 +16,4 @@ returns-2 c =
 
 pub existing-place-spec : {M : Type 1} → statement M
 existing-place-spec =
-    tie.close (tie.spec get-record-requires enum-told enum-told-2 returns returns-2)
+    tie.close (tie.spec (λ c κs. search needs) (λ c. search needs) (λ c. search needs) returns returns-2)

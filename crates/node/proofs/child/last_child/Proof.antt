@@ -8,15 +8,6 @@ use Rattle.node.specs.Child.{lastChild}
 use Rattle.node.proofs.child.last_child.Statement.{statement}
 use Rattle.node.proofs.child.last_child.Tie as tie
 
-len-requires : tie.Need-len-requires
-len-requires c κs = search needs
-
-enum-known-k : tie.Need-enum-known-k
-enum-known-k c = search needs
-
-enum-told : tie.Need-enum-told
-enum-told c = search needs
-
 returns : tie.Need-returns
 unfolding lastChild
 returns c =
@@ -27,9 +18,6 @@ unfolding lastChild
 returns-2 c =
     let e = rw (c .before .before .k .given .1) at (c .before .before .before .before .len .ensures) in let z = c .if1 .taken in let z′ : c .before .before .k .given .0 .0 ≤ 0 = omega arith in rw (← e, le-ltb 0 _ z′)
 
-root-requires : tie.Need-root-requires
-root-requires c κs = search needs
-
 returns-3 : tie.Need-returns-3
 unfolding lastChild
 returns-3 c =
@@ -38,4 +26,4 @@ returns-3 c =
 pub last-child-spec : {M : Type 1} → statement M
 last-child-spec =
     tie.close
-    (tie.spec len-requires enum-known-k enum-told returns returns-2 root-requires returns-3)
+    (tie.spec (λ c κs. search needs) (λ c. search needs) (λ c. search needs) returns returns-2 (λ c κs. search needs) returns-3)

@@ -13,16 +13,10 @@ unfolding recordBefore
 returns c =
     let n : c .before .before .args .n ≤ 0 = omega arith in rw (le-ltb 0 _ n)
 
-sub-existing-place : tie.Need-sub-existing-place
-sub-existing-place c = search needs
-
-existing-place-requires : tie.Need-existing-place-requires
-existing-place-requires c κs = search needs
-
 returns-2 : tie.Need-returns-2
 unfolding recordBefore
 returns-2 c =
     let n : 0 < c .before .before .before .args .n = omega arith in c .existing-place .ensures ∙ rw (lt-ltb 0 _ n)
 
 pub root-spec : {M : Type 1} → statement M
-root-spec = tie.close (tie.spec returns sub-existing-place existing-place-requires returns-2)
+root-spec = tie.close (tie.spec returns (λ c. search needs) (λ c κs. search needs) returns-2)

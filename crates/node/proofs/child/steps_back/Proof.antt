@@ -59,15 +59,4 @@ returns-2 c =
 pub steps-back-spec : {M : Type 1} → statement M
 steps-back-spec =
     tie.close
-    (tie.spec
-    Inv-loop
-    μ-loop
-    loop-holds
-    child-before-requires
-    enum-known-previous
-    enum-told
-    returns
-    sub-left
-    loop-less
-    loop-again
-    returns-2)
+    (tie.spec Inv-loop μ-loop loop-holds child-before-requires enum-known-previous enum-told returns sub-left loop-less loop-again returns-2)

@@ -83,20 +83,5 @@ returns-5 c =
 pub hash-entry-spec : {M : Type 1} → statement M
 hash-entry-spec =
     tie.close
-    (tie.spec
-    get-record-requires
-    enum-known-x
-    enum-told
-    returns
-    returns-2
-    cast-pairs
-    returns-3
-    sub-child-from-last
-    sub-child-from-last-2
-    mul-child-from-last
-    child-from-last-requires
-    enum-known-v
-    enum-told-2
-    returns-4
-    pair-ending-requires
-    returns-5)
+    (tie.spec get-record-requires enum-known-x enum-told returns returns-2 cast-pairs returns-3 sub-child-from-last sub-child-from-last-2
+    mul-child-from-last child-from-last-requires enum-known-v enum-told-2 returns-4 pair-ending-requires returns-5)

@@ -4,28 +4,10 @@ use Rattle.node.specs.Entry.{pairEnding}
 use Rattle.node.proofs.entry.pair_ending.Statement.{statement}
 use Rattle.node.proofs.entry.pair_ending.Tie as tie
 
-get-record-requires : tie.Need-get-record-requires
-get-record-requires c κs = search needs
-
-enum-known-value : tie.Need-enum-known-value
-enum-known-value c = search needs
-
-enum-told : tie.Need-enum-told
-enum-told c = search needs
-
 returns : tie.Need-returns
 unfolding pairEnding
 returns c =
     let e = rw (c .enum-told .given .1) at (c .before .before .get-record .ensures) in rw (← e)
-
-child-before-requires : tie.Need-child-before-requires
-child-before-requires c κs = search needs
-
-enum-known-k : tie.Need-enum-known-k
-enum-known-k c = search needs
-
-enum-told-2 : tie.Need-enum-told-2
-enum-told-2 c = search needs
 
 returns-2 : tie.Need-returns-2
 unfolding pairEnding
@@ -33,15 +15,6 @@ returns-2 c =
     let y = rw (c .before .before .before .before .value .given .1) at (c .before .before .before .before .before .before .get-record .ensures) in
     let k = rw (c .enum-told2 .given .1) at (c .before .before .child-before .ensures) in
     rw (← y, ← k)
-
-get-record-requires-2 : tie.Need-get-record-requires-2
-get-record-requires-2 c κs = search needs
-
-enum-known-key : tie.Need-enum-known-key
-enum-known-key c = search needs
-
-enum-told-3 : tie.Need-enum-told-3
-enum-told-3 c = search needs
 
 returns-3 : tie.Need-returns-3
 unfolding pairEnding
@@ -62,17 +35,5 @@ returns-4 c =
 pub pair-ending-spec : {M : Type 1} → statement M
 pair-ending-spec =
     tie.close
-    (tie.spec
-    get-record-requires
-    enum-known-value
-    enum-told
-    returns
-    child-before-requires
-    enum-known-k
-    enum-told-2
-    returns-2
-    get-record-requires-2
-    enum-known-key
-    enum-told-3
-    returns-3
-    returns-4)
+    (tie.spec (λ c κs. search needs) (λ c. search needs) (λ c. search needs) returns (λ c κs. search needs) (λ c. search needs) (λ c. search needs)
+    returns-2 (λ c κs. search needs) (λ c. search needs) (λ c. search needs) returns-3 returns-4)

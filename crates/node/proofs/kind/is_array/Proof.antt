@@ -4,15 +4,6 @@ use Rattle.node.specs.Kind.{isArrayAt}
 use Rattle.node.proofs.kind.is_array.Statement.{statement}
 use Rattle.node.proofs.kind.is_array.Tie as tie
 
-get-record-requires : tie.Need-get-record-requires
-get-record-requires c κs = search needs
-
-enum-known-x : tie.Need-enum-known-x
-enum-known-x c = search needs
-
-enum-told : tie.Need-enum-told
-enum-told c = search needs
-
 returns : tie.Need-returns
 unfolding isArrayAt
 returns c =
@@ -24,4 +15,4 @@ returns-2 c =
     let e = rw (c .before .before .x .given .1) at (c .before .before .before .before .get-record .ensures) in rw (← e)
 
 pub is-array-spec : {M : Type 1} → statement M
-is-array-spec = tie.close (tie.spec get-record-requires enum-known-x enum-told returns returns-2)
+is-array-spec = tie.close (tie.spec (λ c κs. search needs) (λ c. search needs) (λ c. search needs) returns returns-2)

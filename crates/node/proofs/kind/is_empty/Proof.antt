@@ -4,15 +4,6 @@ use Rattle.node.specs.Kind.{isEmptyAt}
 use Rattle.node.proofs.kind.is_empty.Statement.{statement}
 use Rattle.node.proofs.kind.is_empty.Tie as tie
 
-len-requires : tie.Need-len-requires
-len-requires c κs = search needs
-
-enum-known-k : tie.Need-enum-known-k
-enum-known-k c = search needs
-
-enum-told : tie.Need-enum-told
-enum-told c = search needs
-
 returns : tie.Need-returns
 unfolding isEmptyAt
 returns c =
@@ -24,4 +15,4 @@ returns-2 c =
     let e = rw (c .before .k .given .1) at (c .before .before .before .len .ensures) in rw (← e)
 
 pub is-empty-spec : {M : Type 1} → statement M
-is-empty-spec = tie.close (tie.spec len-requires enum-known-k enum-told returns returns-2)
+is-empty-spec = tie.close (tie.spec (λ c κs. search needs) (λ c. search needs) (λ c. search needs) returns returns-2)

@@ -5,15 +5,6 @@ use Rattle.node.specs.Kind.{lenAt}
 use Rattle.node.proofs.kind.len.Statement.{statement}
 use Rattle.node.proofs.kind.len.Tie as tie
 
-get-record-requires : tie.Need-get-record-requires
-get-record-requires c κs = search needs
-
-enum-known-x : tie.Need-enum-known-x
-enum-known-x c = search needs
-
-enum-told : tie.Need-enum-told
-enum-told c = search needs
-
 returns : tie.Need-returns
 unfolding lenAt
 returns c =
@@ -31,4 +22,4 @@ returns-3 c =
 
 pub len-spec : {M : Type 1} → statement M
 len-spec =
-    tie.close (tie.spec get-record-requires enum-known-x enum-told returns returns-2 returns-3)
+    tie.close (tie.spec (λ c κs. search needs) (λ c. search needs) (λ c. search needs) returns returns-2 returns-3)

@@ -9,20 +9,11 @@ use Rattle.node.proofs.Parts.{cursor-offset, offset-few}
 use Rattle.node.proofs.marker.scan_error.Statement.{statement}
 use Rattle.node.proofs.marker.scan_error.Tie as tie
 
-admit-text-requires : tie.Need-admit-text-requires
-admit-text-requires c κs = search needs
-
-enum-known-admission : tie.Need-enum-known-admission
-enum-known-admission c = search needs
-
 byte-offset-of-char-requires : tie.Need-byte-offset-of-char-requires
 byte-offset-of-char-requires c κs =
     let s = c .before .before .before .before .before .args .text .now in
     let e = sym (c .before .before .before .admit-text .ensures) ∙ c .before .admission .given .1 in
     (admitted-sound s _ e .utf8, (admitted-ascii s _ e, stands-start s))
-
-add-byte-offset-of-char : tie.Need-add-byte-offset-of-char
-add-byte-offset-of-char c = search needs
 
 byte-offset-of-char-requires-2 : tie.Need-byte-offset-of-char-requires-2
 byte-offset-of-char-requires-2 c κs =
@@ -41,12 +32,6 @@ cast-end c =
     let s = c .before .before .before .before .before .before .before .before .before .args .text .now in
     let e = sym (c .before .before .before .before .before .before .before .admit-text .ensures) ∙ c .before .before .before .before .before .admission .given .1 in
     omega (arith, offset-few s _ _ (admitted-sound s _ e) (c .before .before .byte-offset-of-char2 .ensures))
-
-enum-told : tie.Need-enum-told
-enum-told c = search needs
-
-enum-told-2 : tie.Need-enum-told-2
-enum-told-2 c = search needs
 
 returns : tie.Need-returns
 unfolding scanError
@@ -68,16 +53,5 @@ returns-3 c =
 pub scan-error-spec : {M : Type 1} → statement M
 scan-error-spec =
     tie.close
-    (tie.spec
-    admit-text-requires
-    enum-known-admission
-    byte-offset-of-char-requires
-    add-byte-offset-of-char
-    byte-offset-of-char-requires-2
-    cast-start
-    cast-end
-    enum-told
-    enum-told-2
-    returns
-    returns-2
-    returns-3)
+    (tie.spec (λ c κs. search needs) (λ c. search needs) byte-offset-of-char-requires (λ c. search needs) byte-offset-of-char-requires-2 cast-start
+    cast-end (λ c. search needs) (λ c. search needs) returns returns-2 returns-3)

@@ -11,24 +11,6 @@ unfolding recordAt
 returns c =
     rw (le-ltb _ _ (c .if1 .taken))
 
-mul-read-record : tie.Need-mul-read-record
-mul-read-record c = search needs
-
-mul-read-record-2 : tie.Need-mul-read-record-2
-mul-read-record-2 c = search needs
-
-sub-read-record : tie.Need-sub-read-record
-sub-read-record c = search needs
-
-part-read-record-start : tie.Need-part-read-record-start
-part-read-record-start c = search needs
-
-part-read-record-end : tie.Need-part-read-record-end
-part-read-record-end c = search needs
-
-read-record-requires : tie.Need-read-record-requires
-read-record-requires c κs = search needs
-
 returns-2 : tie.Need-returns-2
 unfolding recordAt existing
 returns-2 c =
@@ -50,14 +32,5 @@ returns-4 c =
 pub get-record-spec : {M : Type 1} → statement M
 get-record-spec =
     tie.close
-    (tie.spec
-    returns
-    mul-read-record
-    mul-read-record-2
-    sub-read-record
-    part-read-record-start
-    part-read-record-end
-    read-record-requires
-    returns-2
-    returns-3
-    returns-4)
+    (tie.spec returns (λ c. search needs) (λ c. search needs) (λ c. search needs) (λ c. search needs) (λ c. search needs) (λ c κs. search needs)
+    returns-2 returns-3 returns-4)

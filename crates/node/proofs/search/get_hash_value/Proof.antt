@@ -8,15 +8,6 @@ use Rattle.node.specs.Search.{hashValue}
 use Rattle.node.proofs.search.get_hash_value.Statement.{statement}
 use Rattle.node.proofs.search.get_hash_value.Tie as tie
 
-get-record-requires : tie.Need-get-record-requires
-get-record-requires c κs = search needs
-
-enum-known-x : tie.Need-enum-known-x
-enum-known-x c = search needs
-
-enum-told : tie.Need-enum-told
-enum-told c = search needs
-
 returns : tie.Need-returns
 unfolding hashValue
 returns c =
@@ -27,24 +18,12 @@ unfolding hashValue
 returns-2 c =
     let e = rw (c .before .before .before .x .given .1) at (c .before .before .before .before .before .get-record .ensures) in rw (← e, ne-eqb _ 8 (c .if1 .taken))
 
-cast-pairs : tie.Need-cast-pairs
-cast-pairs c = search needs
-
 returns-3 : tie.Need-returns-3
 unfolding hashValue
 returns-3 c =
     let e = rw (c .before .before .before .before .before .x .given .1) at (c .before .before .before .before .before .before .before .get-record .ensures) in
     let z : c .before .before .before .before .before .x .given .0 .0 .payload .first ≤ 0 = omega arith in
     rw (← e, eq-eqb _ 8 (c .before .before .if1 .left), le-ltb 0 _ z)
-
-root-requires : tie.Need-root-requires
-root-requires c κs = search needs
-
-enum-known-v : tie.Need-enum-known-v
-enum-known-v c = search needs
-
-enum-told-2 : tie.Need-enum-told-2
-enum-told-2 c = search needs
 
 returns-4 : tie.Need-returns-4
 unfolding hashValue
@@ -53,12 +32,6 @@ returns-4 c =
     let z : 0 < c .before .before .before .before .before .before .before .before .x .given .0 .0 .payload .first = omega arith in
     let v = rw (c .enum-told2 .given .1) at (c .before .before .root .ensures) in
     rw (← e, eq-eqb _ 8 (c .before .before .before .before .before .if1 .left), lt-ltb 0 _ z, ← v)
-
-sub-search-back : tie.Need-sub-search-back
-sub-search-back c = search needs
-
-search-back-requires : tie.Need-search-back-requires
-search-back-requires c κs = search needs
 
 returns-5 : tie.Need-returns-5
 unfolding hashValue
@@ -71,18 +44,5 @@ returns-5 c =
 pub get-hash-value-spec : {M : Type 1} → statement M
 get-hash-value-spec =
     tie.close
-    (tie.spec
-    get-record-requires
-    enum-known-x
-    enum-told
-    returns
-    returns-2
-    cast-pairs
-    returns-3
-    root-requires
-    enum-known-v
-    enum-told-2
-    returns-4
-    sub-search-back
-    search-back-requires
-    returns-5)
+    (tie.spec (λ c κs. search needs) (λ c. search needs) (λ c. search needs) returns returns-2 (λ c. search needs) returns-3 (λ c κs. search needs)
+    (λ c. search needs) (λ c. search needs) returns-4 (λ c. search needs) (λ c κs. search needs) returns-5)

@@ -9,15 +9,6 @@ use Rattle.node.specs.Search.{stringIs, keyIs}
 use Rattle.node.proofs.search.key_is.Statement.{statement}
 use Rattle.node.proofs.search.key_is.Tie as tie
 
-get-record-requires : tie.Need-get-record-requires
-get-record-requires c κs = search needs
-
-enum-known-x : tie.Need-enum-known-x
-enum-known-x c = search needs
-
-enum-told : tie.Need-enum-told
-enum-told c = search needs
-
 returns : tie.Need-returns
 unfolding keyIs
 returns c =
@@ -28,32 +19,11 @@ unfolding keyIs stringIs
 returns-2 c =
     let e = rw (c .before .before .before .x .given .1) at (c .before .before .before .before .before .get-record .ensures) in rw (← e, ne-eqb _ 5 (c .if1 .taken))
 
-cast-from : tie.Need-cast-from
-cast-from c = search needs
-
-cast-end : tie.Need-cast-end
-cast-end c = search needs
-
-add-end : tie.Need-add-end
-add-end c = search needs
-
 returns-3 : tie.Need-returns-3
 unfolding keyIs stringIs
 returns-3 c =
     let e = rw (c .before .before .before .before .before .before .x .given .1) at (c .before .before .before .before .before .before .before .before .get-record .ensures) in
     rw (← e, eq-eqb _ 5 (c .before .before .before .if1 .left), lt-leb _ _ (c .if2 .taken))
-
-sub-same : tie.Need-sub-same
-sub-same c = search needs
-
-part-same-start : tie.Need-part-same-start
-part-same-start c = search needs
-
-part-same-end : tie.Need-part-same-end
-part-same-end c = search needs
-
-same-requires : tie.Need-same-requires
-same-requires c κs = search needs
 
 returns-4 : tie.Need-returns-4
 unfolding keyIs stringIs
@@ -66,18 +36,5 @@ returns-4 c =
 pub key-is-spec : {M : Type 1} → statement M
 key-is-spec =
     tie.close
-    (tie.spec
-    get-record-requires
-    enum-known-x
-    enum-told
-    returns
-    returns-2
-    cast-from
-    cast-end
-    add-end
-    returns-3
-    sub-same
-    part-same-start
-    part-same-end
-    same-requires
-    returns-4)
+    (tie.spec (λ c κs. search needs) (λ c. search needs) (λ c. search needs) returns returns-2 (λ c. search needs) (λ c. search needs)
+    (λ c. search needs) returns-3 (λ c. search needs) (λ c. search needs) (λ c. search needs) (λ c κs. search needs) returns-4)

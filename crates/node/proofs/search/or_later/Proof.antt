@@ -4,9 +4,6 @@ use borrow.Author.Needs.{needs}
 use Rattle.node.proofs.search.or_later.Statement.{statement}
 use Rattle.node.proofs.search.or_later.Tie as tie
 
-key-is-requires : tie.Need-key-is-requires
-key-is-requires c κs = search needs
-
 returns : tie.Need-returns
 returns c =
     rw (sym (c .before .key-is .ensures) ∙ c .if1 .taken)
@@ -16,4 +13,4 @@ returns-2 c =
     rw (sym (c .before .key-is .ensures) ∙ c .if1 .left)
 
 pub or-later-spec : {M : Type 1} → statement M
-or-later-spec = tie.close (tie.spec key-is-requires returns returns-2)
+or-later-spec = tie.close (tie.spec (λ c κs. search needs) returns returns-2)

@@ -107,25 +107,6 @@ returns-4 c =
 pub search-back-spec : {M : Type 1} → statement M
 search-back-spec =
     tie.close
-    (tie.spec
-    Inv-loop
-    μ-loop
-    loop-holds
-    pair-ending-requires
-    enum-known-pair
-    enum-told
-    returns
-    or-later-requires
-    child-before-requires
-    enum-known-next
-    enum-told-2
-    returns-2
-    sub-left
-    loop-less
-    loop-again
-    pair-ending-requires-2
-    enum-known-pair-2
-    enum-told-3
-    returns-3
-    or-later-requires-2
-    returns-4)
+    (tie.spec Inv-loop μ-loop loop-holds pair-ending-requires enum-known-pair enum-told returns or-later-requires child-before-requires
+    enum-known-next enum-told-2 returns-2 sub-left loop-less loop-again pair-ending-requires-2 enum-known-pair-2 enum-told-3 returns-3
+    or-later-requires-2 returns-4)

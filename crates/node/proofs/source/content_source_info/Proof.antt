@@ -5,15 +5,6 @@ use Rattle.node.specs.Source.{pieceListAt}
 use Rattle.node.proofs.source.content_source_info.Statement.{statement}
 use Rattle.node.proofs.source.content_source_info.Tie as tie
 
-get-record-requires : tie.Need-get-record-requires
-get-record-requires c κs = search needs
-
-enum-known-x : tie.Need-enum-known-x
-enum-known-x c = search needs
-
-enum-told : tie.Need-enum-told
-enum-told c = search needs
-
 returns : tie.Need-returns
 unfolding pieceListAt
 returns c =
@@ -39,4 +30,4 @@ returns-4 c =
 pub content-source-info-spec : {M : Type 1} → statement M
 content-source-info-spec =
     tie.close
-    (tie.spec get-record-requires enum-known-x enum-told returns returns-2 returns-3 returns-4)
+    (tie.spec (λ c κs. search needs) (λ c. search needs) (λ c. search needs) returns returns-2 returns-3 returns-4)

@@ -4,15 +4,6 @@ use Rattle.node.specs.Source.{spanAt}
 use Rattle.node.proofs.source.source_info.Statement.{statement}
 use Rattle.node.proofs.source.source_info.Tie as tie
 
-get-record-requires : tie.Need-get-record-requires
-get-record-requires c κs = search needs
-
-enum-known-x : tie.Need-enum-known-x
-enum-known-x c = search needs
-
-enum-told : tie.Need-enum-told
-enum-told c = search needs
-
 returns : tie.Need-returns
 unfolding spanAt
 returns c =
@@ -25,4 +16,4 @@ returns-2 c =
 
 pub source-info-spec : {M : Type 1} → statement M
 source-info-spec =
-    tie.close (tie.spec get-record-requires enum-known-x enum-told returns returns-2)
+    tie.close (tie.spec (λ c κs. search needs) (λ c. search needs) (λ c. search needs) returns returns-2)

@@ -5,22 +5,10 @@ use Rattle.node.specs.Source.{tagAt}
 use Rattle.node.proofs.source.tag.Statement.{statement}
 use Rattle.node.proofs.source.tag.Tie as tie
 
-get-record-requires : tie.Need-get-record-requires
-get-record-requires c κs = search needs
-
-enum-known-x : tie.Need-enum-known-x
-enum-known-x c = search needs
-
-enum-told : tie.Need-enum-told
-enum-told c = search needs
-
 returns : tie.Need-returns
 unfolding tagAt
 returns c =
     let e = rw (c .enum-told .given .1) at (c .before .before .get-record .ensures) in rw (← e)
-
-is-absent-requires : tie.Need-is-absent-requires
-is-absent-requires c κs = search needs
 
 returns-2 : tie.Need-returns-2
 unfolding tagAt
@@ -35,11 +23,4 @@ returns-3 c =
 pub tag-spec : {M : Type 1} → statement M
 tag-spec =
     tie.close
-    (tie.spec
-    get-record-requires
-    enum-known-x
-    enum-told
-    returns
-    is-absent-requires
-    returns-2
-    returns-3)
+    (tie.spec (λ c κs. search needs) (λ c. search needs) (λ c. search needs) returns (λ c κs. search needs) returns-2 returns-3)

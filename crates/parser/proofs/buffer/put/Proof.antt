@@ -19,9 +19,6 @@ abbrev μ-loop : tie.MeasureT-loop
 loop-holds : tie.Need-loop-holds Inv-loop μ-loop
 loop-holds c = (zero-le, refl, refl)
 
-mul-buffer : tie.Need-mul-buffer Inv-loop μ-loop
-mul-buffer c = search needs
-
 shared-slice-read-buffer : tie.Need-shared-slice-read-buffer Inv-loop μ-loop
 shared-slice-read-buffer c = omega arith
 
@@ -56,17 +53,5 @@ returns c = c .before .loop .inv .1 ∙ ap (sets (c .before .before .args .buffe
 pub put-spec : {M : Type 1} → statement M
 put-spec =
     tie.close
-    (tie.spec
-    Inv-loop
-    μ-loop
-    loop-holds
-    mul-buffer
-    shared-slice-read-buffer
-    add-buffer
-    mul-buffer-2
-    slice-write-buffer
-    add-i
-    loop-less
-    loop-again
-    same-length
-    returns)
+    (tie.spec Inv-loop μ-loop loop-holds (λ c. search needs) shared-slice-read-buffer add-buffer mul-buffer-2 slice-write-buffer add-i loop-less
+    loop-again same-length returns)

@@ -13,18 +13,6 @@ use Rattle.parser.specs.Machine.{runAll}
 use Rattle.parser.proofs.build.build.Statement.{statement}
 use Rattle.parser.proofs.build.build.Tie as tie
 
-clear-requires : tie.Need-clear-requires
-clear-requires c κs = search needs
-
-clear-requires-2 : tie.Need-clear-requires-2
-clear-requires-2 c κs = search needs
-
-same-length : tie.Need-same-length
-same-length c = search needs
-
-same-length-2 : tie.Need-same-length-2
-same-length-2 c = search needs
-
 returns : tie.Need-returns
 returns c =
     let a = c .before .before .before .before .before .before .before .before .before .before .before .before .before .args in
@@ -33,24 +21,6 @@ returns c =
     let b = c .before .before .before .before .before .before .before .clear in
     let p = c .before .before .before .clear2 in
     too-many (a .text .now) (a .events .now) size piece-size _ _ (c .if1 .taken) (b .ensures) (p .ensures)
-
-admit-text-requires : tie.Need-admit-text-requires
-admit-text-requires c κs = search needs
-
-enum-told : tie.Need-enum-told
-enum-told c = search needs
-
-enum-told-2 : tie.Need-enum-told-2
-enum-told-2 c = search needs
-
-enum-known-ascii : tie.Need-enum-known-ascii
-enum-known-ascii c = search needs
-
-usable-requires : tie.Need-usable-requires
-usable-requires c κs = search needs
-
-slice-relend-prefix-fill : tie.Need-slice-relend-prefix-fill
-slice-relend-prefix-fill c = search needs
 
 slice-aggregate-fill : tie.Need-slice-aggregate-fill
 slice-aggregate-fill c = let n = c .before .before .usable in sym (length-take-le (n .result) (c .before .before .before .before .before .before .before .before .before .before .clear2 .last .0) (let e = n .ensures in omega arith))
@@ -79,24 +49,6 @@ fill-requires c κs =
       ),
     )
 
-enum-known-nodes : tie.Need-enum-known-nodes
-enum-known-nodes c = search needs
-
-enum-known-number : tie.Need-enum-known-number
-enum-known-number c = search needs
-
-clear-requires-3 : tie.Need-clear-requires-3
-clear-requires-3 c κs = search needs
-
-clear-requires-4 : tie.Need-clear-requires-4
-clear-requires-4 c κs = search needs
-
-same-length-3 : tie.Need-same-length-3
-same-length-3 c = search needs
-
-same-length-4 : tie.Need-same-length-4
-same-length-4 c = search needs
-
 returns-2 : tie.Need-returns-2
 returns-2 c =
     let a = c .before .before .before .before .before .before .before .before .before .before .before .before .before .before .before .before .args in
@@ -106,12 +58,6 @@ returns-2 c =
     let p = c .before .before .before .before .before .before .clear2 in
     text-too-long (a .text .now) (a .events .now) size piece-size (c .before .before .before .if1 .left) _ _ (sym (c .before .before .admit-text .ensures) ∙ c .enum-told .given .1) (b .ensures) (p .ensures)
 
-same-length-5 : tie.Need-same-length-5
-same-length-5 c = search needs
-
-same-length-6 : tie.Need-same-length-6
-same-length-6 c = search needs
-
 returns-3 : tie.Need-returns-3
 returns-3 c =
     let a = c .before .before .before .before .before .before .before .before .before .before .before .before .before .before .before .before .args in
@@ -120,12 +66,6 @@ returns-3 c =
     let b = c .before .before .before .before .before .before .before .before .before .before .clear in
     let p = c .before .before .before .before .before .before .clear2 in
     text-no-utf8 (a .text .now) (a .events .now) size piece-size (c .before .before .before .if1 .left) _ _ (sym (c .before .before .admit-text .ensures) ∙ c .enum-told2 .given .1) (b .ensures) (p .ensures)
-
-same-length-7 : tie.Need-same-length-7
-same-length-7 c = search needs
-
-same-length-8 : tie.Need-same-length-8
-same-length-8 c = search needs
 
 returns-4 : tie.Need-returns-4
 returns-4 c =
@@ -141,12 +81,6 @@ returns-4 c =
     let told = sym (c .before .before .before .before .before .before .before .before .before .before .before .before .before .before .admit-text .ensures) ∙ c .before .before .before .before .before .before .before .before .before .before .before .before .ascii .given .1 in
     let d = c .before .nodes .given in
     when-built (a .text .now) (a .events .now) size piece-size (c .before .before .before .before .before .before .before .before .before .before .before .before .before .before .before .if1 .left) (c .before .before .before .before .before .before .before .before .before .before .before .before .ascii .given .0 .0) told (n .result) is-n (filled .result) (filled .last .1 .1 .1 .0) (filled .last .1 .1 .1 .1 .0) (p .last .0) (filled .kept .1 .1 .1 .1 .0 ∙ part) (p .ensures) (subst₂ (λ (m k : ℕ). Filled m k (runAll (a .text .now) (a .events .now) (m / 12) (k / 4)) (filled .result) (filled .last .1 .1 .1 .0) (filled .last .1 .1 .1 .1 .0)) (b .kept .0) part (filled .ensures)) (d .0 .0) (d .0 .1 .0) (d .1)
-
-same-length-9 : tie.Need-same-length-9
-same-length-9 c = search needs
-
-same-length-10 : tie.Need-same-length-10
-same-length-10 c = search needs
 
 returns-5 : tie.Need-returns-5
 returns-5 c =
@@ -168,33 +102,7 @@ returns-5 c =
 pub build-spec : {M : Type 1} → statement M
 build-spec =
     tie.close
-    (tie.spec
-    clear-requires
-    clear-requires-2
-    same-length
-    same-length-2
-    returns
-    admit-text-requires
-    enum-told
-    enum-told-2
-    enum-known-ascii
-    usable-requires
-    slice-relend-prefix-fill
-    slice-aggregate-fill
-    fill-requires
-    enum-known-nodes
-    enum-known-number
-    clear-requires-3
-    clear-requires-4
-    same-length-3
-    same-length-4
-    returns-2
-    same-length-5
-    same-length-6
-    returns-3
-    same-length-7
-    same-length-8
-    returns-4
-    same-length-9
-    same-length-10
-    returns-5)
+    (tie.spec (λ c κs. search needs) (λ c κs. search needs) (λ c. search needs) (λ c. search needs) returns (λ c κs. search needs) (λ c. search needs)
+    (λ c. search needs) (λ c. search needs) (λ c κs. search needs) (λ c. search needs) slice-aggregate-fill fill-requires (λ c. search needs)
+    (λ c. search needs) (λ c κs. search needs) (λ c κs. search needs) (λ c. search needs) (λ c. search needs) returns-2 (λ c. search needs)
+    (λ c. search needs) returns-3 (λ c. search needs) (λ c. search needs) returns-4 (λ c. search needs) (λ c. search needs) returns-5)

@@ -21,9 +21,6 @@ abbrev μ-loop : tie.MeasureT-loop
 loop-holds : tie.Need-loop-holds Inv-loop μ-loop
 loop-holds c = let given = c .before .before .before .before in first-head (given .args .text .now) (given .args .events .now) (given .args .records .now) (given .args .pieces .now) _ (given .pre .1 .1 .0) (given .pre .1 .1 .1) (given .pre .1 .1 .2) refl
 
-read-event-requires : tie.Need-read-event-requires Inv-loop μ-loop
-read-event-requires c κs = search needs
-
 slice-aggregate-on-event : tie.Need-slice-aggregate-on-event Inv-loop μ-loop
 slice-aggregate-on-event c = let l = c .before .before .before .loop .inv .held .stack-size in search needs
 
@@ -33,9 +30,6 @@ on-event-requires c κs =
     let a = given .args in
     let here = c .before .before .before .before .before .loop in
     (given .pre .0, (ready (a .text .now) (a .events .now) (length (a .records .now)) (length (a .pieces .now)) (here .stack) (here .records) (here .pieces) (here .c) (here .at) (here .number) (here .inv) (given .pre .1 .0) (c .before .before .before .before .loop-test .taken), read-of (a .events .now) (λ k. c .before .before .before .before .before .before .before .before .shared-slice-known2 .given k .fits) (given .pre .1 .0) (here .at) (c .before .before .before .read-event .result) (c .before .before .before .read-event .ensures)))
-
-enum-known-n : tie.Need-enum-known-n Inv-loop μ-loop
-enum-known-n c = search needs
 
 same-length : tie.Need-same-length Inv-loop μ-loop
 same-length c = c .before .before .before .before .before .before .before .before .on-event .kept .1 .1 .1 .1 .0 ∙ c .before .before .before .before .before .before .before .before .before .before .before .before .before .before .loop .inv .held .size-is
@@ -51,12 +45,6 @@ returns c =
     let on = c .before .before .before .before .before .before .before .before .on-event in
     let bytes : Bytes (a .events .now) = λ k. c .before .before .before .before .before .before .before .before .before .before .before .before .before .before .before .before .before .shared-slice-known2 .given k .fits in
     refused-here (a .text .now) (a .events .now) (length (a .records .now)) (length (a .pieces .now)) (here .stack) (here .records) (here .pieces) (here .c) (here .at) (here .number) (here .inv) bytes (c .before .before .before .before .before .before .before .before .before .before .before .before .before .loop-test .taken) (c .before .before .before .before .before .before .before .before .before .before .before .before .read-event .result) (c .before .before .before .before .before .before .before .before .before .before .before .before .read-event .ensures) (on .result) (on .last .1 .1 .1 .0) (on .last .1 .1 .1 .1 .0) (on .last .1 .1 .1 .1 .1 .0) (on .ensures) (c .before .n .given .0 .0) (c .before .n .given .1)
-
-enum-known-d : tie.Need-enum-known-d Inv-loop μ-loop
-enum-known-d c = search needs
-
-next-place-requires : tie.Need-next-place-requires Inv-loop μ-loop
-next-place-requires c κs = search needs
 
 add-number : tie.Need-add-number Inv-loop μ-loop
 add-number c =
@@ -88,9 +76,6 @@ loop-again c =
     let next = next-head (a .text .now) (a .events .now) (length (a .records .now)) (length (a .pieces .now)) (here .stack) (here .records) (here .pieces) (here .c) (here .at) (here .number) (here .inv) bytes (c .before .before .before .before .before .before .before .before .before .before .before .before .before .before .loop-test .taken) (c .before .before .before .before .before .before .before .before .before .before .before .before .before .read-event .result) (c .before .before .before .before .before .before .before .before .before .before .before .before .before .read-event .ensures) (on .result) (on .last .1 .1 .1 .0) (on .last .1 .1 .1 .1 .0) (on .last .1 .1 .1 .1 .1 .0) (on .ensures) (c .before .before .d .given .0 .0) (c .next-place .result) (c .before .before .d .given .1) (c .next-place .ensures) in
     next .head
 
-root-done-requires : tie.Need-root-done-requires Inv-loop μ-loop
-root-done-requires c κs = search needs
-
 same-length-3 : tie.Need-same-length-3 Inv-loop μ-loop
 same-length-3 c = c .before .before .before .loop .inv .held .size-is
 
@@ -118,26 +103,6 @@ returns-3 c =
 pub fill-spec : {M : Type 1} → statement M
 fill-spec =
     tie.close
-    (tie.spec
-    Inv-loop
-    μ-loop
-    loop-holds
-    read-event-requires
-    slice-aggregate-on-event
-    on-event-requires
-    enum-known-n
-    same-length
-    same-length-2
-    returns
-    enum-known-d
-    next-place-requires
-    add-number
-    loop-less
-    loop-again
-    root-done-requires
-    same-length-3
-    same-length-4
-    returns-2
-    same-length-5
-    same-length-6
-    returns-3)
+    (tie.spec Inv-loop μ-loop loop-holds (λ c κs. search needs) slice-aggregate-on-event on-event-requires (λ c. search needs) same-length
+    same-length-2 returns (λ c. search needs) (λ c κs. search needs) add-number loop-less loop-again (λ c κs. search needs) same-length-3
+    same-length-4 returns-2 same-length-5 same-length-6 returns-3)

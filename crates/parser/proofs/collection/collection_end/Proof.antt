@@ -4,15 +4,9 @@ use Rattle.parser.specs.Collection.{collectionEnd}
 use Rattle.parser.proofs.collection.collection_end.Statement.{statement}
 use Rattle.parser.proofs.collection.collection_end.Tie as tie
 
-step-past-requires : tie.Need-step-past-requires
-step-past-requires c κs = search needs
-
 returns : tie.Need-returns
 unfolding collectionEnd
 returns c = rw (c .before .if1 .taken) (c .step-past .ensures)
-
-step-past-requires-2 : tie.Need-step-past-requires-2
-step-past-requires-2 c κs = search needs
 
 returns-2 : tie.Need-returns-2
 unfolding collectionEnd
@@ -20,4 +14,4 @@ returns-2 c = rw (c .before .if1 .left) (c .step-past2 .ensures)
 
 pub collection-end-spec : {M : Type 1} → statement M
 collection-end-spec =
-    tie.close (tie.spec step-past-requires returns step-past-requires-2 returns-2)
+    tie.close (tie.spec (λ c κs. search needs) returns (λ c κs. search needs) returns-2)

@@ -5,12 +5,6 @@ use Rattle.parser.proofs.Starts.{collection-start-boundary, end-within}
 use Rattle.parser.proofs.collection.collection_node.Statement.{statement}
 use Rattle.parser.proofs.collection.collection_node.Tie as tie
 
-collection-start-requires : tie.Need-collection-start-requires
-collection-start-requires c κs = search needs
-
-collection-end-requires : tie.Need-collection-end-requires
-collection-end-requires c κs = search needs
-
 collection-over-requires : tie.Need-collection-over-requires
 collection-over-requires c κs =
     let given = c .before .before .before in
@@ -24,4 +18,4 @@ returns c = rw (← c .before .collection-end .ensures, ← c .before .before .c
 pub collection-node-spec : {M : Type 1} → statement M
 collection-node-spec =
     tie.close
-    (tie.spec collection-start-requires collection-end-requires collection-over-requires returns)
+    (tie.spec (λ c κs. search needs) (λ c κs. search needs) collection-over-requires returns)

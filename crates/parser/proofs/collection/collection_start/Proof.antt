@@ -9,9 +9,6 @@ use Prim.Native.Nat.{_-_, _<_}
 use Rattle.parser.proofs.collection.collection_start.Statement.{statement}
 use Rattle.parser.proofs.collection.collection_start.Tie as tie
 
-cast-start : tie.Need-cast-start
-cast-start c = search needs
-
 returns : tie.Need-returns
 unfolding collectionStart
 returns c = rw (not-true (c .before .before .before .before .args .o .mapping) (c .if1 .taken)) refl
@@ -20,18 +17,12 @@ returns-2 : tie.Need-returns-2
 unfolding collectionStart
 returns-2 c = rw (not-false (c .before .before .before .before .before .before .args .o .mapping) (c .before .before .if1 .left), c .if2 .taken) refl
 
-byte-at-requires : tie.Need-byte-at-requires
-byte-at-requires c κs = search needs
-
 returns-3 : tie.Need-returns-3
 unfolding collectionStart
 returns-3 c =
     let o = c .before .before .before .before .before .before .before .before .args .o in
     let some : 0 < o .children = let l = c .before .before .if2 .left in omega arith in
     rw (not-false (o .mapping) (c .before .before .before .before .if1 .left), lt-ltb 0 (o .children) some, eq-eqb _ _ (sym (c .before .byte-at .ensures) ∙ c .if3 .taken)) refl
-
-cast-result : tie.Need-cast-result
-cast-result c = search needs
 
 returns-4 : tie.Need-returns-4
 unfolding collectionStart
@@ -44,4 +35,4 @@ returns-4 c =
 pub collection-start-spec : {M : Type 1} → statement M
 collection-start-spec =
     tie.close
-    (tie.spec cast-start returns returns-2 byte-at-requires returns-3 cast-result returns-4)
+    (tie.spec (λ c. search needs) returns returns-2 (λ c κs. search needs) returns-3 (λ c. search needs) returns-4)

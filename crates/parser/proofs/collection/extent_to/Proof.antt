@@ -7,23 +7,11 @@ use Rattle.parser.specs.Record.{extent}
 use Rattle.parser.proofs.collection.extent_to.Statement.{statement}
 use Rattle.parser.proofs.collection.extent_to.Tie as tie
 
-cast-t4 : tie.Need-cast-t4
-cast-t4 c = search needs
-
-cast-t5 : tie.Need-cast-t5
-cast-t5 c = search needs
-
 returns : tie.Need-returns
 returns c = ap₂ extent refl (omega arith)
-
-cast-t6 : tie.Need-cast-t6
-cast-t6 c = search needs
-
-cast-t7 : tie.Need-cast-t7
-cast-t7 c = search needs
 
 returns-2 : tie.Need-returns-2
 returns-2 c = ap₂ extent refl (omega arith)
 
 pub extent-to-spec : {M : Type 1} → statement M
-extent-to-spec = tie.close (tie.spec cast-t4 cast-t5 returns cast-t6 cast-t7 returns-2)
+extent-to-spec = tie.close (tie.spec (λ c. search needs) (λ c. search needs) returns (λ c. search needs) (λ c. search needs) returns-2)

@@ -7,12 +7,6 @@ use lib.ListN.{getD}
 use Rattle.parser.proofs.collection.step_past.Statement.{statement}
 use Rattle.parser.proofs.collection.step_past.Tie as tie
 
-byte-at-requires : tie.Need-byte-at-requires
-byte-at-requires c κs = search needs
-
-add-result : tie.Need-add-result
-add-result c = search needs
-
 returns : tie.Need-returns
 unfolding stepPast
 returns c = rw (eq-eqb _ _ (sym (c .before .byte-at .ensures) ∙ c .if1 .taken)) refl
@@ -22,4 +16,4 @@ unfolding stepPast
 returns-2 c = let a = c .before .before .before .args in rw (ne-eqb (getD (a .text .now) (a .at) 0) (a .byte) (λ e. c .if1 .left (c .before .byte-at .ensures ∙ e))) refl
 
 pub step-past-spec : {M : Type 1} → statement M
-step-past-spec = tie.close (tie.spec byte-at-requires add-result returns returns-2)
+step-past-spec = tie.close (tie.spec (λ c κs. search needs) (λ c. search needs) returns returns-2)

@@ -7,18 +7,6 @@ use Rattle.tag.specs.TagLaws.{tag-span-within}
 use Rattle.parser.proofs.collection.tag_info.Statement.{statement}
 use Rattle.parser.proofs.collection.tag_info.Tie as tie
 
-enum-told : tie.Need-enum-told
-enum-told c = search needs
-
-enum-known-suffix : tie.Need-enum-known-suffix
-enum-known-suffix c = search needs
-
-cast-make-tag-info : tie.Need-cast-make-tag-info
-cast-make-tag-info c = search needs
-
-make-tag-info-requires : tie.Need-make-tag-info-requires
-make-tag-info-requires c κs = search needs
-
 cast-t9 : tie.Need-cast-t9
 cast-t9 c =
     let given = c .before .before .before .before .before .before in
@@ -45,12 +33,4 @@ returns-2 c = rw (c .before .before .before .before .suffix .given .1, ← c .be
 pub tag-info-spec : {M : Type 1} → statement M
 tag-info-spec =
     tie.close
-    (tie.spec
-    enum-told
-    enum-known-suffix
-    cast-make-tag-info
-    make-tag-info-requires
-    cast-t9
-    cast-t10
-    returns
-    returns-2)
+    (tie.spec (λ c. search needs) (λ c. search needs) (λ c. search needs) (λ c κs. search needs) cast-t9 cast-t10 returns returns-2)

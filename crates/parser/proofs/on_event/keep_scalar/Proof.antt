@@ -9,30 +9,6 @@ use Rattle.parser.specs.Scalar.{listAt}
 use Rattle.parser.proofs.on_event.keep_scalar.Statement.{statement}
 use Rattle.parser.proofs.on_event.keep_scalar.Tie as tie
 
-cast-start : tie.Need-cast-start
-cast-start c = search needs
-
-cast-len : tie.Need-cast-len
-cast-len c = search needs
-
-sub-len : tie.Need-sub-len
-sub-len c = search needs
-
-mul-free : tie.Need-mul-free
-mul-free c = search needs
-
-mul-walk-scalar : tie.Need-mul-walk-scalar
-mul-walk-scalar c = search needs
-
-sub-walk-scalar : tie.Need-sub-walk-scalar
-sub-walk-scalar c = search needs
-
-part-walk-scalar-start : tie.Need-part-walk-scalar-start
-part-walk-scalar-start c = search needs
-
-part-walk-scalar-end : tie.Need-part-walk-scalar-end
-part-walk-scalar-end c = search needs
-
 walk-scalar-requires : tie.Need-walk-scalar-requires
 walk-scalar-requires c κs =
     let given = c .before .before .before .before .before .before .before .before .before in
@@ -40,20 +16,11 @@ walk-scalar-requires c κs =
     let span = given .pre .1 .1 .1 .1 in
     ((small .0, small .1, omega arith), free-zero _ _ _ _ _ _ _ _ (given .pre .0 .held))
 
-enum-told : tie.Need-enum-told
-enum-told c = search needs
-
-enum-told-2 : tie.Need-enum-told-2
-enum-told-2 c = search needs
-
 push-complete-requires : tie.Need-push-complete-requires
 push-complete-requires c κs =
     let given = c .before .before .before .before .before .before .before .before .before .before .before .before .before .before .before .before in
     let ready = given .pre .0 in
     pushable _ _ _ _ _ _ _ _ (ready .held) (ready .few) (rw (← ready .held .size-is) (given .pre .1 .0))
-
-enum-known-n : tie.Need-enum-known-n
-enum-known-n c = search needs
 
 add-t31 : tie.Need-add-t31
 add-t31 c =
@@ -85,9 +52,6 @@ cast-with-list-2 c =
     let more = walk-listed _ _ _ _ _ _ _ _ (given .pre .0 .held) (a .x) (listAt (a .text .now) (a .x .extent .start) (a .x .extent .end - a .x .extent .start) (a .value .now) (a .style) (a .column)) (n .0 .0) (walked .last .1 .1 .1 .1 .1 .1 .0) (walked .kept .1 .1 .1 .1 .1 .1 .0) w in
     omega (arith, more .fits)
 
-with-list-requires : tie.Need-with-list-requires
-with-list-requires c κs = search needs
-
 push-complete-requires-2 : tie.Need-push-complete-requires-2
 push-complete-requires-2 c κs =
     let given = c .before .before .before .before .before .before .before .before .before .before .before .before .before .before .before .before .before .before in
@@ -98,24 +62,12 @@ push-complete-requires-2 c κs =
     let more = walk-listed _ _ _ _ _ _ _ _ (given .pre .0 .held) (a .x) (listAt (a .text .now) (a .x .extent .start) (a .x .extent .end - a .x .extent .start) (a .value .now) (a .style) (a .column)) (n .0 .0) (walked .last .1 .1 .1 .1 .1 .1 .0) (walked .kept .1 .1 .1 .1 .1 .1 .0) w in
     pushable _ _ _ _ _ _ _ _ (more .held) (given .pre .0 .few) (rw (← given .pre .0 .held .size-is) (given .pre .1 .0))
 
-same-length : tie.Need-same-length
-same-length c = search needs
-
 returns : tie.Need-returns
 returns c = λ size piece-size st h.
     let given = c .before .before .before .before .before .before .before .before .before .before .before .before .before .before in
     let a = given .args in
     let walked = c .before .before .before .before .walk-scalar in
     rw (walk-no-room _ _ _ _ _ _ _ _ h (a .x) (listAt (a .text .now) (a .x .extent .start) (a .x .extent .end - a .x .extent .start) (a .value .now) (a .style) (a .column)) (walked .last .1 .1 .1 .1 .1 .1 .0) (rw (c .enum-told .given .1) at (walked .ensures))) refl
-
-same-length-2 : tie.Need-same-length-2
-same-length-2 c = search needs
-
-same-length-3 : tie.Need-same-length-3
-same-length-3 c = search needs
-
-same-length-4 : tie.Need-same-length-4
-same-length-4 c = search needs
 
 returns-2 : tie.Need-returns-2
 returns-2 c = λ size piece-size st h.
@@ -124,15 +76,6 @@ returns-2 c = λ size piece-size st h.
     let walked = c .before .before .before .before .before .before .before .before .before .before .before .walk-scalar in
     let same = walk-no-list _ _ _ _ _ _ _ _ h (a .x) (listAt (a .text .now) (a .x .extent .start) (a .x .extent .end - a .x .extent .start) (a .value .now) (a .style) (a .column)) (walked .last .1 .1 .1 .1 .1 .1 .0) (rw (c .before .before .before .before .before .before .before .enum-told2 .given .1) at (walked .ensures)) in
     rw (same .0, same .1) (moved-on _ _ _ st (a .c) _ _ _ _ _ (h .nodes-are) (c .before .before .before .before .push-complete .ensures (a .text .now) size piece-size st (a .pieces .now) (given .pre .1 .1 .1 .0) h))
-
-same-length-5 : tie.Need-same-length-5
-same-length-5 c = search needs
-
-same-length-6 : tie.Need-same-length-6
-same-length-6 c = search needs
-
-same-length-7 : tie.Need-same-length-7
-same-length-7 c = search needs
 
 returns-3 : tie.Need-returns-3
 returns-3 c = λ size piece-size st h.
@@ -148,32 +91,7 @@ returns-3 c = λ size piece-size st h.
 pub keep-scalar-spec : {M : Type 1} → statement M
 keep-scalar-spec =
     tie.close
-    (tie.spec
-    cast-start
-    cast-len
-    sub-len
-    mul-free
-    mul-walk-scalar
-    sub-walk-scalar
-    part-walk-scalar-start
-    part-walk-scalar-end
-    walk-scalar-requires
-    enum-told
-    enum-told-2
-    push-complete-requires
-    enum-known-n
-    add-t31
-    cast-with-list
-    cast-with-list-2
-    with-list-requires
-    push-complete-requires-2
-    same-length
-    returns
-    same-length-2
-    same-length-3
-    same-length-4
-    returns-2
-    same-length-5
-    same-length-6
-    same-length-7
-    returns-3)
+    (tie.spec (λ c. search needs) (λ c. search needs) (λ c. search needs) (λ c. search needs) (λ c. search needs) (λ c. search needs)
+    (λ c. search needs) (λ c. search needs) walk-scalar-requires (λ c. search needs) (λ c. search needs) push-complete-requires (λ c. search needs)
+    add-t31 cast-with-list cast-with-list-2 (λ c κs. search needs) push-complete-requires-2 (λ c. search needs) returns (λ c. search needs)
+    (λ c. search needs) (λ c. search needs) returns-2 (λ c. search needs) (λ c. search needs) (λ c. search needs) returns-3)

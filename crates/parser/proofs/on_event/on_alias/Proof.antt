@@ -10,9 +10,6 @@ use Rattle.parser.specs.Machine.{aliased}
 use Rattle.parser.proofs.on_event.on_alias.Statement.{statement}
 use Rattle.parser.proofs.on_event.on_alias.Tie as tie
 
-root-done-requires : tie.Need-root-done-requires
-root-done-requires c κs = search needs
-
 returns : tie.Need-returns
 unfolding aliased
 returns c = λ p size piece-size st h.
@@ -28,9 +25,6 @@ returns-2 c = λ p size piece-size st h.
     let l : size / 12 ≤ a .c .nodes = rw (← h .size-is) (c .if2 .taken) in
     rw (before-root _ _ _ _ _ _ _ _ h _ (sym (c .before .before .root-done .ensures) ∙ c .before .if1 .left), no-room _ _ _ _ _ _ _ _ h _ l) refl
 
-byte-offset-of-char-requires : tie.Need-byte-offset-of-char-requires
-byte-offset-of-char-requires c κs = search needs
-
 cast-at : tie.Need-cast-at
 cast-at c =
     let given = c .before .before .before .before .before .before .before .before in
@@ -38,15 +32,6 @@ cast-at c =
     let e = cursor-offset (a .text .now) (a .index) (c .before .byte-offset-of-char .result) (c .before .byte-offset-of-char .ensures) in
     let w = offset-within (given .pre .0 .sound .utf8) (a .index) in
     omega (arith, given .pre .0 .sound .within)
-
-push-complete-requires : tie.Need-push-complete-requires
-push-complete-requires c κs = search needs
-
-same-length : tie.Need-same-length
-same-length c = search needs
-
-same-length-2 : tie.Need-same-length-2
-same-length-2 c = search needs
 
 returns-3 : tie.Need-returns-3
 unfolding aliased
@@ -62,13 +47,5 @@ returns-3 c = λ p size piece-size st h.
 pub on-alias-spec : {M : Type 1} → statement M
 on-alias-spec =
     tie.close
-    (tie.spec
-    root-done-requires
-    returns
-    returns-2
-    byte-offset-of-char-requires
-    cast-at
-    push-complete-requires
-    same-length
-    same-length-2
+    (tie.spec (λ c κs. search needs) returns returns-2 (λ c κs. search needs) cast-at (λ c κs. search needs) (λ c. search needs) (λ c. search needs)
     returns-3)

@@ -17,24 +17,12 @@ returns c = λ p size piece-size st h.
     let a = given .args in
     rw (none-open _ _ _ _ _ _ _ _ h (size / 12) (a .index) (a .mapping) (c .if1 .taken)) refl
 
-innermost-requires : tie.Need-innermost-requires
-innermost-requires c κs = search needs
-
-closes-open-requires : tie.Need-closes-open-requires
-closes-open-requires c κs = search needs
-
-same-length : tie.Need-same-length
-same-length c = search needs
-
 returns-2 : tie.Need-returns-2
 returns-2 c = λ p size piece-size st h.
     let given = c .before .before .before .before .before .before .before .before in
     let a = given .args in
     let d : 0 < a .c .depth = let z = c .before .before .before .before .if1 .left in omega arith in
     rw (mismatched _ _ _ _ _ _ _ _ h d (size / 12) (a .index) (a .mapping) (ap (closes (a .mapping)) (sym (c .before .before .innermost .ensures)) ∙ sym (c .before .closes-open .ensures) ∙ not-true (c .before .closes-open .result) (c .if2 .taken))) refl
-
-same-length-2 : tie.Need-same-length-2
-same-length-2 c = search needs
 
 returns-3 : tie.Need-returns-3
 returns-3 c = λ p size piece-size st h.
@@ -43,9 +31,6 @@ returns-3 c = λ p size piece-size st h.
     let d : 0 < a .c .depth = let z = c .before .before .before .before .before .if1 .left in omega arith in
     let l : size / 12 ≤ a .c .nodes = rw (← h .size-is) (c .if3 .taken) in
     rw (matched _ _ _ _ _ _ _ _ h d (size / 12) (a .index) (a .mapping) (ap (closes (a .mapping)) (sym (c .before .before .before .innermost .ensures)) ∙ sym (c .before .before .closes-open .ensures) ∙ not-false (c .before .before .closes-open .result) (c .before .if2 .left)), no-room _ _ _ _ _ _ _ _ h _ l) refl
-
-byte-offset-of-char-requires : tie.Need-byte-offset-of-char-requires
-byte-offset-of-char-requires c κs = search needs
 
 collection-node-requires : tie.Need-collection-node-requires
 collection-node-requires c κs =
@@ -59,9 +44,6 @@ collection-node-requires c κs =
     let w = offset-within (given .pre .0 .sound .utf8) (a .index) in
     (given .pre .0 .sound, (rw (c .before .before .before .before .innermost .ensures) (on .0, on .1), (rw e w, (rw (c .before .before .before .before .innermost .ensures) (let q = few .0 in omega arith), ready .few))))
 
-sub-t19 : tie.Need-sub-t19
-sub-t19 c = search needs
-
 push-complete-requires : tie.Need-push-complete-requires
 push-complete-requires c κs =
     let given = c .before .before .before .before .before .before .before .before .before .before .before .before .before in
@@ -70,12 +52,6 @@ push-complete-requires c κs =
     let d : 0 < a .c .depth = let z = c .before .before .before .before .before .before .before .before .before .if1 .left in omega arith in
     let l : a .c .nodes < ready .size / 12 = rw (← ready .held .size-is) (c .before .before .before .before .if3 .left) in
     pushable _ _ _ _ _ _ _ _ (popped _ _ _ _ _ _ _ _ (ready .held) d (a .index) (c .before .before .before .byte-offset-of-char .result) (c .before .before .before .byte-offset-of-char .ensures)) (ready .few) l
-
-same-length-3 : tie.Need-same-length-3
-same-length-3 c = search needs
-
-same-length-4 : tie.Need-same-length-4
-same-length-4 c = search needs
 
 returns-4 : tie.Need-returns-4
 returns-4 c = λ p size piece-size st h.
@@ -94,18 +70,5 @@ returns-4 c = λ p size piece-size st h.
 pub on-end-spec : {M : Type 1} → statement M
 on-end-spec =
     tie.close
-    (tie.spec
-    returns
-    innermost-requires
-    closes-open-requires
-    same-length
-    returns-2
-    same-length-2
-    returns-3
-    byte-offset-of-char-requires
-    collection-node-requires
-    sub-t19
-    push-complete-requires
-    same-length-3
-    same-length-4
-    returns-4)
+    (tie.spec returns (λ c κs. search needs) (λ c κs. search needs) (λ c. search needs) returns-2 (λ c. search needs) returns-3 (λ c κs. search needs)
+    collection-node-requires (λ c. search needs) push-complete-requires (λ c. search needs) (λ c. search needs) returns-4)

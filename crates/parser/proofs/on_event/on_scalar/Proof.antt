@@ -15,9 +15,6 @@ use Rattle.parser.specs.Collection.{awaitsValue}
 use Rattle.parser.proofs.on_event.on_scalar.Statement.{statement}
 use Rattle.parser.proofs.on_event.on_scalar.Tie as tie
 
-root-done-requires : tie.Need-root-done-requires
-root-done-requires c κs = search needs
-
 returns : tie.Need-returns
 unfolding scalared
 returns c = λ size piece-size st h.
@@ -32,24 +29,6 @@ returns-2 c = λ size piece-size st h.
     let a = given .args in
     let l : size / 12 ≤ a .c .nodes = rw (← h .size-is) (c .if2 .taken) in
     rw (before-root _ _ _ _ _ _ _ _ h _ (sym (c .before .before .root-done .ensures) ∙ c .before .if1 .left), no-room _ _ _ _ _ _ _ _ h _ l) refl
-
-byte-offset-of-char-requires : tie.Need-byte-offset-of-char-requires
-byte-offset-of-char-requires c κs = search needs
-
-add-end : tie.Need-add-end
-add-end c = search needs
-
-expecting-value-requires : tie.Need-expecting-value-requires
-expecting-value-requires c κs = search needs
-
-sub-scalar-start : tie.Need-sub-scalar-start
-sub-scalar-start c = search needs
-
-part-scalar-start-start : tie.Need-part-scalar-start-start
-part-scalar-start-start c = search needs
-
-part-scalar-start-end : tie.Need-part-scalar-start-end
-part-scalar-start-end c = search needs
 
 scalar-start-requires : tie.Need-scalar-start-requires
 scalar-start-requires c κs =
@@ -74,23 +53,11 @@ tag-info-requires c κs =
     let on : Boundary (a .text .now) (c .before .scalar-start .result) = rw begins (offset-start (a .text .now) u _ (a .style) _ (cur .result .offset) (rw e (offset-boundary u (a .index)))) in
     (given .pre .0 .sound, on)
 
-sub-resolve : tie.Need-sub-resolve
-sub-resolve c = search needs
-
-part-resolve-start : tie.Need-part-resolve-start
-part-resolve-start c = search needs
-
 part-resolve-end : tie.Need-part-resolve-end
 part-resolve-end c = let i = c .before .before .before .before .before .before .before .before .before .before .before .before .before .before .before .before .pre .1 .1 .1 .part .inside in search needs
 
 resolve-requires : tie.Need-resolve-requires
 resolve-requires c κs = c .before .before .before .before .before .before .before .before .before .before .before .before .before .before .before .before .before .pre .1 .1 .0 .parts
-
-sub-scalar-node : tie.Need-sub-scalar-node
-sub-scalar-node c = search needs
-
-part-scalar-node-start : tie.Need-part-scalar-node-start
-part-scalar-node-start c = search needs
 
 part-scalar-node-end : tie.Need-part-scalar-node-end
 part-scalar-node-end c = let i = c .before .before .before .before .before .before .before .before .before .before .before .before .before .before .before .before .before .before .pre .1 .1 .1 .part .inside in search needs
@@ -111,12 +78,6 @@ scalar-node-requires c κs =
     let is = range-is (a .events .now) (a .value) in
     let few = part-few (a .events .now) (a .value) 65535 (read .few) in
     (given .pre .0 .sound, (rw is (read .part .utf8), (rw is (omega arith), on .within)))
-
-sub-keep-scalar : tie.Need-sub-keep-scalar
-sub-keep-scalar c = search needs
-
-part-keep-scalar-start : tie.Need-part-keep-scalar-start
-part-keep-scalar-start c = search needs
 
 part-keep-scalar-end : tie.Need-part-keep-scalar-end
 part-keep-scalar-end c = let i = c .before .before .before .before .before .before .before .before .before .before .before .before .before .before .before .before .before .before .before .before .before .before .before .pre .1 .1 .1 .part .inside in search needs
@@ -143,15 +104,6 @@ keep-scalar-requires c κs =
       (c .before .before .before .before .before .before .before .before .before .before .before .before .before .before .before .before .if2 .left, ((given .pre .0 .sound .within, rw is (omega arith)), (rw from on, (omega arith, omega arith)))),
     )
 
-same-length : tie.Need-same-length
-same-length c = search needs
-
-same-length-2 : tie.Need-same-length-2
-same-length-2 c = search needs
-
-same-length-3 : tie.Need-same-length-3
-same-length-3 c = search needs
-
 returns-3 : tie.Need-returns-3
 unfolding scalared
 returns-3 c = λ size piece-size st h.
@@ -173,33 +125,8 @@ returns-3 c = λ size piece-size st h.
 pub on-scalar-spec : {M : Type 1} → statement M
 on-scalar-spec =
     tie.close
-    (tie.spec
-    root-done-requires
-    returns
-    returns-2
-    byte-offset-of-char-requires
-    add-end
-    expecting-value-requires
-    sub-scalar-start
-    part-scalar-start-start
-    part-scalar-start-end
-    scalar-start-requires
-    suffix-of-requires
-    tag-info-requires
-    sub-resolve
-    part-resolve-start
-    part-resolve-end
-    resolve-requires
-    sub-scalar-node
-    part-scalar-node-start
-    part-scalar-node-end
-    cast-scalar-node
-    scalar-node-requires
-    sub-keep-scalar
-    part-keep-scalar-start
-    part-keep-scalar-end
-    keep-scalar-requires
-    same-length
-    same-length-2
-    same-length-3
+    (tie.spec (λ c κs. search needs) returns returns-2 (λ c κs. search needs) (λ c. search needs) (λ c κs. search needs) (λ c. search needs)
+    (λ c. search needs) (λ c. search needs) scalar-start-requires suffix-of-requires tag-info-requires (λ c. search needs) (λ c. search needs)
+    part-resolve-end resolve-requires (λ c. search needs) (λ c. search needs) part-scalar-node-end cast-scalar-node scalar-node-requires
+    (λ c. search needs) (λ c. search needs) part-keep-scalar-end keep-scalar-requires (λ c. search needs) (λ c. search needs) (λ c. search needs)
     returns-3)

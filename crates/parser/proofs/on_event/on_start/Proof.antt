@@ -10,9 +10,6 @@ use Rattle.parser.specs.Machine.{started}
 use Rattle.parser.proofs.on_event.on_start.Statement.{statement}
 use Rattle.parser.proofs.on_event.on_start.Tie as tie
 
-root-done-requires : tie.Need-root-done-requires
-root-done-requires c κs = search needs
-
 returns : tie.Need-returns
 unfolding started
 returns c = λ p size piece-size st h.
@@ -23,9 +20,6 @@ unfolding started
 returns-2 c = λ p size piece-size st h.
     rw (before-root _ _ _ _ _ _ _ _ h _ (sym (c .before .before .root-done .ensures) ∙ c .before .if1 .left), too-deep _ _ _ _ _ _ _ _ h _ (c .if2 .taken)) refl
 
-byte-offset-of-char-requires : tie.Need-byte-offset-of-char-requires
-byte-offset-of-char-requires c κs = search needs
-
 cast-t18 : tie.Need-cast-t18
 cast-t18 c =
     let given = c .before .before .before .before .before .before .before .before .before in
@@ -33,21 +27,6 @@ cast-t18 c =
     let e = cursor-offset (a .text .now) (a .index) (c .before .before .byte-offset-of-char .result) (c .before .before .byte-offset-of-char .ensures) in
     let w = offset-within (given .pre .0 .sound .utf8) (a .index) in
     omega (arith, given .pre .0 .sound .within)
-
-suffix-of-requires : tie.Need-suffix-of-requires
-suffix-of-requires c κs = search needs
-
-cast-t20 : tie.Need-cast-t20
-cast-t20 c = search needs
-
-push-open-requires : tie.Need-push-open-requires
-push-open-requires c κs = search needs
-
-add-t14 : tie.Need-add-t14
-add-t14 c = search needs
-
-same-length : tie.Need-same-length
-same-length c = search needs
 
 returns-3 : tie.Need-returns-3
 returns-3 c = λ p size piece-size st h.
@@ -61,15 +40,5 @@ returns-3 c = λ p size piece-size st h.
 pub on-start-spec : {M : Type 1} → statement M
 on-start-spec =
     tie.close
-    (tie.spec
-    root-done-requires
-    returns
-    returns-2
-    byte-offset-of-char-requires
-    cast-t18
-    suffix-of-requires
-    cast-t20
-    push-open-requires
-    add-t14
-    same-length
-    returns-3)
+    (tie.spec (λ c κs. search needs) returns returns-2 (λ c κs. search needs) cast-t18 (λ c κs. search needs) (λ c. search needs)
+    (λ c κs. search needs) (λ c. search needs) (λ c. search needs) returns-3)

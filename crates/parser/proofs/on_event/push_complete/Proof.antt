@@ -6,22 +6,10 @@ use Rattle.parser.proofs.Turns.{pushed}
 use Rattle.parser.proofs.on_event.push_complete.Statement.{statement}
 use Rattle.parser.proofs.on_event.push_complete.Tie as tie
 
-put-record-requires : tie.Need-put-record-requires
-put-record-requires c κs = search needs
-
 add-child-requires : tie.Need-add-child-requires
 add-child-requires c κs =
     let given = c .before .before .before .before .before .before .before .before in
     (let long = given .pre .stack-size in let deep = given .pre .deep in omega arith, record { nodes = given .args .c .nodes; below = given .pre .below; few = given .pre .few })
-
-add-t13 : tie.Need-add-t13
-add-t13 c = search needs
-
-same-length : tie.Need-same-length
-same-length c = search needs
-
-same-length-2 : tie.Need-same-length-2
-same-length-2 c = search needs
 
 returns : tie.Need-returns
 returns c = λ text size piece-size st p on h.
@@ -33,4 +21,4 @@ returns c = λ text size piece-size st p on h.
 pub push-complete-spec : {M : Type 1} → statement M
 push-complete-spec =
     tie.close
-    (tie.spec put-record-requires add-child-requires add-t13 same-length same-length-2 returns)
+    (tie.spec (λ c κs. search needs) add-child-requires (λ c. search needs) (λ c. search needs) (λ c. search needs) returns)

@@ -12,23 +12,11 @@ use Rattle.parser.specs.Scalar.{scalarFrom, spanLen, listAt}
 use Rattle.parser.proofs.one.one_scalar.Statement.{statement}
 use Rattle.parser.proofs.one.one_scalar.Tie as tie
 
-refused-requires : tie.Need-refused-requires
-refused-requires c κs = search needs
-
 returns : tie.Need-returns
 returns c = let given = c .before .before .before .before .before in let a = given .args in rw (c .refused .ensures) (style-unknown (a .text .now) (a .index) (a .column) (a .style) (a .empty) (a .value .now) (length (a .pieces .now)) _ (c .before .if1 .taken) (given .pre .1 .1 .1 .0))
 
 byte-offset-of-char-requires : tie.Need-byte-offset-of-char-requires
 byte-offset-of-char-requires c κs = let given = c .before .before .before .before in (given .pre .0 .utf8, (given .pre .1 .1 .0, stands-start (given .args .text .now)))
-
-slice-aggregate-resolve-scalar : tie.Need-slice-aggregate-resolve-scalar
-slice-aggregate-resolve-scalar c = search needs
-
-slice-aggregate-resolve-scalar-2 : tie.Need-slice-aggregate-resolve-scalar-2
-slice-aggregate-resolve-scalar-2 c = search needs
-
-resolve-scalar-requires : tie.Need-resolve-scalar-requires
-resolve-scalar-requires c κs = search needs
 
 scalar-node-requires : tie.Need-scalar-node-requires
 scalar-node-requires c κs =
@@ -38,9 +26,6 @@ scalar-node-requires c κs =
     let e = cursor-offset (a .text .now) (a .index) (cur .result) (cur .ensures) in
     let inside : cur .result .offset ≤ length (a .text .now) = rw e (offset-within (given .pre .0 .utf8) (a .index)) in
     (given .pre .0, (given .pre .1 .0 .utf8, (let l = given .pre .1 .0 .within in omega arith, inside)))
-
-cast-len : tie.Need-cast-len
-cast-len c = search needs
 
 sub-len : tie.Need-sub-len
 sub-len c =
@@ -69,18 +54,6 @@ walk-scalar-requires c κs =
     let w = span-within (a .text .now) (scalarFrom (cur .result .offset) (a .column) (a .style) (a .empty) (a .value .now) 0) inside in
     ((given .pre .0 .within, given .pre .1 .0 .within, omega arith), given .pre .1 .1 .1 .0)
 
-enum-told : tie.Need-enum-told
-enum-told c = search needs
-
-refused-requires-2 : tie.Need-refused-requires-2
-refused-requires-2 c κs = search needs
-
-enum-told-2 : tie.Need-enum-told-2
-enum-told-2 c = search needs
-
-enum-known-n : tie.Need-enum-known-n
-enum-known-n c = search needs
-
 cast-with-list : tie.Need-cast-with-list
 cast-with-list c =
     let given = c .before .before .before .before .before .before .before .before .before .before .before .before .before .before .before .before .before in
@@ -95,12 +68,6 @@ cast-with-list c =
     let walked = c .before .before .before .before .before .walk-scalar in
     let w = rw (← from) at (walked .ensures) in
     let n = c .before .n .given in omega (arith, listed-few (length (a .pieces .now)) (given .pre .1 .1 .1 .1) (y .result) (listAt (a .text .now) (y .result .extent .start) (y .result .extent .end - y .result .extent .start) (a .value .now) (a .style) (a .column)) (n .0 .0) (walked .last .1 .1 .1 .1 .1 .1 .0) (walked .kept .1 .1 .1 .1 .1 .1 .0) (rw (n .1) at w), given .pre .1 .1 .1 .1)
-
-with-list-requires : tie.Need-with-list-requires
-with-list-requires c κs = search needs
-
-same-length : tie.Need-same-length
-same-length c = search needs
 
 returns-2 : tie.Need-returns-2
 returns-2 c =
@@ -117,9 +84,6 @@ returns-2 c =
     let w = rw (← from) at (walked .ensures) in
     rw ((one-is (a .text .now) (a .index) (a .column) (a .style) (a .empty) (a .value .now) (length (a .pieces .now)) (cur .result .offset) (c .before .before .before .before .before .before .before .before .before .resolve-scalar .result) (y .result) (c .before .before .before .before .before .before .before .before .before .before .before .before .before .if1 .left) e (c .before .before .before .before .before .before .before .before .before .resolve-scalar .ensures) (y .ensures)), c .refused2 .ensures) (one-no-room (length (a .pieces .now)) (given .pre .1 .1 .1 .1) (y .result) (listAt (a .text .now) (y .result .extent .start) (y .result .extent .end - y .result .extent .start) (a .value .now) (a .style) (a .column)) (walked .last .1 .1 .1 .1 .1 .1 .0) (rw (c .before .enum-told .given .1) at w))
 
-same-length-2 : tie.Need-same-length-2
-same-length-2 c = search needs
-
 returns-3 : tie.Need-returns-3
 returns-3 c =
     let given = c .before .before .before .before .before .before .before .before .before .before .before .before .before .before .before .before in
@@ -134,9 +98,6 @@ returns-3 c =
     let walked = c .before .before .before .before .walk-scalar in
     let w = rw (← from) at (walked .ensures) in
     rw (one-is (a .text .now) (a .index) (a .column) (a .style) (a .empty) (a .value .now) (length (a .pieces .now)) (cur .result .offset) (c .before .before .before .before .before .before .before .before .resolve-scalar .result) (y .result) (c .before .before .before .before .before .before .before .before .before .before .before .before .if1 .left) e (c .before .before .before .before .before .before .before .before .resolve-scalar .ensures) (y .ensures)) (one-no-list (length (a .pieces .now)) (given .pre .1 .1 .1 .1) (y .result) (listAt (a .text .now) (y .result .extent .start) (y .result .extent .end - y .result .extent .start) (a .value .now) (a .style) (a .column)) (walked .last .1 .1 .1 .1 .1 .1 .0) (rw (c .enum-told2 .given .1) at w))
-
-same-length-3 : tie.Need-same-length-3
-same-length-3 c = search needs
 
 returns-4 : tie.Need-returns-4
 returns-4 c =
@@ -156,26 +117,7 @@ returns-4 c =
 pub one-scalar-spec : {M : Type 1} → statement M
 one-scalar-spec =
     tie.close
-    (tie.spec
-    refused-requires
-    returns
-    byte-offset-of-char-requires
-    slice-aggregate-resolve-scalar
-    slice-aggregate-resolve-scalar-2
-    resolve-scalar-requires
-    scalar-node-requires
-    cast-len
-    sub-len
-    walk-scalar-requires
-    enum-told
-    refused-requires-2
-    enum-told-2
-    enum-known-n
-    cast-with-list
-    with-list-requires
-    same-length
-    returns-2
-    same-length-2
-    returns-3
-    same-length-3
+    (tie.spec (λ c κs. search needs) returns byte-offset-of-char-requires (λ c. search needs) (λ c. search needs) (λ c κs. search needs)
+    scalar-node-requires (λ c. search needs) sub-len walk-scalar-requires (λ c. search needs) (λ c κs. search needs) (λ c. search needs)
+    (λ c. search needs) cast-with-list (λ c κs. search needs) (λ c. search needs) returns-2 (λ c. search needs) returns-3 (λ c. search needs)
     returns-4)

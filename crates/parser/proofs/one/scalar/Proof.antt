@@ -11,33 +11,6 @@ use borrow.Author.Needs.{needs}
 use Rattle.parser.proofs.one.scalar.Statement.{statement}
 use Rattle.parser.proofs.one.scalar.Tie as tie
 
-clear-requires : tie.Need-clear-requires
-clear-requires c κs = search needs
-
-admit-text-and-value-requires : tie.Need-admit-text-and-value-requires
-admit-text-and-value-requires c κs = search needs
-
-enum-told : tie.Need-enum-told
-enum-told c = search needs
-
-refused-requires : tie.Need-refused-requires
-refused-requires c κs = search needs
-
-enum-told-2 : tie.Need-enum-told-2
-enum-told-2 c = search needs
-
-refused-requires-2 : tie.Need-refused-requires-2
-refused-requires-2 c κs = search needs
-
-enum-known-ascii : tie.Need-enum-known-ascii
-enum-known-ascii c = search needs
-
-usable-requires : tie.Need-usable-requires
-usable-requires c κs = search needs
-
-slice-relend-prefix-one-scalar : tie.Need-slice-relend-prefix-one-scalar
-slice-relend-prefix-one-scalar c = search needs
-
 slice-aggregate-one-scalar : tie.Need-slice-aggregate-one-scalar
 slice-aggregate-one-scalar c = let n = c .before .usable in sym (length-take-le (n .result) (c .before .before .before .before .before .before .before .before .clear .last .0) (let e = n .ensures in omega arith))
 
@@ -62,9 +35,6 @@ one-scalar-requires c κs =
       ),
     )
 
-same-length : tie.Need-same-length
-same-length c = search needs
-
 returns : tie.Need-returns
 returns c =
     let a = c .before .before .before .before .before .before .before .before .before .before .before .args in
@@ -72,18 +42,12 @@ returns c =
     let p = c .before .before .before .before .before .before .clear in
     rw (c .refused .ensures) (scalar-too-long (a .text .now) (a .index) (a .column) (a .style) (a .empty) (a .value .now) size _ (sym (c .before .before .before .admit-text-and-value .ensures) ∙ c .before .enum-told .given .1) (p .ensures))
 
-same-length-2 : tie.Need-same-length-2
-same-length-2 c = search needs
-
 returns-2 : tie.Need-returns-2
 returns-2 c =
     let a = c .before .before .before .before .before .before .before .before .before .before .before .args in
     let size = length (a .pieces .now) in
     let p = c .before .before .before .before .before .before .clear in
     rw (c .refused2 .ensures) (scalar-no-utf8 (a .text .now) (a .index) (a .column) (a .style) (a .empty) (a .value .now) size _ (sym (c .before .before .before .admit-text-and-value .ensures) ∙ c .before .enum-told2 .given .1) (p .ensures))
-
-same-length-3 : tie.Need-same-length-3
-same-length-3 c = search needs
 
 returns-3 : tie.Need-returns-3
 returns-3 c =
@@ -100,21 +64,6 @@ returns-3 c =
 pub scalar-spec : {M : Type 1} → statement M
 scalar-spec =
     tie.close
-    (tie.spec
-    clear-requires
-    admit-text-and-value-requires
-    enum-told
-    refused-requires
-    enum-told-2
-    refused-requires-2
-    enum-known-ascii
-    usable-requires
-    slice-relend-prefix-one-scalar
-    slice-aggregate-one-scalar
-    one-scalar-requires
-    same-length
-    returns
-    same-length-2
-    returns-2
-    same-length-3
-    returns-3)
+    (tie.spec (λ c κs. search needs) (λ c κs. search needs) (λ c. search needs) (λ c κs. search needs) (λ c. search needs) (λ c κs. search needs)
+    (λ c. search needs) (λ c κs. search needs) (λ c. search needs) slice-aggregate-one-scalar one-scalar-requires (λ c. search needs) returns
+    (λ c. search needs) returns-2 (λ c. search needs) returns-3)

@@ -7,47 +7,17 @@ use Prim.Native.Nat.{_+_, _-_}
 use Rattle.parser.proofs.scalar.resolve.Statement.{statement}
 use Rattle.parser.proofs.scalar.resolve.Tie as tie
 
-enum-told : tie.Need-enum-told
-enum-told c = search needs
-
-slice-aggregate-resolve-scalar : tie.Need-slice-aggregate-resolve-scalar
-slice-aggregate-resolve-scalar c = search needs
-
-slice-aggregate-resolve-scalar-2 : tie.Need-slice-aggregate-resolve-scalar-2
-slice-aggregate-resolve-scalar-2 c = search needs
-
-resolve-scalar-requires : tie.Need-resolve-scalar-requires
-resolve-scalar-requires c κs = search needs
-
-enum-known-tag : tie.Need-enum-known-tag
-enum-known-tag c = search needs
-
 add-handle-end : tie.Need-add-handle-end
 add-handle-end c = let t = c .before .before .tag .given in let p = rw (t .1) at (c .before .before .before .before .before .before .pre) in let i = p .0 .inside in search needs
 
 add-suffix-end : tie.Need-add-suffix-end
 add-suffix-end c = let t = c .before .before .before .tag .given in let p = rw (t .1) at (c .before .before .before .before .before .before .before .pre) in let i = p .1 .inside in search needs
 
-sub-resolve-scalar : tie.Need-sub-resolve-scalar
-sub-resolve-scalar c = search needs
-
-part-resolve-scalar-start : tie.Need-part-resolve-scalar-start
-part-resolve-scalar-start c = search needs
-
 part-resolve-scalar-end : tie.Need-part-resolve-scalar-end
 part-resolve-scalar-end c = let t = c .before .before .before .tag .given in let p = rw (t .1) at (c .before .before .before .before .before .before .before .pre) in let i = p .0 .inside in search needs
 
-sub-resolve-scalar-2 : tie.Need-sub-resolve-scalar-2
-sub-resolve-scalar-2 c = search needs
-
-part-resolve-scalar-start-2 : tie.Need-part-resolve-scalar-start-2
-part-resolve-scalar-start-2 c = search needs
-
 part-resolve-scalar-end-2 : tie.Need-part-resolve-scalar-end-2
 part-resolve-scalar-end-2 c = let t = c .before .before .before .before .tag .given in let p = rw (t .1) at (c .before .before .before .before .before .before .before .before .pre) in let i = p .1 .inside in search needs
-
-resolve-scalar-requires-2 : tie.Need-resolve-scalar-requires-2
-resolve-scalar-requires-2 c κs = search needs
 
 returns : tie.Need-returns
 unfolding resolvedBy
@@ -66,20 +36,6 @@ returns-2 c =
 pub resolve-spec : {M : Type 1} → statement M
 resolve-spec =
     tie.close
-    (tie.spec
-    enum-told
-    slice-aggregate-resolve-scalar
-    slice-aggregate-resolve-scalar-2
-    resolve-scalar-requires
-    enum-known-tag
-    add-handle-end
-    add-suffix-end
-    sub-resolve-scalar
-    part-resolve-scalar-start
-    part-resolve-scalar-end
-    sub-resolve-scalar-2
-    part-resolve-scalar-start-2
-    part-resolve-scalar-end-2
-    resolve-scalar-requires-2
-    returns
-    returns-2)
+    (tie.spec (λ c. search needs) (λ c. search needs) (λ c. search needs) (λ c κs. search needs) (λ c. search needs) add-handle-end add-suffix-end
+    (λ c. search needs) (λ c. search needs) part-resolve-scalar-end (λ c. search needs) (λ c. search needs) part-resolve-scalar-end-2
+    (λ c κs. search needs) returns returns-2)

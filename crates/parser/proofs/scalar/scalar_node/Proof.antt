@@ -7,15 +7,6 @@ use Rattle.parser.proofs.Starts.{span-within}
 use Rattle.parser.proofs.scalar.scalar_node.Statement.{statement}
 use Rattle.parser.proofs.scalar.scalar_node.Tie as tie
 
-span-len-requires : tie.Need-span-len-requires
-span-len-requires c κs = search needs
-
-kind-number-requires : tie.Need-kind-number-requires
-kind-number-requires c κs = search needs
-
-cast-t12 : tie.Need-cast-t12
-cast-t12 c = search needs
-
 add-t13 : tie.Need-add-t13
 add-t13 c =
     let given = c .before .before .before .before in
@@ -32,12 +23,6 @@ cast-t14 c =
     let e = c .before .span-len .ensures in
     omega (arith, given .pre .0 .within)
 
-cast-payload-of : tie.Need-cast-payload-of
-cast-payload-of c = search needs
-
-payload-of-requires : tie.Need-payload-of-requires
-payload-of-requires c κs = search needs
-
 returns : tie.Need-returns
 unfolding scalarNode spanLen
 returns c = rw (c .before .kind-number .ensures, c .before .before .span-len .ensures, c .payload-of .ensures) refl
@@ -45,12 +30,4 @@ returns c = rw (c .before .kind-number .ensures, c .before .before .span-len .en
 pub scalar-node-spec : {M : Type 1} → statement M
 scalar-node-spec =
     tie.close
-    (tie.spec
-    span-len-requires
-    kind-number-requires
-    cast-t12
-    add-t13
-    cast-t14
-    cast-payload-of
-    payload-of-requires
-    returns)
+    (tie.spec (λ c κs. search needs) (λ c κs. search needs) (λ c. search needs) add-t13 cast-t14 (λ c. search needs) (λ c κs. search needs) returns)

@@ -15,9 +15,6 @@ returns-2 : tie.Need-returns-2
 unfolding scalarStart
 returns-2 c = rw (not-false (c .before .before .before .before .args .awaited) (c .before .if1 .left), ne-eqb (c .before .before .before .before .args .style) 0 (c .if2 .taken)) refl
 
-step-past-requires : tie.Need-step-past-requires
-step-past-requires c κs = search needs
-
 returns-3 : tie.Need-returns-3
 unfolding scalarStart
 returns-3 c = rw (not-false (c .before .before .before .before .before .before .args .awaited) (c .before .before .before .if1 .left), eq-eqb _ _ (c .before .before .if2 .left), eq-eqb _ _ (c .before .if3 .taken)) (c .step-past .ensures)
@@ -27,4 +24,4 @@ unfolding scalarStart
 returns-4 c = rw (not-false (c .before .before .before .before .before .args .awaited) (c .before .before .if1 .left), eq-eqb _ _ (c .before .if2 .left), ne-eqb (length (c .before .before .before .before .before .args .value .now)) 0 (c .if3 .left)) refl
 
 pub scalar-start-spec : {M : Type 1} → statement M
-scalar-start-spec = tie.close (tie.spec returns returns-2 step-past-requires returns-3 returns-4)
+scalar-start-spec = tie.close (tie.spec returns returns-2 (λ c κs. search needs) returns-3 returns-4)

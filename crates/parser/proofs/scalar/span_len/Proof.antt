@@ -7,17 +7,11 @@ use Rattle.parser.proofs.Starts.{rest-is, rest-utf8}
 use Rattle.parser.proofs.scalar.span_len.Statement.{statement}
 use Rattle.parser.proofs.scalar.span_len.Tie as tie
 
-is-boundary-requires : tie.Need-is-boundary-requires
-is-boundary-requires c κs = search needs
-
 sub-scalar-len : tie.Need-sub-scalar-len
 sub-scalar-len c = is-boundary (sym (c .before .is-boundary .ensures) ∙ c .if1 .taken) .within
 
 part-scalar-len-start : tie.Need-part-scalar-len-start
 part-scalar-len-start c = let w = is-boundary (sym (c .before .is-boundary .ensures) ∙ c .if1 .taken) .within in search needs
-
-part-scalar-len-end : tie.Need-part-scalar-len-end
-part-scalar-len-end c = search needs
 
 scalar-len-requires : tie.Need-scalar-len-requires
 scalar-len-requires c κs = (rest-utf8 (c .before .before .before .before .before .args .text .now) (c .before .before .before .before .before .args .start) (c .before .before .before .before .before .pre .0) (is-boundary (sym (c .before .before .is-boundary .ensures) ∙ c .before .if1 .taken)), c .before .before .before .before .before .pre .1)
@@ -33,11 +27,4 @@ returns-2 c = rw (sym (c .before .is-boundary .ensures) ∙ c .if1 .left) refl
 pub span-len-spec : {M : Type 1} → statement M
 span-len-spec =
     tie.close
-    (tie.spec
-    is-boundary-requires
-    sub-scalar-len
-    part-scalar-len-start
-    part-scalar-len-end
-    scalar-len-requires
-    returns
-    returns-2)
+    (tie.spec (λ c κs. search needs) sub-scalar-len part-scalar-len-start (λ c. search needs) scalar-len-requires returns returns-2)

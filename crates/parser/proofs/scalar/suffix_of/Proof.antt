@@ -5,12 +5,6 @@ use native.Mathlib.Omega.{arith}
 use Rattle.parser.proofs.scalar.suffix_of.Statement.{statement}
 use Rattle.parser.proofs.scalar.suffix_of.Tie as tie
 
-enum-told : tie.Need-enum-told
-enum-told c = search needs
-
-enum-known-tag : tie.Need-enum-known-tag
-enum-known-tag c = search needs
-
 cast-t4 : tie.Need-cast-t4
 cast-t4 c = let t = c .before .before .tag .given in let p = rw (t .1) at (c .before .before .before .before .pre) in omega (arith, p .0)
 
@@ -24,4 +18,4 @@ returns-2 : tie.Need-returns-2
 returns-2 c = rw (c .before .before .before .tag .given .1) refl
 
 pub suffix-of-spec : {M : Type 1} → statement M
-suffix-of-spec = tie.close (tie.spec enum-told enum-known-tag cast-t4 cast-t5 returns returns-2)
+suffix-of-spec = tie.close (tie.spec (λ c. search needs) (λ c. search needs) cast-t4 cast-t5 returns returns-2)

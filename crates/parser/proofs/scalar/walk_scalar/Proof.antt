@@ -6,15 +6,6 @@ use Rattle.parser.proofs.Pieces.{walks-of}
 use Rattle.parser.proofs.scalar.walk_scalar.Statement.{statement}
 use Rattle.parser.proofs.scalar.walk_scalar.Tie as tie
 
-is-boundary-requires : tie.Need-is-boundary-requires
-is-boundary-requires c κs = search needs
-
-scalar-provenance-requires : tie.Need-scalar-provenance-requires
-scalar-provenance-requires c κs = search needs
-
-same-length : tie.Need-same-length
-same-length c = search needs
-
 returns : tie.Need-returns
 unfolding listAt
 returns c = rw (sym (c .before .before .before .before .before .is-boundary .ensures) ∙ c .before .before .before .before .if1 .taken) (walks-of _ _ _ _ (c .before .before .scalar-provenance .ensures .0) (c .before .before .scalar-provenance .ensures .1))
@@ -26,4 +17,4 @@ returns-2 c = rw (sym (c .before .is-boundary .ensures) ∙ c .if1 .left) (c .be
 pub walk-scalar-spec : {M : Type 1} → statement M
 walk-scalar-spec =
     tie.close
-    (tie.spec is-boundary-requires scalar-provenance-requires same-length returns returns-2)
+    (tie.spec (λ c κs. search needs) (λ c κs. search needs) (λ c. search needs) returns returns-2)

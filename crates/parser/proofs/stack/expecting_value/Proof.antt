@@ -7,12 +7,6 @@ use Rattle.parser.proofs.Frames.{awaits-inner}
 use Rattle.parser.proofs.stack.expecting_value.Statement.{statement}
 use Rattle.parser.proofs.stack.expecting_value.Tie as tie
 
-returns : tie.Need-returns
-returns c = search needs
-
-innermost-requires : tie.Need-innermost-requires
-innermost-requires c κs = search needs
-
 returns-2 : tie.Need-returns-2
 returns-2 c =
     let a = c .before .before .before .before .before .args in
@@ -26,4 +20,4 @@ returns-3 c =
     rw (awaits-inner (a .depth) (a .stack .now) (c .before .innermost .result) l (c .before .innermost .ensures), c .if2 .left) refl
 
 pub expecting-value-spec : {M : Type 1} → statement M
-expecting-value-spec = tie.close (tie.spec returns innermost-requires returns-2 returns-3)
+expecting-value-spec = tie.close (tie.spec (λ c. search needs) (λ c κs. search needs) returns-2 returns-3)

@@ -10,12 +10,6 @@ use borrow.Author.Needs.{needs}
 use Rattle.provenance.proofs.escape.backslash_escape.Statement.{statement}
 use Rattle.provenance.proofs.escape.backslash_escape.Tie as tie
 
-byte-at-requires : tie.Need-byte-at-requires
-byte-at-requires c κs = search needs
-
-is-one-byte-escape-requires : tie.Need-is-one-byte-escape-requires
-is-one-byte-escape-requires c κs = search needs
-
 returns : tie.Need-returns
 returns c =
     let l = c .before .before .before .before .args .after .now in
@@ -37,17 +31,11 @@ returns-3 c =
     slash-u (c .before .before .before .before .before .byte-at .result) l (sym (c .before .before .before .before .is-one-byte-escape .ensures) ∙ c .before .before .before .if1 .left) (c .before .before .if2 .left) (c .unicode-content-at .result) (c .before .if3 .taken) (c .unicode-content-at .ensures)
     ∙ ap (λ (k : ℕ). backslashEscape k l) (c .before .before .before .before .before .byte-at .ensures)
 
-line-escape-requires : tie.Need-line-escape-requires
-line-escape-requires c κs = search needs
-
 returns-4 : tie.Need-returns-4
 returns-4 c =
     let l = c .before .before .before .before .before .before .before .before .args .after .now in
     slash-newline (c .before .before .before .before .before .before .byte-at .result) l (sym (c .before .before .before .before .before .is-one-byte-escape .ensures) ∙ c .before .before .before .before .if1 .left) (c .before .before .before .if2 .left) (c .before .before .if3 .left) (c .line-escape .result) (c .before .if4 .taken) (c .line-escape .ensures)
     ∙ ap (λ (k : ℕ). backslashEscape k l) (c .before .before .before .before .before .before .byte-at .ensures)
-
-line-escape-requires-2 : tie.Need-line-escape-requires-2
-line-escape-requires-2 c κs = search needs
 
 returns-5 : tie.Need-returns-5
 returns-5 c =
@@ -64,15 +52,5 @@ returns-6 c =
 pub backslash-escape-spec : {M : Type 1} → statement M
 backslash-escape-spec =
     tie.close
-    (tie.spec
-    byte-at-requires
-    is-one-byte-escape-requires
-    returns
-    returns-2
-    unicode-content-at-requires
-    returns-3
-    line-escape-requires
-    returns-4
-    line-escape-requires-2
-    returns-5
-    returns-6)
+    (tie.spec (λ c κs. search needs) (λ c κs. search needs) returns returns-2 unicode-content-at-requires returns-3 (λ c κs. search needs) returns-4
+    (λ c κs. search needs) returns-5 returns-6)

@@ -28,9 +28,6 @@ loop-holds c = (omega arith, sixteens-some (c .before .before .args .from), sym 
 shared-slice-read-b : tie.Need-shared-slice-read-b Inv-loop μ-loop
 shared-slice-read-b c = omega arith
 
-is-hex-digit-requires : tie.Need-is-hex-digit-requires Inv-loop μ-loop
-is-hex-digit-requires c κs = tt
-
 returns-2 : tie.Need-returns-2 Inv-loop μ-loop
 returns-2 c = no-code ∙ ap codeContent (sym (digits-bad (c .before .before .before .before .before .before .before .args .tail .now) (c .before .before .before .before .loop .i) (c .before .before .before .before .loop .code) (c .before .before .before .loop-test .taken) (sym (c .before .is-hex-digit .ensures) ∙ not-true _ (c .if2 .taken))) ∙ c .before .before .before .before .loop .inv .2)
 
@@ -68,19 +65,5 @@ returns-3 c = c .code-content .ensures ∙ ap codeContent (sym (digits-end (c .b
 pub digits-content-spec : {M : Type 1} → statement M
 digits-content-spec =
     tie.close
-    (tie.spec
-    Inv-loop
-    μ-loop
-    returns
-    loop-holds
-    shared-slice-read-b
-    is-hex-digit-requires
-    returns-2
-    mul-code
-    digit-value-requires
-    add-code
-    add-i
-    loop-less
-    loop-again
-    code-content-requires
-    returns-3)
+    (tie.spec Inv-loop μ-loop returns loop-holds shared-slice-read-b (λ c κs. tt) returns-2 mul-code digit-value-requires add-code add-i loop-less
+    loop-again code-content-requires returns-3)

@@ -5,14 +5,8 @@ use borrow.Author.Needs.{needs}
 use Rattle.provenance.proofs.escape.escape_len.Statement.{statement}
 use Rattle.provenance.proofs.escape.escape_len.Tie as tie
 
-single-quote-escape-requires : tie.Need-single-quote-escape-requires
-single-quote-escape-requires c κs = search needs
-
 returns : tie.Need-returns
 returns c = by-single (c .before .before .before .args .style) (c .before .before .before .args .tail .now) _ (c .before .if1 .taken) (c .single-quote-escape .ensures)
-
-double-quote-escape-requires : tie.Need-double-quote-escape-requires
-double-quote-escape-requires c κs = search needs
 
 returns-2 : tie.Need-returns-2
 returns-2 c = by-double (c .before .before .before .before .args .style) (c .before .before .before .before .args .tail .now) _ (c .before .before .if1 .left) (c .before .if2 .taken) (c .double-quote-escape .ensures)
@@ -23,9 +17,4 @@ returns-3 c = by-neither (c .before .before .before .args .style) (c .before .be
 pub escape-len-spec : {M : Type 1} → statement M
 escape-len-spec =
     tie.close
-    (tie.spec
-    single-quote-escape-requires
-    returns
-    double-quote-escape-requires
-    returns-2
-    returns-3)
+    (tie.spec (λ c κs. search needs) returns (λ c κs. search needs) returns-2 returns-3)

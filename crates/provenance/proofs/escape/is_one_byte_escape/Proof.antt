@@ -19,9 +19,6 @@ abbrev μ-loop : tie.MeasureT-loop
 loop-holds : tie.Need-loop-holds Inv-loop μ-loop
 loop-holds c = (omega arith, refl)
 
-array-read-if1 : tie.Need-array-read-if1 Inv-loop μ-loop
-array-read-if1 c = search needs
-
 returns : tie.Need-returns Inv-loop μ-loop
 unfolding oneByteEscapes
 returns c = sym (one-here oneByteEscapes (c .before .before .loop .i) (c .before .before .before .args .c) (omega arith) (c .if1 .taken)) ∙ c .before .before .loop .inv .1
@@ -43,13 +40,4 @@ returns-2 c = sym (one-none oneByteEscapes (c .before .loop .i) (c .before .befo
 pub is-one-byte-escape-spec : {M : Type 1} → statement M
 is-one-byte-escape-spec =
     tie.close
-    (tie.spec
-    Inv-loop
-    μ-loop
-    loop-holds
-    array-read-if1
-    returns
-    add-i
-    loop-less
-    loop-again
-    returns-2)
+    (tie.spec Inv-loop μ-loop loop-holds (λ c. search needs) returns add-i loop-less loop-again returns-2)

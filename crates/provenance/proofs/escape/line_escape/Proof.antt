@@ -9,9 +9,6 @@ use borrow.Author.Needs.{needs}
 use Rattle.provenance.proofs.escape.line_escape.Statement.{statement}
 use Rattle.provenance.proofs.escape.line_escape.Tie as tie
 
-white-space-run-requires : tie.Need-white-space-run-requires
-white-space-run-requires c κs = search needs
-
 add-t3 : tie.Need-add-t3
 add-t3 c = let n = numbers-of _ (c .before .before .before .args .after .now) (c .before .white-space-run .ensures) .0 in let w = run-within (c .before .before .before .args .after .now) in omega arith
 
@@ -19,4 +16,4 @@ returns : tie.Need-returns
 returns c = ap (λ (k : ℕ). Takes (1 + k) 0) (numbers-of _ (c .before .before .before .args .after .now) (c .before .white-space-run .ensures) .0)
 
 pub line-escape-spec : {M : Type 1} → statement M
-line-escape-spec = tie.close (tie.spec white-space-run-requires add-t3 returns)
+line-escape-spec = tie.close (tie.spec (λ c κs. search needs) add-t3 returns)

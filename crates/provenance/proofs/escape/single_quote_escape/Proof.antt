@@ -5,14 +5,8 @@ use borrow.Author.Needs.{needs}
 use Rattle.provenance.proofs.escape.single_quote_escape.Statement.{statement}
 use Rattle.provenance.proofs.escape.single_quote_escape.Tie as tie
 
-byte-at-requires : tie.Need-byte-at-requires
-byte-at-requires c κs = search needs
-
 returns : tie.Need-returns
 returns c = one-quote (c .before .before .before .args .tail .now) (λ e. c .if1 .taken (c .before .byte-at .ensures ∙ e))
-
-byte-at-requires-2 : tie.Need-byte-at-requires-2
-byte-at-requires-2 c κs = search needs
 
 returns-2 : tie.Need-returns-2
 returns-2 c = quote-alone (c .before .before .before .before .before .args .tail .now) (sym (c .before .before .before .byte-at .ensures) ∙ c .before .before .if1 .left) (λ e. c .if2 .taken (c .before .byte-at2 .ensures ∙ e))
@@ -22,4 +16,4 @@ returns-3 c = two-quotes (c .before .before .before .before .before .args .tail 
 
 pub single-quote-escape-spec : {M : Type 1} → statement M
 single-quote-escape-spec =
-    tie.close (tie.spec byte-at-requires returns byte-at-requires-2 returns-2 returns-3)
+    tie.close (tie.spec (λ c κs. search needs) returns (λ c κs. search needs) returns-2 returns-3)

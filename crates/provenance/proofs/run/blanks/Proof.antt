@@ -27,9 +27,6 @@ returns c = let e = c .before .before .loop .inv .2 in let h = c .if1 .taken in 
 shared-slice-read-is-blank : tie.Need-shared-slice-read-is-blank Inv-loop μ-loop
 shared-slice-read-is-blank c = omega arith
 
-is-blank-requires : tie.Need-is-blank-requires Inv-loop μ-loop
-is-blank-requires c κs = tt
-
 returns-2 : tie.Need-returns-2 Inv-loop μ-loop
 returns-2 c = let z = blank-stops (c .before .before .before .before .before .before .before .args .tail .now) (c .before .before .before .before .before .loop .n) (c .before .before .before .before .loop-test .taken) (sym (c .before .is-blank .ensures) ∙ not-true _ (c .if2 .taken)) in omega arith
 
@@ -48,15 +45,4 @@ returns-3 c = let z = blank-ends (c .before .before .before .args .tail .now) (c
 pub blanks-spec : {M : Type 1} → statement M
 blanks-spec =
     tie.close
-    (tie.spec
-    Inv-loop
-    μ-loop
-    loop-holds
-    returns
-    shared-slice-read-is-blank
-    is-blank-requires
-    returns-2
-    add-n
-    loop-less
-    loop-again
-    returns-3)
+    (tie.spec Inv-loop μ-loop loop-holds returns shared-slice-read-is-blank (λ c κs. tt) returns-2 add-n loop-less loop-again returns-3)

@@ -16,9 +16,6 @@ returns-2 : tie.Need-returns-2
 unfolding cutLen
 returns-2 c = rw (not-false (c .before .before .args .block) (c .before .if1 .left), c .if2 .taken)
 
-add-end : tie.Need-add-end
-add-end c = search needs
-
 returns-3 : tie.Need-returns-3
 unfolding cutLen
 returns-3 c = rw (not-false (c .before .before .before .before .args .block) (c .before .before .before .if1 .left), lt-ltb 0 (c .before .before .before .before .args .column) (let z = c .before .before .if2 .left in omega arith)) (let h = c .if3 .taken in omega arith)
@@ -28,4 +25,4 @@ unfolding cutLen
 returns-4 c = rw (not-false (c .before .before .before .before .args .block) (c .before .before .before .if1 .left), lt-ltb 0 (c .before .before .before .before .args .column) (let z = c .before .before .if2 .left in omega arith)) (let h = c .if3 .left in omega arith)
 
 pub cut-len-spec : {M : Type 1} → statement M
-cut-len-spec = tie.close (tie.spec returns returns-2 add-end returns-3 returns-4)
+cut-len-spec = tie.close (tie.spec returns returns-2 (λ c. search needs) returns-3 returns-4)

@@ -41,13 +41,4 @@ returns-2 c = sym (only-ends (c .before .before .args .tail .now) (c .before .lo
 pub only-newlines-spec : {M : Type 1} → statement M
 only-newlines-spec =
     tie.close
-    (tie.spec
-    Inv-loop
-    μ-loop
-    loop-holds
-    shared-slice-read-if1
-    returns
-    add-i
-    loop-less
-    loop-again
-    returns-2)
+    (tie.spec Inv-loop μ-loop loop-holds shared-slice-read-if1 returns add-i loop-less loop-again returns-2)

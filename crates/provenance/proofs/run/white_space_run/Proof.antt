@@ -24,9 +24,6 @@ loop-holds c = (omega arith, omega arith, scan-begins _)
 shared-slice-read-b : tie.Need-shared-slice-read-b Inv-loop μ-loop
 shared-slice-read-b c = omega arith
 
-is-white-space-byte-requires : tie.Need-is-white-space-byte-requires Inv-loop μ-loop
-is-white-space-byte-requires c κs = tt
-
 returns : tie.Need-returns Inv-loop μ-loop
 returns c = sym (scan-stops _ (c .before .before .before .before .loop .len) _ _ (c .before .before .before .loop-test .taken) (sym (c .before .is-white-space-byte .ensures) ∙ not-true _ (c .if1 .taken))) ∙ c .before .before .before .before .loop .inv .2
 
@@ -54,17 +51,5 @@ returns-2 c = sym (scan-ends _ (c .before .loop .len) _ _ (c .loop-test .left)) 
 pub white-space-run-spec : {M : Type 1} → statement M
 white-space-run-spec =
     tie.close
-    (tie.spec
-    Inv-loop
-    μ-loop
-    loop-holds
-    shared-slice-read-b
-    is-white-space-byte-requires
-    returns
-    add-len
-    add-newlines
-    loop-less
-    loop-again
-    loop-less-2
-    loop-again-2
+    (tie.spec Inv-loop μ-loop loop-holds shared-slice-read-b (λ c κs. tt) returns add-len add-newlines loop-less loop-again loop-less-2 loop-again-2
     returns-2)

@@ -10,12 +10,6 @@ use borrow.Author.Needs.{needs}
 use Rattle.provenance.proofs.scalar.scalar_provenance.Statement.{statement}
 use Rattle.provenance.proofs.scalar.scalar_provenance.Tie as tie
 
-walk-start-requires : tie.Need-walk-start-requires
-walk-start-requires c κs = search needs
-
-is-boundary-requires : tie.Need-is-boundary-requires
-is-boundary-requires c κs = search needs
-
 returns : tie.Need-returns
 returns c =
     let a = c .before .before .before .before .before .before .args in
@@ -27,18 +21,12 @@ sub-walk-scalar-provenance c = let h = is-boundary (sym (c .before .is-boundary 
 part-walk-scalar-provenance-start : tie.Need-part-walk-scalar-provenance-start
 part-walk-scalar-provenance-start c = let h = is-boundary (sym (c .before .is-boundary .ensures) ∙ not-false _ (c .if1 .left)) .within in omega arith
 
-part-walk-scalar-provenance-end : tie.Need-part-walk-scalar-provenance-end
-part-walk-scalar-provenance-end c = search needs
-
 walk-scalar-provenance-requires : tie.Need-walk-scalar-provenance-requires
 walk-scalar-provenance-requires c κs =
     let a = c .before .before .before .before .before .before .before .before .args in
     let h = is-boundary (sym (c .before .before .before .is-boundary .ensures) ∙ not-false _ (c .before .before .if1 .left)) .within in
     let d = length-drop (c .before .before .before .before .walk-start .result) (a .text .now) in
     (rw (part-is (a .text .now) (c .before .before .before .before .walk-start .result)) (omega arith, omega arith, omega arith, omega arith), c .before .before .before .before .before .before .before .before .pre .1)
-
-same-length : tie.Need-same-length
-same-length c = search needs
 
 returns-2 : tie.Need-returns-2
 returns-2 c =
@@ -50,13 +38,5 @@ returns-2 c =
 pub scalar-provenance-spec : {M : Type 1} → statement M
 scalar-provenance-spec =
     tie.close
-    (tie.spec
-    walk-start-requires
-    is-boundary-requires
-    returns
-    sub-walk-scalar-provenance
-    part-walk-scalar-provenance-start
-    part-walk-scalar-provenance-end
-    walk-scalar-provenance-requires
-    same-length
-    returns-2)
+    (tie.spec (λ c κs. search needs) (λ c κs. search needs) returns sub-walk-scalar-provenance part-walk-scalar-provenance-start (λ c. search needs)
+    walk-scalar-provenance-requires (λ c. search needs) returns-2)

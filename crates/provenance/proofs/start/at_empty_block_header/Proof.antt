@@ -7,15 +7,6 @@ use borrow.Author.Needs.{needs}
 use Rattle.provenance.proofs.start.at_empty_block_header.Statement.{statement}
 use Rattle.provenance.proofs.start.at_empty_block_header.Tie as tie
 
-byte-at-requires : tie.Need-byte-at-requires
-byte-at-requires c κs = search needs
-
-is-header-requires : tie.Need-is-header-requires
-is-header-requires c κs = search needs
-
-only-newlines-requires : tie.Need-only-newlines-requires
-only-newlines-requires c κs = search needs
-
 returns : tie.Need-returns
 returns c = header-yes (c .before .before .before .before .before .before .args .rest .now) (c .before .before .before .before .before .before .args .value .now) (ap (λ (b : ℕ). isHeader b) (sym (c .before .before .before .byte-at .ensures)) ∙ sym (c .before .before .is-header .ensures) ∙ c .before .if1 .taken) _ (c .only-newlines .ensures)
 
@@ -25,4 +16,4 @@ returns-2 c = header-no (c .before .before .before .before .before .args .rest .
 pub at-empty-block-header-spec : {M : Type 1} → statement M
 at-empty-block-header-spec =
     tie.close
-    (tie.spec byte-at-requires is-header-requires only-newlines-requires returns returns-2)
+    (tie.spec (λ c κs. search needs) (λ c κs. search needs) (λ c κs. search needs) returns returns-2)

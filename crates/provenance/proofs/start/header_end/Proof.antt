@@ -41,13 +41,4 @@ returns-2 c = let z = before-ends (c .before .before .args .rest .now) (c .befor
 pub header-end-spec : {M : Type 1} → statement M
 header-end-spec =
     tie.close
-    (tie.spec
-    Inv-loop
-    μ-loop
-    loop-holds
-    shared-slice-read-if1
-    returns
-    add-i
-    loop-less
-    loop-again
-    returns-2)
+    (tie.spec Inv-loop μ-loop loop-holds shared-slice-read-if1 returns add-i loop-less loop-again returns-2)

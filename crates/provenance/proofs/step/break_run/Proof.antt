@@ -23,18 +23,6 @@ inside c = let a = c .before .before .before .before .before .before .before .be
 returns : tie.Need-returns
 returns c = rw (lt-ltb _ _ (c .if1 .taken))
 
-is-block-requires : tie.Need-is-block-requires
-is-block-requires c κs = search needs
-
-byte-at-requires : tie.Need-byte-at-requires
-byte-at-requires c κs = search needs
-
-byte-at-requires-2 : tie.Need-byte-at-requires-2
-byte-at-requires-2 c κs = search needs
-
-opens-break-requires : tie.Need-opens-break-requires
-opens-break-requires c κs = search needs
-
 returns-2 : tie.Need-returns-2
 returns-2 c =
     let a = c .before .before .before .before .before .before .before .before .args in
@@ -46,12 +34,6 @@ sub-white-space-run c = let h = inside c in omega arith
 part-white-space-run-start : tie.Need-part-white-space-run-start
 part-white-space-run-start c = let h = inside c in omega arith
 
-part-white-space-run-end : tie.Need-part-white-space-run-end
-part-white-space-run-end c = search needs
-
-white-space-run-requires : tie.Need-white-space-run-requires
-white-space-run-requires c κs = search needs
-
 returns-3 : tie.Need-returns-3
 returns-3 c =
     let a = c .before .before .before .before .before .before .before .before .before .before .args in
@@ -61,15 +43,5 @@ returns-3 c =
 pub break-run-spec : {M : Type 1} → statement M
 break-run-spec =
     tie.close
-    (tie.spec
-    returns
-    is-block-requires
-    byte-at-requires
-    byte-at-requires-2
-    opens-break-requires
-    returns-2
-    sub-white-space-run
-    part-white-space-run-start
-    part-white-space-run-end
-    white-space-run-requires
-    returns-3)
+    (tie.spec returns (λ c κs. search needs) (λ c κs. search needs) (λ c κs. search needs) (λ c κs. search needs) returns-2 sub-white-space-run
+    part-white-space-run-start (λ c. search needs) (λ c κs. search needs) returns-3)

@@ -41,18 +41,6 @@ cut-len-requires c κs =
     let d = length-drop (a .s) (a .src .now) in
     (omega arith, omega arith)
 
-sub-blanks : tie.Need-sub-blanks
-sub-blanks c = search needs
-
-part-blanks-start : tie.Need-part-blanks-start
-part-blanks-start c = search needs
-
-part-blanks-end : tie.Need-part-blanks-end
-part-blanks-end c = search needs
-
-blanks-requires : tie.Need-blanks-requires
-blanks-requires c κs = search needs
-
 add-source-end : tie.Need-add-source-end
 add-source-end c = let i = sides c in omega arith
 
@@ -77,9 +65,6 @@ part-same-start-2 c = let i = sides (c .before) in omega arith
 part-same-end-2 : tie.Need-part-same-end-2
 part-same-end-2 c = let i = sides (c .before) in omega arith
 
-same-requires : tie.Need-same-requires
-same-requires c κs = search needs
-
 returns : tie.Need-returns
 returns c =
     let a = c .before .before .before .before .before .before .before .before .before .args in
@@ -99,20 +84,5 @@ returns-2 c =
 pub break-step-spec : {M : Type 1} → statement M
 break-step-spec =
     tie.close
-    (tie.spec
-    cut-len-requires
-    sub-blanks
-    part-blanks-start
-    part-blanks-end
-    blanks-requires
-    add-source-end
-    add-value-end
-    sub-same
-    part-same-start
-    part-same-end
-    sub-same-2
-    part-same-start-2
-    part-same-end-2
-    same-requires
-    returns
-    returns-2)
+    (tie.spec cut-len-requires (λ c. search needs) (λ c. search needs) (λ c. search needs) (λ c κs. search needs) add-source-end add-value-end
+    sub-same part-same-start part-same-end sub-same-2 part-same-start-2 part-same-end-2 (λ c κs. search needs) returns returns-2)

@@ -5,9 +5,6 @@ use borrow.Author.Needs.{needs}
 use Rattle.provenance.proofs.step.end_step.Statement.{statement}
 use Rattle.provenance.proofs.step.end_step.Tie as tie
 
-only-newlines-requires : tie.Need-only-newlines-requires
-only-newlines-requires c κs = search needs
-
 returns : tie.Need-returns
 returns c = end-fits (c .before .before .before .args .tail .now) (sym (c .before .only-newlines .ensures) ∙ c .if1 .taken)
 
@@ -15,4 +12,4 @@ returns-2 : tie.Need-returns-2
 returns-2 c = end-not (c .before .before .before .args .tail .now) (sym (c .before .only-newlines .ensures) ∙ c .if1 .left)
 
 pub end-step-spec : {M : Type 1} → statement M
-end-step-spec = tie.close (tie.spec only-newlines-requires returns returns-2)
+end-step-spec = tie.close (tie.spec (λ c κs. search needs) returns returns-2)

@@ -6,9 +6,6 @@ use borrow.Author.Needs.{needs}
 use Rattle.provenance.proofs.step.is_break_byte.Statement.{statement}
 use Rattle.provenance.proofs.step.is_break_byte.Tie as tie
 
-is-blank-requires : tie.Need-is-blank-requires
-is-blank-requires c κs = search needs
-
 returns : tie.Need-returns
 returns c = sym (ap (λ (t : Bool). t || eqb (c .before .before .args .c) 9) (sym (c .before .is-blank .ensures) ∙ c .if1 .taken))
 
@@ -16,4 +13,4 @@ returns-2 : tie.Need-returns-2
 returns-2 c = sym (ap (λ (t : Bool). t || eqb (c .before .before .args .c) 9) (sym (c .before .is-blank .ensures) ∙ c .if1 .left))
 
 pub is-break-byte-spec : {M : Type 1} → statement M
-is-break-byte-spec = tie.close (tie.spec is-blank-requires returns returns-2)
+is-break-byte-spec = tie.close (tie.spec (λ c κs. search needs) returns returns-2)

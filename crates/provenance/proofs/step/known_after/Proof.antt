@@ -13,12 +13,9 @@ returns-2 : tie.Need-returns-2
 unfolding knownAfter
 returns-2 c = rw (le-ltb _ _ (c .before .if1 .left), eq-eqb _ _ (c .if2 .taken))
 
-add-result : tie.Need-add-result
-add-result c = search needs
-
 returns-3 : tie.Need-returns-3
 unfolding knownAfter
 returns-3 c = rw (le-ltb _ _ (c .before .if1 .left), ne-eqb _ _ (c .if2 .left))
 
 pub known-after-spec : {M : Type 1} → statement M
-known-after-spec = tie.close (tie.spec returns returns-2 add-result returns-3)
+known-after-spec = tie.close (tie.spec returns returns-2 (λ c. search needs) returns-3)

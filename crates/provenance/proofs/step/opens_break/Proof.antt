@@ -6,14 +6,8 @@ use borrow.Author.Needs.{needs}
 use Rattle.provenance.proofs.step.opens_break.Statement.{statement}
 use Rattle.provenance.proofs.step.opens_break.Tie as tie
 
-is-break-byte-requires : tie.Need-is-break-byte-requires
-is-break-byte-requires c κs = search needs
-
 returns : tie.Need-returns
 returns c = opens-not (c .before .before .args .block) (c .before .before .args .b) (c .before .before .args .c) (sym (c .before .is-break-byte .ensures) ∙ not-true _ (c .if1 .taken))
-
-is-white-space-byte-requires : tie.Need-is-white-space-byte-requires
-is-white-space-byte-requires c κs = search needs
 
 returns-2 : tie.Need-returns-2
 returns-2 c = c .is-white-space-byte .ensures ∙ opens-wide (c .before .before .before .before .args .block) (c .before .before .before .before .args .b) (c .before .before .before .before .args .c) (sym (c .before .before .before .is-break-byte .ensures) ∙ not-false _ (c .before .before .if1 .left)) (not-true _ (c .before .if2 .taken))
@@ -27,10 +21,4 @@ returns-4 c = opens-return (c .before .before .before .before .args .block) (c .
 pub opens-break-spec : {M : Type 1} → statement M
 opens-break-spec =
     tie.close
-    (tie.spec
-    is-break-byte-requires
-    returns
-    is-white-space-byte-requires
-    returns-2
-    returns-3
-    returns-4)
+    (tie.spec (λ c κs. search needs) returns (λ c κs. search needs) returns-2 returns-3 returns-4)

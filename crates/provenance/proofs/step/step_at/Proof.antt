@@ -13,9 +13,6 @@ use borrow.Author.Needs.{needs}
 use Rattle.provenance.proofs.step.step_at.Statement.{statement}
 use Rattle.provenance.proofs.step.step_at.Tie as tie
 
-is-block-requires : tie.Need-is-block-requires
-is-block-requires c κs = search needs
-
 break-step-requires : tie.Need-break-step-requires
 break-step-requires c κs =
     let a = c .before .before .before .before .before .args in
@@ -30,18 +27,6 @@ returns c =
     step-break (rulesOf (a .style) (a .column)) (drop (a .s) (a .src .now)) (drop (a .v) (a .value .now)) (a .run) (c .before .before .before .before .before .before .pre .1 .fits h) h _
     (c .break-step .ensures ∙ ap (λ (t : Bool). breakPair t (a .column) (whiteRun (drop (a .s) (a .src .now))) (drop (a .v) (a .value .now))) (c .before .is-block .ensures))
 
-sub-end-step : tie.Need-sub-end-step
-sub-end-step c = search needs
-
-part-end-step-start : tie.Need-part-end-step-start
-part-end-step-start c = search needs
-
-part-end-step-end : tie.Need-part-end-step-end
-part-end-step-end c = search needs
-
-end-step-requires : tie.Need-end-step-requires
-end-step-requires c κs = search needs
-
 returns-2 : tie.Need-returns-2
 returns-2 c =
     let a = c .before .before .before .before .before .before .before .args in
@@ -50,35 +35,11 @@ returns-2 c =
     step-end (rulesOf (a .style) (a .column)) (drop (a .s) (a .src .now)) (drop (a .v) (a .value .now)) z _ refl (rw n (escape-nowhere (a .style))) n _
     (rw (part-is (a .value .now) (a .v)) at (c .end-step .ensures))
 
-sub-escape-len : tie.Need-sub-escape-len
-sub-escape-len c = search needs
-
-part-escape-len-start : tie.Need-part-escape-len-start
-part-escape-len-start c = search needs
-
-part-escape-len-end : tie.Need-part-escape-len-end
-part-escape-len-end c = search needs
-
-escape-len-requires : tie.Need-escape-len-requires
-escape-len-requires c κs = search needs
-
-enum-known-e : tie.Need-enum-known-e
-enum-known-e c = search needs
-
 returns-3 : tie.Need-returns-3
 returns-3 c =
     let a = c .before .before .before .before .before .before .before .before .before .before .args in
     let z = c .before .before .before .before .before .before .before .before .before .before .pre .1 .falls (omega arith) in
     step-escape (rulesOf (a .style) (a .column)) (drop (a .s) (a .src .now)) (drop (a .v) (a .value .now)) z _ _ _ (rw (part-is (a .src .now) (a .s)) at (c .before .before .before .escape-len .ensures)) (c .before .e .given .1)
-
-enum-told : tie.Need-enum-told
-enum-told c = search needs
-
-shared-slice-read-if3 : tie.Need-shared-slice-read-if3
-shared-slice-read-if3 c = search needs
-
-shared-slice-read-if3-2 : tie.Need-shared-slice-read-if3-2
-shared-slice-read-if3-2 c = search needs
 
 returns-4 : tie.Need-returns-4
 returns-4 c =
@@ -97,23 +58,6 @@ returns-5 c =
 pub step-at-spec : {M : Type 1} → statement M
 step-at-spec =
     tie.close
-    (tie.spec
-    is-block-requires
-    break-step-requires
-    returns
-    sub-end-step
-    part-end-step-start
-    part-end-step-end
-    end-step-requires
-    returns-2
-    sub-escape-len
-    part-escape-len-start
-    part-escape-len-end
-    escape-len-requires
-    enum-known-e
-    returns-3
-    enum-told
-    shared-slice-read-if3
-    shared-slice-read-if3-2
-    returns-4
-    returns-5)
+    (tie.spec (λ c κs. search needs) break-step-requires returns (λ c. search needs) (λ c. search needs) (λ c. search needs) (λ c κs. search needs)
+    returns-2 (λ c. search needs) (λ c. search needs) (λ c. search needs) (λ c κs. search needs) (λ c. search needs) returns-3 (λ c. search needs)
+    (λ c. search needs) (λ c. search needs) returns-4 returns-5)

@@ -103,9 +103,6 @@ replaced c =
 loop-holds : tie.Need-loop-holds Inv-loop μ-loop
 loop-holds c = (begins _ _ _ _ _ _ _ refl (c .before .before .before .pre .1), λ i h k. absurd (omega arith))
 
-break-run-requires : tie.Need-break-run-requires Inv-loop μ-loop
-break-run-requires c κs = tt
-
 known-after-requires : tie.Need-known-after-requires Inv-loop μ-loop
 known-after-requires c κs =
     let a = c .before .before .before .before .before .before .args in
@@ -119,9 +116,6 @@ step-at-requires c κs =
     let a = c .before .before .before .before .before .before .before .args in
     let w = c .before .before .before .loop in
     ((omega arith, omega arith, omega arith), tells (isBlock (a .style)) (a .src .now) (a .value .now) (w .s) (w .v) (w .known) (w .inv .1) (c .before .break-run .result) (c .before .break-run .ensures))
-
-enum-known-t : tie.Need-enum-known-t Inv-loop μ-loop
-enum-known-t c = search needs
 
 add-s : tie.Need-add-s Inv-loop μ-loop
 add-s c = let b = verbatim-bounds c in omega arith
@@ -147,9 +141,6 @@ part-letters-start-2 c = let b = verbatim-bounds (c .before) in omega arith
 part-letters-end-2 : tie.Need-part-letters-end-2 Inv-loop μ-loop
 part-letters-end-2 c = let b = verbatim-bounds (c .before) in omega arith
 
-letters-requires : tie.Need-letters-requires Inv-loop μ-loop
-letters-requires c κs = tt
-
 add-s-2 : tie.Need-add-s-2 Inv-loop μ-loop
 add-s-2 c = let b = letters-bounds c in omega arith
 
@@ -171,9 +162,6 @@ loop-again c =
       on-letters _ _ _ _ _ _ (fair-here i) _ (w .s + k) (w .v + k) (w .from) (w .n) (c .letters .result) g (b .1) (letters-steps (a .style) (a .column) (a .src .now) (a .value .now) (w .s + k) (w .v + k) (c .letters .result) (letters-here c)),
       clear-on (a .src .now) (w .s) (w .s + k + c .letters .result) (t .before .before .before .before .known-after .result) (omega arith) (clear-here (t .before .before .before .before)),
     )
-
-enum-known-t-2 : tie.Need-enum-known-t-2 Inv-loop μ-loop
-enum-known-t-2 c = search needs
 
 put-replacement-requires : tie.Need-put-replacement-requires Inv-loop μ-loop
 put-replacement-requires c κs =
@@ -202,12 +190,6 @@ loop-again-2 c =
     let w = c .before .before .before .before .before .before .before .before .before .before .before .loop in
     (replaced c, clear-on (c .before .before .before .before .before .before .before .before .before .before .before .before .before .before .before .args .src .now) (w .s) (w .s + c .before .before .before .before .before .t2 .given .0 .0) (c .before .before .before .before .before .before .before .before .known-after .result) (omega arith) (clear-here (c .before .before .before .before .before .before .before .before)))
 
-enum-told : tie.Need-enum-told Inv-loop μ-loop
-enum-told c = search needs
-
-written-len-requires : tie.Need-written-len-requires Inv-loop μ-loop
-written-len-requires c κs = tt
-
 clear-requires : tie.Need-clear-requires Inv-loop μ-loop
 clear-requires c κs = within-of _ _ _ (c .written-len .ensures)
 
@@ -231,12 +213,6 @@ put-open-requires c κs =
     let in-run = g .in-run in
     let few = g .few in
     (omega arith, omega arith, omega arith)
-
-room-requires : tie.Need-room-requires Inv-loop μ-loop
-room-requires c κs = tt
-
-written-len-requires-2 : tie.Need-written-len-requires-2 Inv-loop μ-loop
-written-len-requires-2 c κs = tt
 
 clear-requires-2 : tie.Need-clear-requires-2 Inv-loop μ-loop
 clear-requires-2 c κs = within-of _ _ _ (c .written-len2 .ensures)
@@ -276,43 +252,7 @@ returns-3 c =
 pub walk-scalar-provenance-spec : {M : Type 1} → statement M
 walk-scalar-provenance-spec =
     tie.close
-    (tie.spec
-    Inv-loop
-    μ-loop
-    loop-holds
-    break-run-requires
-    known-after-requires
-    step-at-requires
-    enum-known-t
-    add-s
-    add-v
-    sub-letters
-    part-letters-start
-    part-letters-end
-    sub-letters-2
-    part-letters-start-2
-    part-letters-end-2
-    letters-requires
-    add-s-2
-    add-v-2
-    loop-less
-    loop-again
-    enum-known-t-2
-    put-replacement-requires
-    add-s-3
-    add-v-3
-    loop-less-2
-    loop-again-2
-    enum-told
-    written-len-requires
-    clear-requires
-    same-length
-    returns
-    put-open-requires
-    room-requires
-    written-len-requires-2
-    clear-requires-2
-    same-length-2
-    returns-2
-    same-length-3
-    returns-3)
+    (tie.spec Inv-loop μ-loop loop-holds (λ c κs. tt) known-after-requires step-at-requires (λ c. search needs) add-s add-v sub-letters
+    part-letters-start part-letters-end sub-letters-2 part-letters-start-2 part-letters-end-2 (λ c κs. tt) add-s-2 add-v-2 loop-less loop-again
+    (λ c. search needs) put-replacement-requires add-s-3 add-v-3 loop-less-2 loop-again-2 (λ c. search needs) (λ c κs. tt) clear-requires same-length
+    returns put-open-requires (λ c κs. tt) (λ c κs. tt) clear-requires-2 same-length-2 returns-2 same-length-3 returns-3)

@@ -45,14 +45,4 @@ returns c = let e : c .before .loop .i ≡ c .before .before .args .end = omega 
 pub clear-spec : {M : Type 1} → statement M
 clear-spec =
     tie.close
-    (tie.spec
-    Inv-loop
-    μ-loop
-    loop-holds
-    mul-pieces
-    slice-write-pieces
-    add-i
-    loop-less
-    loop-again
-    same-length
-    returns)
+    (tie.spec Inv-loop μ-loop loop-holds mul-pieces slice-write-pieces add-i loop-less loop-again same-length returns)

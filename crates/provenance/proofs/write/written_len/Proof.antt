@@ -9,22 +9,13 @@ use borrow.Author.Needs.{needs}
 use Rattle.provenance.proofs.write.written_len.Statement.{statement}
 use Rattle.provenance.proofs.write.written_len.Tie as tie
 
-room-requires : tie.Need-room-requires
-room-requires c κs = search needs
-
-mul-result : tie.Need-mul-result
-mul-result c = search needs
-
 returns : tie.Need-returns
 unfolding writtenLen
 returns c = rw (lt-ltb (c .before .before .args .n) (room (c .before .before .args .size)) (let e = c .before .room .ensures in let h = c .if1 .taken in omega arith))
-
-mul-result-2 : tie.Need-mul-result-2
-mul-result-2 c = search needs
 
 returns-2 : tie.Need-returns-2
 unfolding writtenLen
 returns-2 c = rw (le-ltb (c .before .before .args .n) (room (c .before .before .args .size)) (let e = c .before .room .ensures in let h = c .if1 .left in omega arith)) (ap (λ (k : ℕ). k * 4) (c .before .room .ensures))
 
 pub written-len-spec : {M : Type 1} → statement M
-written-len-spec = tie.close (tie.spec room-requires mul-result returns mul-result-2 returns-2)
+written-len-spec = tie.close (tie.spec (λ c κs. search needs) (λ c. search needs) returns (λ c. search needs) returns-2)

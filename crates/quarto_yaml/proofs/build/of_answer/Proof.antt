@@ -4,17 +4,11 @@ use borrow.Author.Needs.{needs}
 use Rattle.quarto_yaml.proofs.build.of_answer.Statement.{statement}
 use Rattle.quarto_yaml.proofs.build.of_answer.Tie as tie
 
-enum-known-a : tie.Need-enum-known-a
-enum-known-a c = search needs
-
 cast-t7 : tie.Need-cast-t7
 cast-t7 c = let h = rw (c .before .a .given .1) at (c .before .before .before .pre) in record { fits = omega arith }
 
 cast-t8 : tie.Need-cast-t8
 cast-t8 c = let h = rw (c .before .a .given .1) at (c .before .before .before .pre) in record { fits = omega arith }
-
-enum-known-a-2 : tie.Need-enum-known-a-2
-enum-known-a-2 c = search needs
 
 cast-t9 : tie.Need-cast-t9
 cast-t9 c = let h = rw (c .before .a2 .given .1) at (c .before .before .before .pre) in record { fits = omega arith }
@@ -27,4 +21,4 @@ returns-2 c = rw (c .before .a2 .given .1)
 
 pub of-answer-spec : {M : Type 1} → statement M
 of-answer-spec =
-    tie.close (tie.spec enum-known-a cast-t7 cast-t8 enum-known-a-2 cast-t9 returns returns-2)
+    tie.close (tie.spec (λ c. search needs) cast-t7 cast-t8 (λ c. search needs) cast-t9 returns returns-2)

@@ -12,9 +12,6 @@ use Rattle.quarto_yaml.specs.Answer.{three}
 use Rattle.quarto_yaml.proofs.build.quarto_yaml_build.Statement.{statement}
 use Rattle.quarto_yaml.proofs.build.quarto_yaml_build.Tie as tie
 
-build-requires : tie.Need-build-requires
-build-requires c κs = search needs
-
 of-answer-requires : tie.Need-of-answer-requires
 of-answer-requires c κs =
     let a = c .before .before .before .before .before .before .before .before .before .before .before .args in
@@ -25,12 +22,6 @@ of-answer-requires c κs =
     (building-bounded (a .text .now) (a .events .now) size pieceSize (λ k. bytes k .fits))
     (c .before .before .before .before .build .ensures .answer)
 
-same-length : tie.Need-same-length
-same-length c = search needs
-
-same-length-2 : tie.Need-same-length-2
-same-length-2 c = search needs
-
 returns : tie.Need-returns
 returns c =
     let made = c .before .before .before .before .before .build .ensures in
@@ -38,4 +29,4 @@ returns c =
 
 pub quarto-yaml-build-spec : {M : Type 1} → statement M
 quarto-yaml-build-spec =
-    tie.close (tie.spec build-requires of-answer-requires same-length same-length-2 returns)
+    tie.close (tie.spec (λ c κs. search needs) of-answer-requires (λ c. search needs) (λ c. search needs) returns)

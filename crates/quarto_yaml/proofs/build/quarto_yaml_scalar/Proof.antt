@@ -12,9 +12,6 @@ use Rattle.quarto_yaml.specs.Answer.{three}
 use Rattle.quarto_yaml.proofs.build.quarto_yaml_scalar.Statement.{statement}
 use Rattle.quarto_yaml.proofs.build.quarto_yaml_scalar.Tie as tie
 
-scalar-requires : tie.Need-scalar-requires
-scalar-requires c κs = search needs
-
 of-answer-requires : tie.Need-of-answer-requires
 of-answer-requires c κs =
     let a = c .before .before .before .before .before .before .before .before .args in
@@ -23,12 +20,6 @@ of-answer-requires c κs =
     (omega arith) (omega arith)
     (scalar-bounded (a .text .now) (a .index) (a .column) (a .style) (a .empty-span) (a .value .now) (length (a .pieces .now)))
     (c .before .before .before .scalar .ensures .answer)
-
-record-numbers-requires : tie.Need-record-numbers-requires
-record-numbers-requires c κs = search needs
-
-same-length : tie.Need-same-length
-same-length c = search needs
 
 returns : tie.Need-returns
 returns c =
@@ -41,4 +32,4 @@ returns c =
 
 pub quarto-yaml-scalar-spec : {M : Type 1} → statement M
 quarto-yaml-scalar-spec =
-    tie.close (tie.spec scalar-requires of-answer-requires record-numbers-requires same-length returns)
+    tie.close (tie.spec (λ c κs. search needs) of-answer-requires (λ c κs. search needs) (λ c. search needs) returns)

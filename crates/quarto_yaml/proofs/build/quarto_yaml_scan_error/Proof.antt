@@ -5,14 +5,8 @@ use Rattle.quarto_yaml.specs.Answer.{three}
 use Rattle.quarto_yaml.proofs.build.quarto_yaml_scan_error.Statement.{statement}
 use Rattle.quarto_yaml.proofs.build.quarto_yaml_scan_error.Tie as tie
 
-scan-error-requires : tie.Need-scan-error-requires
-scan-error-requires c κs = search needs
-
-of-scanned-requires : tie.Need-of-scanned-requires
-of-scanned-requires c κs = search needs
-
 returns : tie.Need-returns
 returns c = c .of-scanned .ensures ∙ ap three (c .before .scan-error .ensures)
 
 pub quarto-yaml-scan-error-spec : {M : Type 1} → statement M
-quarto-yaml-scan-error-spec = tie.close (tie.spec scan-error-requires of-scanned-requires returns)
+quarto-yaml-scan-error-spec = tie.close (tie.spec (λ c κs. search needs) (λ c κs. search needs) returns)

@@ -7,9 +7,6 @@ use Rattle.quarto_yaml.specs.None.{orNone}
 use Rattle.quarto_yaml.proofs.child.quarto_yaml_child_before.Statement.{statement}
 use Rattle.quarto_yaml.proofs.child.quarto_yaml_child_before.Tie as tie
 
-child-before-requires : tie.Need-child-before-requires
-child-before-requires c κs = search needs
-
 or-none-requires : tie.Need-or-none-requires
 or-none-requires c κs =
     let start = c .before .before in
@@ -20,4 +17,4 @@ returns : tie.Need-returns
 returns c = c .or-none .ensures ∙ ap orNone (c .before .child-before .ensures)
 
 pub quarto-yaml-child-before-spec : {M : Type 1} → statement M
-quarto-yaml-child-before-spec = tie.close (tie.spec child-before-requires or-none-requires returns)
+quarto-yaml-child-before-spec = tie.close (tie.spec (λ c κs. search needs) or-none-requires returns)

@@ -7,9 +7,6 @@ use Rattle.quarto_yaml.specs.None.{orNone}
 use Rattle.quarto_yaml.proofs.child.quarto_yaml_get_array_item.Statement.{statement}
 use Rattle.quarto_yaml.proofs.child.quarto_yaml_get_array_item.Tie as tie
 
-get-array-item-requires : tie.Need-get-array-item-requires
-get-array-item-requires c κs = search needs
-
 or-none-requires : tie.Need-or-none-requires
 or-none-requires c κs =
     let start = c .before .before in
@@ -21,4 +18,4 @@ returns c = c .or-none .ensures ∙ ap orNone (c .before .get-array-item .ensure
 
 pub quarto-yaml-get-array-item-spec : {M : Type 1} → statement M
 quarto-yaml-get-array-item-spec =
-    tie.close (tie.spec get-array-item-requires or-none-requires returns)
+    tie.close (tie.spec (λ c κs. search needs) or-none-requires returns)

@@ -7,9 +7,6 @@ use Rattle.quarto_yaml.specs.None.{orNone}
 use Rattle.quarto_yaml.proofs.child.quarto_yaml_get_hash_value.Statement.{statement}
 use Rattle.quarto_yaml.proofs.child.quarto_yaml_get_hash_value.Tie as tie
 
-get-hash-value-requires : tie.Need-get-hash-value-requires
-get-hash-value-requires c κs = search needs
-
 or-none-requires : tie.Need-or-none-requires
 or-none-requires c κs =
     let start = c .before .before .before .before in
@@ -21,4 +18,4 @@ returns c = c .or-none .ensures ∙ ap orNone (c .before .get-hash-value .ensure
 
 pub quarto-yaml-get-hash-value-spec : {M : Type 1} → statement M
 quarto-yaml-get-hash-value-spec =
-    tie.close (tie.spec get-hash-value-requires or-none-requires returns)
+    tie.close (tie.spec (λ c κs. search needs) or-none-requires returns)

@@ -7,9 +7,6 @@ use Rattle.quarto_yaml.specs.None.{orNone}
 use Rattle.quarto_yaml.proofs.child.quarto_yaml_last_child.Statement.{statement}
 use Rattle.quarto_yaml.proofs.child.quarto_yaml_last_child.Tie as tie
 
-last-child-requires : tie.Need-last-child-requires
-last-child-requires c κs = search needs
-
 or-none-requires : tie.Need-or-none-requires
 or-none-requires c κs =
     let start = c .before .before in
@@ -20,4 +17,4 @@ returns : tie.Need-returns
 returns c = c .or-none .ensures ∙ ap orNone (c .before .last-child .ensures)
 
 pub quarto-yaml-last-child-spec : {M : Type 1} → statement M
-quarto-yaml-last-child-spec = tie.close (tie.spec last-child-requires or-none-requires returns)
+quarto-yaml-last-child-spec = tie.close (tie.spec (λ c κs. search needs) or-none-requires returns)

@@ -7,9 +7,6 @@ use Rattle.quarto_yaml.specs.None.{orNone}
 use Rattle.quarto_yaml.proofs.child.quarto_yaml_root.Statement.{statement}
 use Rattle.quarto_yaml.proofs.child.quarto_yaml_root.Tie as tie
 
-root-requires : tie.Need-root-requires
-root-requires c κs = search needs
-
 or-none-requires : tie.Need-or-none-requires
 or-none-requires c κs =
     let start = c .before .before in
@@ -20,4 +17,4 @@ returns : tie.Need-returns
 returns c = c .or-none .ensures ∙ ap orNone (c .before .root .ensures)
 
 pub quarto-yaml-root-spec : {M : Type 1} → statement M
-quarto-yaml-root-spec = tie.close (tie.spec root-requires or-none-requires returns)
+quarto-yaml-root-spec = tie.close (tie.spec (λ c κs. search needs) or-none-requires returns)

@@ -5,14 +5,8 @@ use Rattle.quarto_yaml.specs.None.{flagOrNone}
 use Rattle.quarto_yaml.proofs.kind.quarto_yaml_is_empty.Statement.{statement}
 use Rattle.quarto_yaml.proofs.kind.quarto_yaml_is_empty.Tie as tie
 
-is-empty-requires : tie.Need-is-empty-requires
-is-empty-requires c κs = search needs
-
-flag-or-none-requires : tie.Need-flag-or-none-requires
-flag-or-none-requires c κs = search needs
-
 returns : tie.Need-returns
 returns c = c .flag-or-none .ensures ∙ ap flagOrNone (c .before .is-empty .ensures)
 
 pub quarto-yaml-is-empty-spec : {M : Type 1} → statement M
-quarto-yaml-is-empty-spec = tie.close (tie.spec is-empty-requires flag-or-none-requires returns)
+quarto-yaml-is-empty-spec = tie.close (tie.spec (λ c κs. search needs) (λ c κs. search needs) returns)

@@ -5,14 +5,8 @@ use Rattle.quarto_yaml.specs.None.{flagOrNone}
 use Rattle.quarto_yaml.proofs.kind.quarto_yaml_is_hash.Statement.{statement}
 use Rattle.quarto_yaml.proofs.kind.quarto_yaml_is_hash.Tie as tie
 
-is-hash-requires : tie.Need-is-hash-requires
-is-hash-requires c κs = search needs
-
-flag-or-none-requires : tie.Need-flag-or-none-requires
-flag-or-none-requires c κs = search needs
-
 returns : tie.Need-returns
 returns c = c .flag-or-none .ensures ∙ ap flagOrNone (c .before .is-hash .ensures)
 
 pub quarto-yaml-is-hash-spec : {M : Type 1} → statement M
-quarto-yaml-is-hash-spec = tie.close (tie.spec is-hash-requires flag-or-none-requires returns)
+quarto-yaml-is-hash-spec = tie.close (tie.spec (λ c κs. search needs) (λ c κs. search needs) returns)

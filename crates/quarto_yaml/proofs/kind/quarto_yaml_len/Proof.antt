@@ -5,14 +5,8 @@ use Rattle.quarto_yaml.specs.None.{orNone}
 use Rattle.quarto_yaml.proofs.kind.quarto_yaml_len.Statement.{statement}
 use Rattle.quarto_yaml.proofs.kind.quarto_yaml_len.Tie as tie
 
-len-requires : tie.Need-len-requires
-len-requires c κs = search needs
-
-count-or-none-requires : tie.Need-count-or-none-requires
-count-or-none-requires c κs = search needs
-
 returns : tie.Need-returns
 returns c = c .count-or-none .ensures ∙ ap orNone (c .before .len .ensures)
 
 pub quarto-yaml-len-spec : {M : Type 1} → statement M
-quarto-yaml-len-spec = tie.close (tie.spec len-requires count-or-none-requires returns)
+quarto-yaml-len-spec = tie.close (tie.spec (λ c κs. search needs) (λ c κs. search needs) returns)

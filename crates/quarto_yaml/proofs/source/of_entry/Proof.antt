@@ -4,12 +4,6 @@ use borrow.Author.Needs.{needs}
 use Rattle.quarto_yaml.proofs.source.of_entry.Statement.{statement}
 use Rattle.quarto_yaml.proofs.source.of_entry.Tie as tie
 
-enum-known-e : tie.Need-enum-known-e
-enum-known-e c = search needs
-
-enum-told : tie.Need-enum-told
-enum-told c = search needs
-
 returns : tie.Need-returns
 returns c = rw (c .enum-told .given .1)
 
@@ -23,4 +17,4 @@ returns-2 : tie.Need-returns-2
 returns-2 c = rw (c .before .before .before .e .given .1)
 
 pub of-entry-spec : {M : Type 1} → statement M
-of-entry-spec = tie.close (tie.spec enum-known-e enum-told returns cast-t3 cast-t4 returns-2)
+of-entry-spec = tie.close (tie.spec (λ c. search needs) (λ c. search needs) returns cast-t3 cast-t4 returns-2)

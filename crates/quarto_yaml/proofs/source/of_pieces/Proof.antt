@@ -3,12 +3,6 @@ use borrow.Author.Needs.{needs}
 use Rattle.quarto_yaml.proofs.source.of_pieces.Statement.{statement}
 use Rattle.quarto_yaml.proofs.source.of_pieces.Tie as tie
 
-enum-known-p : tie.Need-enum-known-p
-enum-known-p c = search needs
-
-enum-told : tie.Need-enum-told
-enum-told c = search needs
-
 returns : tie.Need-returns
 returns c = rw (c .enum-told .given .1)
 
@@ -16,4 +10,4 @@ returns-2 : tie.Need-returns-2
 returns-2 c = rw (c .before .p .given .1)
 
 pub of-pieces-spec : {M : Type 1} → statement M
-of-pieces-spec = tie.close (tie.spec enum-known-p enum-told returns returns-2)
+of-pieces-spec = tie.close (tie.spec (λ c. search needs) (λ c. search needs) returns returns-2)

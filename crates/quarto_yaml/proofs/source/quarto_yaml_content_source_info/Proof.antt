@@ -5,15 +5,9 @@ use Rattle.quarto_yaml.specs.Found.{foundPieces}
 use Rattle.quarto_yaml.proofs.source.quarto_yaml_content_source_info.Statement.{statement}
 use Rattle.quarto_yaml.proofs.source.quarto_yaml_content_source_info.Tie as tie
 
-content-source-info-requires : tie.Need-content-source-info-requires
-content-source-info-requires c κs = search needs
-
-of-pieces-requires : tie.Need-of-pieces-requires
-of-pieces-requires c κs = search needs
-
 returns : tie.Need-returns
 returns c = c .of-pieces .ensures ∙ ap foundPieces (c .before .content-source-info .ensures)
 
 pub quarto-yaml-content-source-info-spec : {M : Type 1} → statement M
 quarto-yaml-content-source-info-spec =
-    tie.close (tie.spec content-source-info-requires of-pieces-requires returns)
+    tie.close (tie.spec (λ c κs. search needs) (λ c κs. search needs) returns)

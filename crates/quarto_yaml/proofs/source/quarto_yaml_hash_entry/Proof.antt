@@ -7,9 +7,6 @@ use Rattle.quarto_yaml.specs.Found.{foundEntry}
 use Rattle.quarto_yaml.proofs.source.quarto_yaml_hash_entry.Statement.{statement}
 use Rattle.quarto_yaml.proofs.source.quarto_yaml_hash_entry.Tie as tie
 
-hash-entry-requires : tie.Need-hash-entry-requires
-hash-entry-requires c κs = search needs
-
 of-entry-requires : tie.Need-of-entry-requires
 of-entry-requires c κs =
     let start = c .before .before in
@@ -20,4 +17,4 @@ returns : tie.Need-returns
 returns c = c .of-entry .ensures ∙ ap foundEntry (c .before .hash-entry .ensures)
 
 pub quarto-yaml-hash-entry-spec : {M : Type 1} → statement M
-quarto-yaml-hash-entry-spec = tie.close (tie.spec hash-entry-requires of-entry-requires returns)
+quarto-yaml-hash-entry-spec = tie.close (tie.spec (λ c κs. search needs) of-entry-requires returns)

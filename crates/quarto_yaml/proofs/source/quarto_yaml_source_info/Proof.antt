@@ -5,14 +5,8 @@ use Rattle.quarto_yaml.specs.Found.{foundSpan}
 use Rattle.quarto_yaml.proofs.source.quarto_yaml_source_info.Statement.{statement}
 use Rattle.quarto_yaml.proofs.source.quarto_yaml_source_info.Tie as tie
 
-source-info-requires : tie.Need-source-info-requires
-source-info-requires c κs = search needs
-
-of-span-requires : tie.Need-of-span-requires
-of-span-requires c κs = search needs
-
 returns : tie.Need-returns
 returns c = c .of-span .ensures ∙ ap foundSpan (c .before .source-info .ensures)
 
 pub quarto-yaml-source-info-spec : {M : Type 1} → statement M
-quarto-yaml-source-info-spec = tie.close (tie.spec source-info-requires of-span-requires returns)
+quarto-yaml-source-info-spec = tie.close (tie.spec (λ c κs. search needs) (λ c κs. search needs) returns)

@@ -5,14 +5,8 @@ use Rattle.quarto_yaml.specs.Found.{foundTag}
 use Rattle.quarto_yaml.proofs.source.quarto_yaml_tag.Statement.{statement}
 use Rattle.quarto_yaml.proofs.source.quarto_yaml_tag.Tie as tie
 
-tag-requires : tie.Need-tag-requires
-tag-requires c κs = search needs
-
-of-tagged-requires : tie.Need-of-tagged-requires
-of-tagged-requires c κs = search needs
-
 returns : tie.Need-returns
 returns c = c .of-tagged .ensures ∙ ap foundTag (c .before .tag .ensures)
 
 pub quarto-yaml-tag-spec : {M : Type 1} → statement M
-quarto-yaml-tag-spec = tie.close (tie.spec tag-requires of-tagged-requires returns)
+quarto-yaml-tag-spec = tie.close (tie.spec (λ c κs. search needs) (λ c κs. search needs) returns)

@@ -19,14 +19,8 @@ abbrev μ-loop : tie.MeasureT-loop
 loop-holds : tie.Need-loop-holds Inv-loop μ-loop
 loop-holds c = refl
 
-mul-if1 : tie.Need-mul-if1 Inv-loop μ-loop
-mul-if1 c = search needs
-
 shared-slice-read-if1 : tie.Need-shared-slice-read-if1 Inv-loop μ-loop
 shared-slice-read-if1 c = omega arith
-
-number-at-requires : tie.Need-number-at-requires Inv-loop μ-loop
-number-at-requires c κs = tt
 
 returns : tie.Need-returns Inv-loop μ-loop
 returns c =
@@ -38,9 +32,6 @@ returns c =
 
 add-i : tie.Need-add-i Inv-loop μ-loop
 add-i c = omega arith
-
-further-requires : tie.Need-further-requires Inv-loop μ-loop
-further-requires c κs = tt
 
 loop-less : tie.Need-loop-less Inv-loop μ-loop
 loop-less c = omega arith
@@ -66,16 +57,5 @@ returns-2 c =
 pub same-numbers-spec : {M : Type 1} → statement M
 same-numbers-spec =
     tie.close
-    (tie.spec
-    Inv-loop
-    μ-loop
-    loop-holds
-    mul-if1
-    shared-slice-read-if1
-    number-at-requires
-    returns
-    add-i
-    further-requires
-    loop-less
-    loop-again
+    (tie.spec Inv-loop μ-loop loop-holds (λ c. search needs) shared-slice-read-if1 (λ c κs. tt) returns add-i (λ c κs. tt) loop-less loop-again
     returns-2)

@@ -3,14 +3,8 @@ use borrow.Author.Needs.{needs}
 use Rattle.replay_accessors.proofs.matched.extent.Statement.{statement}
 use Rattle.replay_accessors.proofs.matched.extent.Tie as tie
 
-number-requires : tie.Need-number-requires
-number-requires c κs = search needs
-
-number-requires-2 : tie.Need-number-requires-2
-number-requires-2 c κs = search needs
-
 returns : tie.Need-returns
 returns c = rw (c .number2 .ensures, c .before .number .ensures)
 
 pub extent-spec : {M : Type 1} → statement M
-extent-spec = tie.close (tie.spec number-requires number-requires-2 returns)
+extent-spec = tie.close (tie.spec (λ c κs. search needs) (λ c κs. search needs) returns)

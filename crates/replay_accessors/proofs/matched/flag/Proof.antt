@@ -3,23 +3,8 @@ use borrow.Author.Needs.{needs}
 use Rattle.replay_accessors.proofs.matched.flag.Statement.{statement}
 use Rattle.replay_accessors.proofs.matched.flag.Tie as tie
 
-enum-known-answer : tie.Need-enum-known-answer
-enum-known-answer c = search needs
-
-number-requires : tie.Need-number-requires
-number-requires c κs = search needs
-
 returns : tie.Need-returns
 returns c = rw (c .before .before .before .answer .given .1, c .before .if1 .taken, c .number .ensures)
-
-number-requires-2 : tie.Need-number-requires-2
-number-requires-2 c κs = search needs
-
-enum-told : tie.Need-enum-told
-enum-told c = search needs
-
-number-requires-3 : tie.Need-number-requires-3
-number-requires-3 c κs = search needs
 
 returns-2 : tie.Need-returns-2
 returns-2 c = rw (c .before .before .before .answer .given .1, c .before .if1 .left, c .number2 .ensures)
@@ -30,12 +15,4 @@ returns-3 c = rw (c .before .enum-told .given .1, c .number3 .ensures)
 pub flag-spec : {M : Type 1} → statement M
 flag-spec =
     tie.close
-    (tie.spec
-    enum-known-answer
-    number-requires
-    returns
-    number-requires-2
-    enum-told
-    number-requires-3
-    returns-2
-    returns-3)
+    (tie.spec (λ c. search needs) (λ c κs. search needs) returns (λ c κs. search needs) (λ c. search needs) (λ c κs. search needs) returns-2 returns-3)

@@ -3,21 +3,6 @@ use borrow.Author.Needs.{needs}
 use Rattle.replay_accessors.proofs.matched.lookup.Statement.{statement}
 use Rattle.replay_accessors.proofs.matched.lookup.Tie as tie
 
-enum-known-answer : tie.Need-enum-known-answer
-enum-known-answer c = search needs
-
-number-requires : tie.Need-number-requires
-number-requires c κs = search needs
-
-node-numbers-requires : tie.Need-node-numbers-requires
-node-numbers-requires c κs = search needs
-
-enum-told : tie.Need-enum-told
-enum-told c = search needs
-
-number-requires-2 : tie.Need-number-requires-2
-number-requires-2 c κs = search needs
-
 returns : tie.Need-returns
 returns c = rw (c .before .before .before .answer .given .1, c .node-numbers .ensures, c .before .number .ensures)
 
@@ -27,11 +12,4 @@ returns-2 c = rw (c .before .enum-told .given .1, c .number2 .ensures)
 pub lookup-spec : {M : Type 1} → statement M
 lookup-spec =
     tie.close
-    (tie.spec
-    enum-known-answer
-    number-requires
-    node-numbers-requires
-    enum-told
-    number-requires-2
-    returns
-    returns-2)
+    (tie.spec (λ c. search needs) (λ c κs. search needs) (λ c κs. search needs) (λ c. search needs) (λ c κs. search needs) returns returns-2)

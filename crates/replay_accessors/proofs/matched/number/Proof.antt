@@ -5,9 +5,6 @@ use Rattle.replay_accessors.specs.Matched.{matchNumber}
 use Rattle.replay_accessors.proofs.matched.number.Statement.{statement}
 use Rattle.replay_accessors.proofs.matched.number.Tie as tie
 
-number-at-requires : tie.Need-number-at-requires
-number-at-requires c κs = search needs
-
 returns : tie.Need-returns
 unfolding matchNumber
 returns c = c .number-at .ensures ∙ rw (c .before .if1 .taken)
@@ -17,4 +14,4 @@ unfolding matchNumber
 returns-2 c = rw (c .if1 .left)
 
 pub number-spec : {M : Type 1} → statement M
-number-spec = tie.close (tie.spec number-at-requires returns returns-2)
+number-spec = tie.close (tie.spec (λ c κs. search needs) returns returns-2)

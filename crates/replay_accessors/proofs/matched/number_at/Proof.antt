@@ -10,19 +10,13 @@ returns : tie.Need-returns
 unfolding matchAt
 returns c = rw (le-ltb _ _ (c .if1 .taken))
 
-number-at-requires : tie.Need-number-at-requires
-number-at-requires c κs = search needs
-
 returns-2 : tie.Need-returns-2
 unfolding matchAt
 returns-2 c = rw (lt-ltb _ _ (c .before .before .if1 .left), ne-eqb _ _ (λ e. c .if2 .taken (c .before .number-at .ensures ∙ e)))
-
-add-t4 : tie.Need-add-t4
-add-t4 c = search needs
 
 returns-3 : tie.Need-returns-3
 unfolding matchAt
 returns-3 c = rw (lt-ltb _ _ (c .before .before .if1 .left), eq-eqb _ _ (sym (c .before .number-at .ensures) ∙ c .if2 .left))
 
 pub number-at-spec : {M : Type 1} → statement M
-number-at-spec = tie.close (tie.spec returns number-at-requires returns-2 add-t4 returns-3)
+number-at-spec = tie.close (tie.spec returns (λ c κs. search needs) returns-2 (λ c. search needs) returns-3)

@@ -20,14 +20,8 @@ abbrev μ-loop : tie.MeasureT-loop
 loop-holds : tie.Need-loop-holds Inv-loop μ-loop
 loop-holds c = (zero-le, refl)
 
-mul-number : tie.Need-mul-number Inv-loop μ-loop
-mul-number c = search needs
-
 shared-slice-read-number : tie.Need-shared-slice-read-number Inv-loop μ-loop
 shared-slice-read-number c = omega arith
-
-number-requires : tie.Need-number-requires Inv-loop μ-loop
-number-requires c κs = tt
 
 add-i : tie.Need-add-i Inv-loop μ-loop
 add-i c = omega arith
@@ -48,14 +42,4 @@ returns c = c .before .loop .inv .1 ∙ ap (matchAll _ _) (take-all (c .before .
 pub numbers-spec : {M : Type 1} → statement M
 numbers-spec =
     tie.close
-    (tie.spec
-    Inv-loop
-    μ-loop
-    loop-holds
-    mul-number
-    shared-slice-read-number
-    number-requires
-    add-i
-    loop-less
-    loop-again
-    returns)
+    (tie.spec Inv-loop μ-loop loop-holds (λ c. search needs) shared-slice-read-number (λ c κs. tt) add-i loop-less loop-again returns)

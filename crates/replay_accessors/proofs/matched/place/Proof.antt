@@ -3,18 +3,6 @@ use borrow.Author.Needs.{needs}
 use Rattle.replay_accessors.proofs.matched.place.Statement.{statement}
 use Rattle.replay_accessors.proofs.matched.place.Tie as tie
 
-enum-known-answer : tie.Need-enum-known-answer
-enum-known-answer c = search needs
-
-place-number-requires : tie.Need-place-number-requires
-place-number-requires c κs = search needs
-
-enum-told : tie.Need-enum-told
-enum-told c = search needs
-
-number-requires : tie.Need-number-requires
-number-requires c κs = search needs
-
 returns : tie.Need-returns
 returns c = rw (c .before .before .answer .given .1, c .place-number .ensures)
 
@@ -24,4 +12,4 @@ returns-2 c = rw (c .before .enum-told .given .1, c .number .ensures)
 pub place-spec : {M : Type 1} → statement M
 place-spec =
     tie.close
-    (tie.spec enum-known-answer place-number-requires enum-told number-requires returns returns-2)
+    (tie.spec (λ c. search needs) (λ c κs. search needs) (λ c. search needs) (λ c κs. search needs) returns returns-2)

@@ -4,15 +4,6 @@ use borrow.Author.Needs.{needs}
 use Rattle.replay_accessors.proofs.matched.place_number.Statement.{statement}
 use Rattle.replay_accessors.proofs.matched.place_number.Tie as tie
 
-cast-number : tie.Need-cast-number
-cast-number c = search needs
-
-add-number : tie.Need-add-number
-add-number c = search needs
-
-number-requires : tie.Need-number-requires
-number-requires c κs = search needs
-
 returns : tie.Need-returns
 returns c = rw (lt-ltb _ _ (c .before .if1 .taken), c .number .ensures)
 
@@ -20,4 +11,4 @@ returns-2 : tie.Need-returns-2
 returns-2 c = rw (le-ltb _ _ (c .if1 .left))
 
 pub place-number-spec : {M : Type 1} → statement M
-place-number-spec = tie.close (tie.spec cast-number add-number number-requires returns returns-2)
+place-number-spec = tie.close (tie.spec (λ c. search needs) (λ c. search needs) (λ c κs. search needs) returns returns-2)

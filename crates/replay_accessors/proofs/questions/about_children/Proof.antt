@@ -13,27 +13,12 @@ Inv-loop records n limit list count most matched₀ back₀ matched back = (back
 abbrev μ-loop : tie.MeasureT-loop
 μ-loop records n limit list count most matched₀ back₀ matched back = most - back
 
-len-or-zero-requires : tie.Need-len-or-zero-requires Inv-loop μ-loop
-len-or-zero-requires c κs = tt
-
-least-requires : tie.Need-least-requires Inv-loop μ-loop
-least-requires c κs = tt
-
-at-index-requires : tie.Need-at-index-requires Inv-loop μ-loop
-at-index-requires c κs = tt
-
 loop-holds : tie.Need-loop-holds Inv-loop μ-loop
 unfolding fromLast
 loop-holds c = (omega arith, refl)
 
 add-back : tie.Need-add-back Inv-loop μ-loop
 add-back c = omega arith
-
-less-requires : tie.Need-less-requires Inv-loop μ-loop
-less-requires c κs = tt
-
-at-index-requires-2 : tie.Need-at-index-requires-2 Inv-loop μ-loop
-at-index-requires-2 c κs = tt
 
 loop-less : tie.Need-loop-less Inv-loop μ-loop
 loop-less c = omega arith
@@ -58,16 +43,4 @@ returns c =
 pub about-children-spec : {M : Type 1} → statement M
 about-children-spec =
     tie.close
-    (tie.spec
-    Inv-loop
-    μ-loop
-    len-or-zero-requires
-    least-requires
-    at-index-requires
-    loop-holds
-    add-back
-    less-requires
-    at-index-requires-2
-    loop-less
-    loop-again
-    returns)
+    (tie.spec Inv-loop μ-loop (λ c κs. tt) (λ c κs. tt) (λ c κs. tt) loop-holds add-back (λ c κs. tt) (λ c κs. tt) loop-less loop-again returns)

@@ -11,24 +11,6 @@ use borrow.Author.Needs.{needs}
 use Rattle.replay_accessors.proofs.questions.about_itself.Statement.{statement}
 use Rattle.replay_accessors.proofs.questions.about_itself.Tie as tie
 
-get-record-requires : tie.Need-get-record-requires
-get-record-requires c κs = search needs
-
-lookup-requires : tie.Need-lookup-requires
-lookup-requires c κs = search needs
-
-about-kind-requires : tie.Need-about-kind-requires
-about-kind-requires c κs = search needs
-
-about-source-requires : tie.Need-about-source-requires
-about-source-requires c κs = search needs
-
-last-child-requires : tie.Need-last-child-requires
-last-child-requires c κs = search needs
-
-place-requires : tie.Need-place-requires
-place-requires c κs = search needs
-
 returns : tie.Need-returns
 returns c =
     let a = c .before .before .before .before .before .before .before .before .args in
@@ -49,11 +31,5 @@ returns c =
 pub about-itself-spec : {M : Type 1} → statement M
 about-itself-spec =
     tie.close
-    (tie.spec
-    get-record-requires
-    lookup-requires
-    about-kind-requires
-    about-source-requires
-    last-child-requires
-    place-requires
-    returns)
+    (tie.spec (λ c κs. search needs) (λ c κs. search needs) (λ c κs. search needs) (λ c κs. search needs) (λ c κs. search needs)
+    (λ c κs. search needs) returns)

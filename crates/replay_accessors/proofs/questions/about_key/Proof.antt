@@ -10,30 +10,6 @@ returns : tie.Need-returns
 unfolding aboutKey
 returns c = rw (le-ltb (c .before .before .before .before .before .args .at) (length (c .before .before .before .before .before .args .keys .now)) (c .if1 .taken))
 
-number-at-requires : tie.Need-number-at-requires
-number-at-requires c κs = search needs
-
-cast-t10 : tie.Need-cast-t10
-cast-t10 c = search needs
-
-add-number-at : tie.Need-add-number-at
-add-number-at c = search needs
-
-number-at-requires-2 : tie.Need-number-at-requires-2
-number-at-requires-2 c κs = search needs
-
-cast-t15 : tie.Need-cast-t15
-cast-t15 c = search needs
-
-bytes-of-requires : tie.Need-bytes-of-requires
-bytes-of-requires c κs = search needs
-
-get-hash-value-requires : tie.Need-get-hash-value-requires
-get-hash-value-requires c κs = search needs
-
-place-requires : tie.Need-place-requires
-place-requires c κs = search needs
-
 returns-2 : tie.Need-returns-2
 unfolding aboutKey
 returns-2 c =
@@ -50,14 +26,5 @@ returns-2 c =
 pub about-key-spec : {M : Type 1} → statement M
 about-key-spec =
     tie.close
-    (tie.spec
-    returns
-    number-at-requires
-    cast-t10
-    add-number-at
-    number-at-requires-2
-    cast-t15
-    bytes-of-requires
-    get-hash-value-requires
-    place-requires
-    returns-2)
+    (tie.spec returns (λ c κs. search needs) (λ c. search needs) (λ c. search needs) (λ c κs. search needs) (λ c. search needs) (λ c κs. search needs)
+    (λ c κs. search needs) (λ c κs. search needs) returns-2)

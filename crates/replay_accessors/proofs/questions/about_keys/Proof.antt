@@ -17,9 +17,6 @@ loop-holds : tie.Need-loop-holds Inv-loop μ-loop
 unfolding firstKeys
 loop-holds c = (refl, omega arith, refl)
 
-about-key-requires : tie.Need-about-key-requires Inv-loop μ-loop
-about-key-requires c κs = tt
-
 add-at : tie.Need-add-at Inv-loop μ-loop
 add-at c = omega arith
 
@@ -46,4 +43,4 @@ returns c =
 pub about-keys-spec : {M : Type 1} → statement M
 about-keys-spec =
     tie.close
-    (tie.spec Inv-loop μ-loop loop-holds about-key-requires add-at loop-less loop-again returns)
+    (tie.spec Inv-loop μ-loop loop-holds (λ c κs. tt) add-at loop-less loop-again returns)

@@ -8,36 +8,6 @@ use borrow.Author.Needs.{needs}
 use Rattle.replay_accessors.proofs.questions.about_kind.Statement.{statement}
 use Rattle.replay_accessors.proofs.questions.about_kind.Tie as tie
 
-is-scalar-requires : tie.Need-is-scalar-requires
-is-scalar-requires c κs = search needs
-
-flag-requires : tie.Need-flag-requires
-flag-requires c κs = search needs
-
-is-array-requires : tie.Need-is-array-requires
-is-array-requires c κs = search needs
-
-flag-requires-2 : tie.Need-flag-requires-2
-flag-requires-2 c κs = search needs
-
-is-hash-requires : tie.Need-is-hash-requires
-is-hash-requires c κs = search needs
-
-flag-requires-3 : tie.Need-flag-requires-3
-flag-requires-3 c κs = search needs
-
-len-requires : tie.Need-len-requires
-len-requires c κs = search needs
-
-count-requires : tie.Need-count-requires
-count-requires c κs = search needs
-
-is-empty-requires : tie.Need-is-empty-requires
-is-empty-requires c κs = search needs
-
-flag-requires-4 : tie.Need-flag-requires-4
-flag-requires-4 c κs = search needs
-
 returns : tie.Need-returns
 returns c =
     let a = c .before .before .before .before .before .before .before .before .before .before .before .before .args in
@@ -67,15 +37,5 @@ returns c =
 pub about-kind-spec : {M : Type 1} → statement M
 about-kind-spec =
     tie.close
-    (tie.spec
-    is-scalar-requires
-    flag-requires
-    is-array-requires
-    flag-requires-2
-    is-hash-requires
-    flag-requires-3
-    len-requires
-    count-requires
-    is-empty-requires
-    flag-requires-4
-    returns)
+    (tie.spec (λ c κs. search needs) (λ c κs. search needs) (λ c κs. search needs) (λ c κs. search needs) (λ c κs. search needs)
+    (λ c κs. search needs) (λ c κs. search needs) (λ c κs. search needs) (λ c κs. search needs) (λ c κs. search needs) returns)

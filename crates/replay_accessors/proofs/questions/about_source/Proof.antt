@@ -8,24 +8,6 @@ use borrow.Author.Needs.{needs}
 use Rattle.replay_accessors.proofs.questions.about_source.Statement.{statement}
 use Rattle.replay_accessors.proofs.questions.about_source.Tie as tie
 
-source-info-requires : tie.Need-source-info-requires
-source-info-requires c κs = search needs
-
-span-requires : tie.Need-span-requires
-span-requires c κs = search needs
-
-tag-requires : tie.Need-tag-requires
-tag-requires c κs = search needs
-
-tagged-requires : tie.Need-tagged-requires
-tagged-requires c κs = search needs
-
-content-source-info-requires : tie.Need-content-source-info-requires
-content-source-info-requires c κs = search needs
-
-pieces-requires : tie.Need-pieces-requires
-pieces-requires c κs = search needs
-
 returns : tie.Need-returns
 returns c =
     let a = c .before .before .before .before .before .before .before .before .args in
@@ -46,11 +28,5 @@ returns c =
 pub about-source-spec : {M : Type 1} → statement M
 about-source-spec =
     tie.close
-    (tie.spec
-    source-info-requires
-    span-requires
-    tag-requires
-    tagged-requires
-    content-source-info-requires
-    pieces-requires
-    returns)
+    (tie.spec (λ c κs. search needs) (λ c κs. search needs) (λ c κs. search needs) (λ c κs. search needs) (λ c κs. search needs)
+    (λ c κs. search needs) returns)

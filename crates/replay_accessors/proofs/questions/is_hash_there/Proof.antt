@@ -6,15 +6,6 @@ use borrow.Author.Needs.{needs}
 use Rattle.replay_accessors.proofs.questions.is_hash_there.Statement.{statement}
 use Rattle.replay_accessors.proofs.questions.is_hash_there.Tie as tie
 
-is-hash-requires : tie.Need-is-hash-requires
-is-hash-requires c κs = search needs
-
-enum-known-yes : tie.Need-enum-known-yes
-enum-known-yes c = search needs
-
-enum-told : tie.Need-enum-told
-enum-told c = search needs
-
 returns : tie.Need-returns
 returns c = ap (λ x. isYes (flagIn x)) (sym (c .enum-told .given .1)) ∙ ap isYes (c .before .before .is-hash .ensures)
 
@@ -23,4 +14,4 @@ returns-2 c = ap (λ x. isYes (flagIn x)) (sym (c .before .yes .given .1)) ∙ a
 
 pub is-hash-there-spec : {M : Type 1} → statement M
 is-hash-there-spec =
-    tie.close (tie.spec is-hash-requires enum-known-yes enum-told returns returns-2)
+    tie.close (tie.spec (λ c κs. search needs) (λ c. search needs) (λ c. search needs) returns returns-2)

@@ -5,57 +5,33 @@ use borrow.Author.Needs.{needs}
 use Rattle.schema.proofs.form.begins_no_row.Statement.{statement}
 use Rattle.schema.proofs.form.begins_no_row.Tie as tie
 
-is-between-requires : tie.Need-is-between-requires
-is-between-requires c κs = search needs
-
 returns : tie.Need-returns
 unfolding beginsNoRow
 returns c = rw (sym (c .before .is-between .ensures) ∙ c .if1 .taken)
-
-is-between-requires-2 : tie.Need-is-between-requires-2
-is-between-requires-2 c κs = search needs
 
 returns-2 : tie.Need-returns-2
 unfolding beginsNoRow
 returns-2 c = rw (sym (c .before .before .before .is-between .ensures) ∙ c .before .before .if1 .left, sym (c .before .is-between2 .ensures) ∙ c .if2 .taken)
 
-is-between-requires-3 : tie.Need-is-between-requires-3
-is-between-requires-3 c κs = search needs
-
 returns-3 : tie.Need-returns-3
 unfolding beginsNoRow
 returns-3 c = rw (sym (c .before .before .before .before .before .is-between .ensures) ∙ c .before .before .before .before .if1 .left, sym (c .before .before .before .is-between2 .ensures) ∙ c .before .before .if2 .left, sym (c .before .is-between3 .ensures) ∙ c .if3 .taken)
-
-is-between-requires-4 : tie.Need-is-between-requires-4
-is-between-requires-4 c κs = search needs
 
 returns-4 : tie.Need-returns-4
 unfolding beginsNoRow
 returns-4 c = rw (sym (c .before .before .before .before .before .before .before .is-between .ensures) ∙ c .before .before .before .before .before .before .if1 .left, sym (c .before .before .before .before .before .is-between2 .ensures) ∙ c .before .before .before .before .if2 .left, sym (c .before .before .before .is-between3 .ensures) ∙ c .before .before .if3 .left, sym (c .before .is-between4 .ensures) ∙ c .if4 .taken)
 
-is-between-requires-5 : tie.Need-is-between-requires-5
-is-between-requires-5 c κs = search needs
-
 returns-5 : tie.Need-returns-5
 unfolding beginsNoRow
 returns-5 c = rw (sym (c .before .before .before .before .before .before .before .before .before .is-between .ensures) ∙ c .before .before .before .before .before .before .before .before .if1 .left, sym (c .before .before .before .before .before .before .before .is-between2 .ensures) ∙ c .before .before .before .before .before .before .if2 .left, sym (c .before .before .before .before .before .is-between3 .ensures) ∙ c .before .before .before .before .if3 .left, sym (c .before .before .before .is-between4 .ensures) ∙ c .before .before .if4 .left, sym (c .before .is-between5 .ensures) ∙ c .if5 .taken)
-
-is-between-requires-6 : tie.Need-is-between-requires-6
-is-between-requires-6 c κs = search needs
 
 returns-6 : tie.Need-returns-6
 unfolding beginsNoRow
 returns-6 c = rw (sym (c .before .before .before .before .before .before .before .before .before .before .before .is-between .ensures) ∙ c .before .before .before .before .before .before .before .before .before .before .if1 .left, sym (c .before .before .before .before .before .before .before .before .before .is-between2 .ensures) ∙ c .before .before .before .before .before .before .before .before .if2 .left, sym (c .before .before .before .before .before .before .before .is-between3 .ensures) ∙ c .before .before .before .before .before .before .if3 .left, sym (c .before .before .before .before .before .is-between4 .ensures) ∙ c .before .before .before .before .if4 .left, sym (c .before .before .before .is-between5 .ensures) ∙ c .before .before .if5 .left, sym (c .before .is-between6 .ensures) ∙ c .if6 .taken)
 
-is-between-requires-7 : tie.Need-is-between-requires-7
-is-between-requires-7 c κs = search needs
-
 returns-7 : tie.Need-returns-7
 unfolding beginsNoRow
 returns-7 c = rw (sym (c .before .before .before .before .before .before .before .before .before .before .before .before .before .is-between .ensures) ∙ c .before .before .before .before .before .before .before .before .before .before .before .before .if1 .left, sym (c .before .before .before .before .before .before .before .before .before .before .before .is-between2 .ensures) ∙ c .before .before .before .before .before .before .before .before .before .before .if2 .left, sym (c .before .before .before .before .before .before .before .before .before .is-between3 .ensures) ∙ c .before .before .before .before .before .before .before .before .if3 .left, sym (c .before .before .before .before .before .before .before .is-between4 .ensures) ∙ c .before .before .before .before .before .before .if4 .left, sym (c .before .before .before .before .before .is-between5 .ensures) ∙ c .before .before .before .before .if5 .left, sym (c .before .before .before .is-between6 .ensures) ∙ c .before .before .if6 .left, sym (c .before .is-between7 .ensures) ∙ c .if7 .taken)
-
-is-between-requires-8 : tie.Need-is-between-requires-8
-is-between-requires-8 c κs = search needs
 
 returns-8 : tie.Need-returns-8
 unfolding beginsNoRow
@@ -64,20 +40,5 @@ returns-8 c = rw (sym (c .before .before .before .before .before .before .before
 pub begins-no-row-spec : {M : Type 1} → statement M
 begins-no-row-spec =
     tie.close
-    (tie.spec
-    is-between-requires
-    returns
-    is-between-requires-2
-    returns-2
-    is-between-requires-3
-    returns-3
-    is-between-requires-4
-    returns-4
-    is-between-requires-5
-    returns-5
-    is-between-requires-6
-    returns-6
-    is-between-requires-7
-    returns-7
-    is-between-requires-8
-    returns-8)
+    (tie.spec (λ c κs. search needs) returns (λ c κs. search needs) returns-2 (λ c κs. search needs) returns-3 (λ c κs. search needs) returns-4
+    (λ c κs. search needs) returns-5 (λ c κs. search needs) returns-6 (λ c κs. search needs) returns-7 (λ c κs. search needs) returns-8)

@@ -7,12 +7,6 @@ use borrow.Author.Needs.{needs}
 use Rattle.schema.proofs.form.form_of.Statement.{statement}
 use Rattle.schema.proofs.form.form_of.Tie as tie
 
-shared-slice-read-begins-no-row : tie.Need-shared-slice-read-begins-no-row
-shared-slice-read-begins-no-row c = search needs
-
-begins-no-row-requires : tie.Need-begins-no-row-requires
-begins-no-row-requires c κs = search needs
-
 returns : tie.Need-returns
 returns c =
     let value = c .before .before .before .before .before .args .value .now in
@@ -20,18 +14,7 @@ returns c =
     stopped value 0 3 (c .before .before .before .if1 .taken) (omega arith) (λ k. c .before .before .shared-slice-known2 .given k .fits) (started value)
     (letter-stops (getD value 0 0) (byte .fits) (sym (c .before .begins-no-row .ensures) ∙ c .if2 .taken))
 
-scanned-requires : tie.Need-scanned-requires
-scanned-requires c κs = search needs
-
-returns-2 : tie.Need-returns-2
-returns-2 c = search needs
-
 pub form-of-spec : {M : Type 1} → statement M
 form-of-spec =
     tie.close
-    (tie.spec
-    shared-slice-read-begins-no-row
-    begins-no-row-requires
-    returns
-    scanned-requires
-    returns-2)
+    (tie.spec (λ c. search needs) (λ c κs. search needs) returns (λ c κs. search needs) (λ c. search needs))

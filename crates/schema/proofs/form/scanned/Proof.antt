@@ -21,9 +21,6 @@ abbrev μ-loop : tie.MeasureT-loop
 loop-holds : tie.Need-loop-holds Inv-loop μ-loop
 loop-holds c = (omega arith, started _)
 
-shared-slice-read-byte : tie.Need-shared-slice-read-byte Inv-loop μ-loop
-shared-slice-read-byte c = search needs
-
 cast-byte : tie.Need-cast-byte Inv-loop μ-loop
 cast-byte c = omega (arith, c .shared-slice-known .given (c .before .before .loop .i))
 
@@ -64,12 +61,6 @@ returns c =
     stopped _ _ _ (c .before .before .loop-test .taken) (v .0) (λ k. c .before .shared-slice-known .given k .fits) (v .1)
     (c .if1 .taken)
 
-add-i : tie.Need-add-i Inv-loop μ-loop
-add-i c = search needs
-
-loop-less : tie.Need-loop-less Inv-loop μ-loop
-loop-less c = search needs
-
 loop-again : tie.Need-loop-again Inv-loop μ-loop
 unfolding symbols next
 loop-again c =
@@ -77,9 +68,6 @@ loop-again c =
       step-low _ _ (v .0) (array-read-symbol (c .before)),
       turned _ _ _ (c .before .before .loop-test .taken) (v .0) (λ k. c .before .shared-slice-known .given k .fits) (v .1),
     )
-
-array-read-letter : tie.Need-array-read-letter Inv-loop μ-loop
-array-read-letter c = search needs
 
 -- the letter at the end
 letter : (c : tie.After-loop Inv-loop μ-loop)
@@ -126,30 +114,6 @@ returns-9 c =
 pub scanned-spec : {M : Type 1} → statement M
 scanned-spec =
     tie.close
-    (tie.spec
-    Inv-loop
-    μ-loop
-    loop-holds
-    shared-slice-read-byte
-    cast-byte
-    array-read-symbol
-    sub-symbol
-    cast-symbol
-    mul-state
-    add-state
-    array-read-state
-    sub-state
-    cast-state
-    returns
-    add-i
-    loop-less
-    loop-again
-    array-read-letter
-    returns-2
-    returns-3
-    returns-4
-    returns-5
-    returns-6
-    returns-7
-    returns-8
-    returns-9)
+    (tie.spec Inv-loop μ-loop loop-holds (λ c. search needs) cast-byte array-read-symbol sub-symbol cast-symbol mul-state add-state array-read-state
+    sub-state cast-state returns (λ c. search needs) (λ c. search needs) loop-again (λ c. search needs) returns-2 returns-3 returns-4 returns-5
+    returns-6 returns-7 returns-8 returns-9)

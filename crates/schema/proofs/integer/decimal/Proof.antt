@@ -6,33 +6,18 @@ use Rattle.schema.proofs.Digits.{no-digits, after-minus, after-plus, no
 use Rattle.schema.proofs.integer.decimal.Statement.{statement}
 use Rattle.schema.proofs.integer.decimal.Tie as tie
 
-positive-requires : tie.Need-positive-requires
-positive-requires c κs = search needs
-
 returns : tie.Need-returns
 returns c = c .positive .ensures ∙ ap held (no-digits _ (c .before .if1 .taken))
-
-shared-slice-read-first : tie.Need-shared-slice-read-first
-shared-slice-read-first c = search needs
-
-gather-requires : tie.Need-gather-requires
-gather-requires c κs = search needs
 
 returns-2 : tie.Need-returns-2
 returns-2 c =
     let p = c .before .before in
     c .gather .ensures ∙ ap held (after-minus _ (p .before .if1 .left) (c .before .if2 .taken))
 
-positive-requires-2 : tie.Need-positive-requires-2
-positive-requires-2 c κs = search needs
-
 returns-3 : tie.Need-returns-3
 returns-3 c =
     let p = c .before .before in
     c .positive2 .ensures ∙ ap held (after-plus _ (p .before .before .if1 .left) (p .if2 .left) (c .before .if3 .taken))
-
-positive-requires-3 : tie.Need-positive-requires-3
-positive-requires-3 c κs = search needs
 
 returns-4 : tie.Need-returns-4
 returns-4 c =
@@ -42,13 +27,5 @@ returns-4 c =
 pub decimal-spec : {M : Type 1} → statement M
 decimal-spec =
     tie.close
-    (tie.spec
-    positive-requires
-    returns
-    shared-slice-read-first
-    gather-requires
-    returns-2
-    positive-requires-2
-    returns-3
-    positive-requires-3
-    returns-4)
+    (tie.spec (λ c κs. search needs) returns (λ c. search needs) (λ c κs. search needs) returns-2 (λ c κs. search needs) returns-3
+    (λ c κs. search needs) returns-4)

@@ -4,12 +4,6 @@ use Rattle.schema.proofs.Digits.{decimal-digit, upper-digit, lower-digi
 use Rattle.schema.proofs.integer.digit_value.Statement.{statement}
 use Rattle.schema.proofs.integer.digit_value.Tie as tie
 
-add-result : tie.Need-add-result
-add-result c = search needs
-
-add-result-2 : tie.Need-add-result-2
-add-result-2 c = search needs
-
 returns : tie.Need-returns
 returns c = decimal-digit _ (search needs) (search needs)
 
@@ -34,4 +28,4 @@ returns-7 c = past-lower _ (search needs)
 pub digit-value-spec : {M : Type 1} → statement M
 digit-value-spec =
     tie.close
-    (tie.spec add-result add-result-2 returns returns-2 returns-3 returns-4 returns-5 returns-6 returns-7)
+    (tie.spec (λ c. search needs) (λ c. search needs) returns returns-2 returns-3 returns-4 returns-5 returns-6 returns-7)

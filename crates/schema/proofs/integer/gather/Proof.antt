@@ -39,23 +39,11 @@ module _ (base : ℕ) (small : base < 256) where
   least-fits : SFits w64 (quotZ (negsuc 9223372036854775807) (toZ w64 base))
   least-fits = fits least (div-le-self (2 ^ 63) base)
 
-cast-by : tie.Need-cast-by Inv-loop μ-loop
-cast-by c = search needs
-
 div-least : tie.Need-div-least Inv-loop μ-loop
 div-least c = (c .before .pre, least-fits (c .before .args .base) (omega arith))
 
 loop-holds : tie.Need-loop-holds Inv-loop μ-loop
 loop-holds c = (0, neg 0, omega arith, refl)
-
-shared-slice-read-digit-value : tie.Need-shared-slice-read-digit-value Inv-loop μ-loop
-shared-slice-read-digit-value c = search needs
-
-digit-value-requires : tie.Need-digit-value-requires Inv-loop μ-loop
-digit-value-requires c κs = search needs
-
-cast-digit : tie.Need-cast-digit Inv-loop μ-loop
-cast-digit c = search needs
 
 -- ---- a turn
 module _ (c : tie.After-digit-value Inv-loop μ-loop) where
@@ -128,12 +116,6 @@ module _ (c : tie.Else2 Inv-loop μ-loop) where
 sub-sum : tie.Need-sub-sum Inv-loop μ-loop
 sub-sum c = fits (more-digits c) (room c)
 
-add-i : tie.Need-add-i Inv-loop μ-loop
-add-i c = search needs
-
-loop-less : tie.Need-loop-less Inv-loop μ-loop
-loop-less c = search needs
-
 loop-again : tie.Need-loop-again Inv-loop μ-loop
 loop-again c =
     let p = c .before .before in
@@ -157,21 +139,5 @@ returns-3 c =
 pub gather-spec : {M : Type 1} → statement M
 gather-spec =
     tie.close
-    (tie.spec
-    Inv-loop
-    μ-loop
-    cast-by
-    div-least
-    loop-holds
-    shared-slice-read-digit-value
-    digit-value-requires
-    cast-digit
-    returns
-    mul-shifted
-    add-if2
-    returns-2
-    sub-sum
-    add-i
-    loop-less
-    loop-again
-    returns-3)
+    (tie.spec Inv-loop μ-loop (λ c. search needs) div-least loop-holds (λ c. search needs) (λ c κs. search needs) (λ c. search needs) returns
+    mul-shifted add-if2 returns-2 sub-sum (λ c. search needs) (λ c. search needs) loop-again returns-3)

@@ -8,12 +8,6 @@ use Rattle.schema.proofs.Forms.{core-integer}
 use Rattle.schema.proofs.integer.parse_core_schema_int.Statement.{statement}
 use Rattle.schema.proofs.integer.parse_core_schema_int.Tie as tie
 
-form-of-requires : tie.Need-form-of-requires
-form-of-requires c κs = search needs
-
-integer-of-requires : tie.Need-integer-of-requires
-integer-of-requires c κs = search needs
-
 returns : tie.Need-returns
 returns c =
     let s = c .before .before .before .args .value .now in
@@ -22,4 +16,4 @@ returns c =
     ∙ sym (core-integer s (λ k. c .before .before .shared-slice-known .given k .fits))
 
 pub parse-core-schema-int-spec : {M : Type 1} → statement M
-parse-core-schema-int-spec = tie.close (tie.spec form-of-requires integer-of-requires returns)
+parse-core-schema-int-spec = tie.close (tie.spec (λ c κs. search needs) (λ c κs. search needs) returns)

@@ -13,15 +13,6 @@ use Rattle.schema.proofs.Below.{Neg, back, fits, negated, pos-fits, hel
 use Rattle.schema.proofs.integer.positive.Statement.{statement}
 use Rattle.schema.proofs.integer.positive.Tie as tie
 
-gather-requires : tie.Need-gather-requires
-gather-requires c κs = search needs
-
-enum-known-gathered : tie.Need-enum-known-gathered
-enum-known-gathered c = search needs
-
-enum-told : tie.Need-enum-told
-enum-told c = search needs
-
 returns : tie.Need-returns
 returns c = beyond-pos _ (le-of-lt (nothing-neg _ (sym (c .enum-told .given .1) ∙ c .before .before .gather .ensures)))
 
@@ -52,4 +43,4 @@ returns-3 c =
 pub positive-spec : {M : Type 1} → statement M
 positive-spec =
     tie.close
-    (tie.spec gather-requires enum-known-gathered enum-told returns returns-2 sub-t7 returns-3)
+    (tie.spec (λ c κs. search needs) (λ c. search needs) (λ c. search needs) returns returns-2 sub-t7 returns-3)

@@ -10,51 +10,6 @@ use Rattle.schema.proofs.Forms.{readPlain, core-schema}
 use Rattle.schema.proofs.plain.resolve_plain_scalar.Statement.{statement}
 use Rattle.schema.proofs.plain.resolve_plain_scalar.Tie as tie
 
-form-of-requires : tie.Need-form-of-requires
-form-of-requires c κs = search needs
-
-enum-told : tie.Need-enum-told
-enum-told c = search needs
-
-enum-told-2 : tie.Need-enum-told-2
-enum-told-2 c = search needs
-
-enum-told-3 : tie.Need-enum-told-3
-enum-told-3 c = search needs
-
-enum-told-4 : tie.Need-enum-told-4
-enum-told-4 c = search needs
-
-integer-of-requires : tie.Need-integer-of-requires
-integer-of-requires c κs = search needs
-
-integer-or-requires : tie.Need-integer-or-requires
-integer-or-requires c κs = search needs
-
-enum-told-5 : tie.Need-enum-told-5
-enum-told-5 c = search needs
-
-integer-of-requires-2 : tie.Need-integer-of-requires-2
-integer-of-requires-2 c κs = search needs
-
-integer-or-requires-2 : tie.Need-integer-or-requires-2
-integer-or-requires-2 c κs = search needs
-
-enum-told-6 : tie.Need-enum-told-6
-enum-told-6 c = search needs
-
-integer-of-requires-3 : tie.Need-integer-of-requires-3
-integer-of-requires-3 c κs = search needs
-
-integer-or-requires-3 : tie.Need-integer-or-requires-3
-integer-or-requires-3 c κs = search needs
-
-enum-told-7 : tie.Need-enum-told-7
-enum-told-7 c = search needs
-
-enum-told-8 : tie.Need-enum-told-8
-enum-told-8 c = search needs
-
 -- an arm answers what its form says
 arm : (c : tie.After-form-of) {f : Form} → c .form-of .result ≡ f
     → readPlain f (c .before .before .args .value .now) ≡ coreSchema (c .before .before .args .value .now)
@@ -104,27 +59,6 @@ returns-8 c = arm (c .before .before) (c .enum-told8 .given .1)
 pub resolve-plain-scalar-spec : {M : Type 1} → statement M
 resolve-plain-scalar-spec =
     tie.close
-    (tie.spec
-    form-of-requires
-    enum-told
-    enum-told-2
-    enum-told-3
-    enum-told-4
-    integer-of-requires
-    integer-or-requires
-    enum-told-5
-    integer-of-requires-2
-    integer-or-requires-2
-    enum-told-6
-    integer-of-requires-3
-    integer-or-requires-3
-    enum-told-7
-    enum-told-8
-    returns
-    returns-2
-    returns-3
-    returns-4
-    returns-5
-    returns-6
-    returns-7
-    returns-8)
+    (tie.spec (λ c κs. search needs) (λ c. search needs) (λ c. search needs) (λ c. search needs) (λ c. search needs) (λ c κs. search needs)
+    (λ c κs. search needs) (λ c. search needs) (λ c κs. search needs) (λ c κs. search needs) (λ c. search needs) (λ c κs. search needs)
+    (λ c κs. search needs) (λ c. search needs) (λ c. search needs) returns returns-2 returns-3 returns-4 returns-5 returns-6 returns-7 returns-8)

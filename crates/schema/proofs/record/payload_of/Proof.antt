@@ -11,36 +11,6 @@ use Rattle.schema.specs.declared.plain.Resolved.{Resolved}
 use Rattle.schema.proofs.record.payload_of.Statement.{statement}
 use Rattle.schema.proofs.record.payload_of.Tie as tie
 
-enum-told : tie.Need-enum-told
-enum-told c = search needs
-
-enum-known-resolved : tie.Need-enum-known-resolved
-enum-known-resolved c = search needs
-
-cast-t8 : tie.Need-cast-t8
-cast-t8 c = search needs
-
-enum-known-resolved-2 : tie.Need-enum-known-resolved-2
-enum-known-resolved-2 c = search needs
-
-twos-complement-requires : tie.Need-twos-complement-requires
-twos-complement-requires c κs = search needs
-
-cast-t10 : tie.Need-cast-t10
-cast-t10 c = search needs
-
-cast-t12 : tie.Need-cast-t12
-cast-t12 c = search needs
-
-enum-told-2 : tie.Need-enum-told-2
-enum-told-2 c = search needs
-
-enum-told-3 : tie.Need-enum-told-3
-enum-told-3 c = search needs
-
-enum-told-4 : tie.Need-enum-told-4
-enum-told-4 c = search needs
-
 truth-is : (b : Bool) → boolByte b ≡ truth b
 truth-is true = refl
 truth-is false = refl
@@ -78,20 +48,5 @@ returns-6 c =
 pub payload-of-spec : {M : Type 1} → statement M
 payload-of-spec =
     tie.close
-    (tie.spec
-    enum-told
-    enum-known-resolved
-    cast-t8
-    enum-known-resolved-2
-    twos-complement-requires
-    cast-t10
-    cast-t12
-    enum-told-2
-    enum-told-3
-    enum-told-4
-    returns
-    returns-2
-    returns-3
-    returns-4
-    returns-5
-    returns-6)
+    (tie.spec (λ c. search needs) (λ c. search needs) (λ c. search needs) (λ c. search needs) (λ c κs. search needs) (λ c. search needs)
+    (λ c. search needs) (λ c. search needs) (λ c. search needs) (λ c. search needs) returns returns-2 returns-3 returns-4 returns-5 returns-6)

@@ -9,18 +9,6 @@ use Rattle.schema.proofs.Tags.{rest-of, name-within, no-tag, standard-t
 use Rattle.schema.proofs.tag.resolve_scalar.Statement.{statement}
 use Rattle.schema.proofs.tag.resolve_scalar.Tie as tie
 
-standard-tag-suffix-requires : tie.Need-standard-tag-suffix-requires
-standard-tag-suffix-requires c κs = search needs
-
-enum-known-standard : tie.Need-enum-known-standard
-enum-known-standard c = search needs
-
-enum-told : tie.Need-enum-told
-enum-told c = search needs
-
-resolve-untagged-requires : tie.Need-resolve-untagged-requires
-resolve-untagged-requires c κs = search needs
-
 returns : tie.Need-returns
 returns c =
     let q = c .before .before .before in
@@ -34,12 +22,6 @@ sub-resolve-tagged-scalar c =
 part-resolve-tagged-scalar-start : tie.Need-part-resolve-tagged-scalar-start
 part-resolve-tagged-scalar-start c = sub-resolve-tagged-scalar c
 
-part-resolve-tagged-scalar-end : tie.Need-part-resolve-tagged-scalar-end
-part-resolve-tagged-scalar-end c = search needs
-
-resolve-tagged-scalar-requires : tie.Need-resolve-tagged-scalar-requires
-resolve-tagged-scalar-requires c κs = search needs
-
 returns-2 : tie.Need-returns-2
 returns-2 c =
     let q = c .before .before .before .before .before in
@@ -48,25 +30,11 @@ returns-2 c =
     (rest-of (q .before .before .before .before .before .args .suffix .now) (c .before .before .before .standard .given .0 .0))
     ∙ standard-tag _ _ _ _ _ _ (q .before .if1 .taken) (sym (q .standard-tag-suffix .ensures) ∙ c .before .before .before .standard .given .1)
 
-resolve-untagged-requires-2 : tie.Need-resolve-untagged-requires-2
-resolve-untagged-requires-2 c κs = search needs
-
 returns-3 : tie.Need-returns-3
 returns-3 c = c .resolve-untagged2 .ensures ∙ no-tag _ _ _ _ _ (c .before .if1 .left)
 
 pub resolve-scalar-spec : {M : Type 1} → statement M
 resolve-scalar-spec =
     tie.close
-    (tie.spec
-    standard-tag-suffix-requires
-    enum-known-standard
-    enum-told
-    resolve-untagged-requires
-    returns
-    sub-resolve-tagged-scalar
-    part-resolve-tagged-scalar-start
-    part-resolve-tagged-scalar-end
-    resolve-tagged-scalar-requires
-    returns-2
-    resolve-untagged-requires-2
-    returns-3)
+    (tie.spec (λ c κs. search needs) (λ c. search needs) (λ c. search needs) (λ c κs. search needs) returns sub-resolve-tagged-scalar
+    part-resolve-tagged-scalar-start (λ c. search needs) (λ c κs. search needs) returns-2 (λ c κs. search needs) returns-3)

@@ -5,9 +5,6 @@ use Rattle.schema.proofs.Tags.{when-plain, when-not-plain}
 use Rattle.schema.proofs.tag.resolve_untagged.Statement.{statement}
 use Rattle.schema.proofs.tag.resolve_untagged.Tie as tie
 
-resolve-plain-scalar-requires : tie.Need-resolve-plain-scalar-requires
-resolve-plain-scalar-requires c κs = search needs
-
 returns : tie.Need-returns
 returns c = c .resolve-plain-scalar .ensures ∙ when-plain _ _ (c .before .if1 .taken)
 
@@ -15,4 +12,4 @@ returns-2 : tie.Need-returns-2
 returns-2 c = when-not-plain _ _ (c .if1 .left)
 
 pub resolve-untagged-spec : {M : Type 1} → statement M
-resolve-untagged-spec = tie.close (tie.spec resolve-plain-scalar-requires returns returns-2)
+resolve-untagged-spec = tie.close (tie.spec (λ c κs. search needs) returns returns-2)

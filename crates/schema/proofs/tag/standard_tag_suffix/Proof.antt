@@ -9,12 +9,6 @@ use Rattle.schema.proofs.Tags.{told, by-handle, by-suffix, other-suffix
 use Rattle.schema.proofs.tag.standard_tag_suffix.Statement.{statement}
 use Rattle.schema.proofs.tag.standard_tag_suffix.Tie as tie
 
-slice-aggregate-same : tie.Need-slice-aggregate-same
-slice-aggregate-same c = search needs
-
-same-requires : tie.Need-same-requires
-same-requires c κs = search needs
-
 -- the test of the handle
 handle : (c : tie.After-same) → c .same .result ≡ sameBytes (c .before .before .before .before .args .handle .now) standardHandle
 handle c = told _ _ _ (c .same .ensures)
@@ -30,12 +24,6 @@ returns c = by-handle _ _ (sym (handle (c .before)) ∙ c .if1 .taken)
 slice-aggregate-same-2 : tie.Need-slice-aggregate-same-2
 slice-aggregate-same-2 c =
     sym (length-take-le 18 (c .before .before .before .before .before .before .before .before .args .suffix .now) (c .before .if3 .taken))
-
-slice-aggregate-same-3 : tie.Need-slice-aggregate-same-3
-slice-aggregate-same-3 c = search needs
-
-same-requires-2 : tie.Need-same-requires-2
-same-requires-2 c κs = search needs
 
 returns-2 : tie.Need-returns-2
 returns-2 c =
@@ -60,14 +48,5 @@ returns-5 c =
 pub standard-tag-suffix-spec : {M : Type 1} → statement M
 standard-tag-suffix-spec =
     tie.close
-    (tie.spec
-    slice-aggregate-same
-    same-requires
-    returns
-    slice-aggregate-same-2
-    slice-aggregate-same-3
-    same-requires-2
-    returns-2
-    returns-3
-    returns-4
-    returns-5)
+    (tie.spec (λ c. search needs) (λ c κs. search needs) returns slice-aggregate-same-2 (λ c. search needs) (λ c κs. search needs) returns-2 returns-3
+    returns-4 returns-5)

@@ -8,33 +8,6 @@ use Rattle.schema.proofs.Forms.{readNull, tagged-null}
 use Rattle.schema.proofs.tag.tagged_null.Statement.{statement}
 use Rattle.schema.proofs.tag.tagged_null.Tie as tie
 
-form-of-requires : tie.Need-form-of-requires
-form-of-requires c κs = search needs
-
-enum-told : tie.Need-enum-told
-enum-told c = search needs
-
-enum-told-2 : tie.Need-enum-told-2
-enum-told-2 c = search needs
-
-enum-told-3 : tie.Need-enum-told-3
-enum-told-3 c = search needs
-
-enum-told-4 : tie.Need-enum-told-4
-enum-told-4 c = search needs
-
-enum-told-5 : tie.Need-enum-told-5
-enum-told-5 c = search needs
-
-enum-told-6 : tie.Need-enum-told-6
-enum-told-6 c = search needs
-
-enum-told-7 : tie.Need-enum-told-7
-enum-told-7 c = search needs
-
-enum-told-8 : tie.Need-enum-told-8
-enum-told-8 c = search needs
-
 -- an arm answers what its form says
 arm : (c : tie.After-form-of) {f : Form} → c .form-of .result ≡ f → readNull f (c .before .before .args .value .now) ≡ taggedAs (bytes "null") (c .before .before .args .value .now)
 arm c e =
@@ -68,21 +41,5 @@ returns-8 c = arm (c .before .before) (c .enum-told8 .given .1)
 pub tagged-null-spec : {M : Type 1} → statement M
 tagged-null-spec =
     tie.close
-    (tie.spec
-    form-of-requires
-    enum-told
-    enum-told-2
-    enum-told-3
-    enum-told-4
-    enum-told-5
-    enum-told-6
-    enum-told-7
-    enum-told-8
-    returns
-    returns-2
-    returns-3
-    returns-4
-    returns-5
-    returns-6
-    returns-7
-    returns-8)
+    (tie.spec (λ c κs. search needs) (λ c. search needs) (λ c. search needs) (λ c. search needs) (λ c. search needs) (λ c. search needs)
+    (λ c. search needs) (λ c. search needs) (λ c. search needs) returns returns-2 returns-3 returns-4 returns-5 returns-6 returns-7 returns-8)

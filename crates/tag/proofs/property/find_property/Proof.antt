@@ -47,12 +47,6 @@ part-token-start c = let whole = token-at c .whole in omega arith
 part-token-end : tie.Need-part-token-end Inv-loop μ-loop
 part-token-end c = token-at c .end .within
 
-opening-len-requires : tie.Need-opening-len-requires Inv-loop μ-loop
-opening-len-requires c κs = tt
-
-byte-at-requires : tie.Need-byte-at-requires Inv-loop μ-loop
-byte-at-requires c κs = tt
-
 add-t13 : tie.Need-add-t13 Inv-loop μ-loop
 add-t13 c = let fits = tag-fits (turn-at (c .before)) (c .if1 .taken) in omega arith
 
@@ -71,19 +65,5 @@ loop-again c = anchor-passed (turn-at (c .before .before)) (c .if2 .left)
 pub find-property-spec : {M : Type 1} → statement M
 find-property-spec =
     tie.close
-    (tie.spec
-    Inv-loop
-    μ-loop
-    loop-holds
-    token-end-requires
-    token-start-requires
-    sub-token
-    part-token-start
-    part-token-end
-    opening-len-requires
-    byte-at-requires
-    add-t13
-    returns
-    returns-2
-    loop-less
-    loop-again)
+    (tie.spec Inv-loop μ-loop loop-holds token-end-requires token-start-requires sub-token part-token-start part-token-end (λ c κs. tt) (λ c κs. tt)
+    add-t13 returns returns-2 loop-less loop-again)

@@ -6,12 +6,9 @@ use Rattle.tag.specs.Tag.{tagOffset}
 use Rattle.tag.proofs.property.find_tag_offset.Statement.{statement}
 use Rattle.tag.proofs.property.find_tag_offset.Tie as tie
 
-find-property-requires : tie.Need-find-property-requires
-find-property-requires c κs = search needs
-
 returns : tie.Need-returns
 unfolding tagOffset
 returns c = ap (λ (p : Span). p .start) (c .find-property .ensures)
 
 pub find-tag-offset-spec : {M : Type 1} → statement M
-find-tag-offset-spec = tie.close (tie.spec find-property-requires returns)
+find-tag-offset-spec = tie.close (tie.spec (λ c κs. search needs) returns)

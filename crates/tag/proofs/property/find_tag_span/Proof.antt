@@ -13,9 +13,6 @@ use Rattle.tag.specs.TagLaws.{Within, property-within}
 use Rattle.tag.proofs.property.find_tag_span.Statement.{statement}
 use Rattle.tag.proofs.property.find_tag_span.Tie as tie
 
-find-property-requires : tie.Need-find-property-requires
-find-property-requires c κs = search needs
-
 inside : {s : List ℕ} {i : ℕ} {p : Span} → Utf8 s → Boundary s i → p ≡ propertySpan s i → Within s p
 inside u b is = rw is (property-within u b)
 
@@ -39,4 +36,4 @@ returns c = ap (part (c .before .before .before .args .text .now)) (c .before .f
 pub find-tag-span-spec : {M : Type 1} → statement M
 find-tag-span-spec =
     tie.close
-    (tie.spec find-property-requires sub-result part-result-start part-result-end returns)
+    (tie.spec (λ c κs. search needs) sub-result part-result-start part-result-end returns)

@@ -26,12 +26,6 @@ module _ {s p : List ℕ} {i : ℕ} (u : Utf8 s) (b : Boundary s i) (part : p �
   unfolding guess
   guessed h n e end = ap (span i) end ∙ part-empty u b n (rw part at h)
 
-find-tag-span-requires : tie.Need-find-tag-span-requires
-find-tag-span-requires c κs = search needs
-
-find-tag-offset-requires : tie.Need-find-tag-offset-requires
-find-tag-offset-requires c κs = search needs
-
 add-t10 : tie.Need-add-t10
 add-t10 c =
     let pre = c .before .before .before .before .pre in
@@ -42,15 +36,6 @@ returns : tie.Need-returns
 returns c =
     let pre = c .before .before .before .before .pre in
     found (pre .0) (pre .1) (c .before .before .find-tag-span .ensures) (c .find-tag-offset .ensures) (c .before .if1 .taken) _
-
-sub-left : tie.Need-sub-left
-sub-left c = search needs
-
-add-t11 : tie.Need-add-t11
-add-t11 c = search needs
-
-add-t12 : tie.Need-add-t12
-add-t12 c = search needs
 
 returns-2 : tie.Need-returns-2
 returns-2 c =
@@ -66,4 +51,5 @@ returns-3 c =
 pub make-tag-info-spec : {M : Type 1} → statement M
 make-tag-info-spec =
     tie.close
-    (tie.spec find-tag-span-requires find-tag-offset-requires add-t10 returns sub-left add-t11 add-t12 returns-2 returns-3)
+    (tie.spec (λ c κs. search needs) (λ c κs. search needs) add-t10 returns (λ c. search needs) (λ c. search needs) (λ c. search needs) returns-2
+    returns-3)

@@ -22,9 +22,6 @@ loop-holds c = (omega arith, omega arith)
 shared-slice-read-is-opening : tie.Need-shared-slice-read-is-opening Inv-loop μ-loop
 shared-slice-read-is-opening c = omega arith
 
-is-opening-requires : tie.Need-is-opening-requires Inv-loop μ-loop
-is-opening-requires c κs = tt
-
 returns : tie.Need-returns Inv-loop μ-loop
 returns c =
     let here = openings-here (c .before .before .before .before .before .before .args .token .now) (c .before .before .before .before .loop .i) (c .before .before .before .loop-test .taken) (sym (c .before .is-opening .ensures) ∙ not-true _ (c .if1 .taken)) in
@@ -52,14 +49,4 @@ returns-2 c =
 pub opening-len-spec : {M : Type 1} → statement M
 opening-len-spec =
     tie.close
-    (tie.spec
-    Inv-loop
-    μ-loop
-    loop-holds
-    shared-slice-read-is-opening
-    is-opening-requires
-    returns
-    add-i
-    loop-less
-    loop-again
-    returns-2)
+    (tie.spec Inv-loop μ-loop loop-holds shared-slice-read-is-opening (λ c κs. tt) returns add-i loop-less loop-again returns-2)

@@ -28,9 +28,6 @@ loop-holds c = going-start isTokenChar (c .before .pre .1)
 last-char-requires : tie.Need-last-char-requires Inv-loop μ-loop
 last-char-requires c κs = (c .before .before .before .pre .0, c .before .loop .inv .edge)
 
-is-white-space-requires : tie.Need-is-white-space-requires Inv-loop μ-loop
-is-white-space-requires c κs = tt
-
 returns : tie.Need-returns Inv-loop μ-loop
 returns c = going-stops (step-at (c .before .before)) (ap not (sym (c .before .is-white-space .ensures) ∙ c .if1 .taken))
 
@@ -49,14 +46,4 @@ returns-2 c = going-ends (c .before .before .before .pre .0) (c .before .loop .i
 pub token-start-spec : {M : Type 1} → statement M
 token-start-spec =
     tie.close
-    (tie.spec
-    Inv-loop
-    μ-loop
-    loop-holds
-    last-char-requires
-    is-white-space-requires
-    returns
-    sub-j
-    loop-less
-    loop-again
-    returns-2)
+    (tie.spec Inv-loop μ-loop loop-holds last-char-requires (λ c κs. tt) returns sub-j loop-less loop-again returns-2)

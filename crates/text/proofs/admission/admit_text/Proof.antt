@@ -11,18 +11,12 @@ returns : tie.Need-returns
 unfolding admission
 returns c = rw (lt-ltb _ _ (c .if1 .taken))
 
-is-ascii-requires : tie.Need-is-ascii-requires
-is-ascii-requires c κs = search needs
-
 returns-2 : tie.Need-returns-2
 unfolding admission
 returns-2 c =
     let s = c .before .before .before .before .args .text .now in
     let ascii = sym (c .before .is-ascii .ensures) ∙ c .if2 .taken in
     rw (le-ltb _ _ (c .before .before .if1 .left), ascii, ascii-utf8 s ascii)
-
-is-utf8-requires : tie.Need-is-utf8-requires
-is-utf8-requires c κs = search needs
 
 returns-3 : tie.Need-returns-3
 unfolding admission
@@ -38,4 +32,4 @@ returns-4 c =
     rw (le-ltb _ _ (c .before .before .before .before .if1 .left), utf8)
 
 pub admit-text-spec : {M : Type 1} → statement M
-admit-text-spec = tie.close (tie.spec returns is-ascii-requires returns-2 is-utf8-requires returns-3 returns-4)
+admit-text-spec = tie.close (tie.spec returns (λ c κs. search needs) returns-2 (λ c κs. search needs) returns-3 returns-4)

@@ -10,26 +10,11 @@ use Rattle.text.proofs.admission.admit_text_and_value.Tie as tie
 returns : tie.Need-returns
 returns c = sym (both-long (c .before .before .before .args .text .now) (c .before .before .before .args .value .now) (lt-ltb _ _ (c .if1 .taken)))
 
-admit-text-requires : tie.Need-admit-text-requires
-admit-text-requires c κs = search needs
-
-enum-known-of-text : tie.Need-enum-known-of-text
-enum-known-of-text c = search needs
-
-is-utf8-requires : tie.Need-is-utf8-requires
-is-utf8-requires c κs = search needs
-
 returns-2 : tie.Need-returns-2
 returns-2 c =
     sym
     (both-admitted (c .before .before .before .before .before .before .before .before .before .args .text .now) (c .before .before .before .before .before .before .before .before .before .args .value .now) _ (le-ltb _ _ (c .before .before .before .before .before .before .if1 .left)) (sym (c .before .before .before .before .before .admit-text .ensures) ∙ c .before .before .before .of-text .given .1)
     ∙ rw (sym (c .before .is-utf8 .ensures) ∙ c .if2 .taken))
-
-enum-told : tie.Need-enum-told
-enum-told c = search needs
-
-enum-told-2 : tie.Need-enum-told-2
-enum-told-2 c = search needs
 
 returns-3 : tie.Need-returns-3
 returns-3 c =
@@ -46,14 +31,5 @@ returns-5 c = sym (both-not-utf8 (c .before .before .before .before .before .bef
 pub admit-text-and-value-spec : {M : Type 1} → statement M
 admit-text-and-value-spec =
     tie.close
-    (tie.spec
-    returns
-    admit-text-requires
-    enum-known-of-text
-    is-utf8-requires
-    returns-2
-    enum-told
-    enum-told-2
-    returns-3
-    returns-4
-    returns-5)
+    (tie.spec returns (λ c κs. search needs) (λ c. search needs) (λ c κs. search needs) returns-2 (λ c. search needs) (λ c. search needs) returns-3
+    returns-4 returns-5)

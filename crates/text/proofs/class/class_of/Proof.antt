@@ -6,12 +6,9 @@ use Rattle.text.proofs.Table.{entry}
 use Rattle.text.proofs.class.class_of.Statement.{statement}
 use Rattle.text.proofs.class.class_of.Tie as tie
 
-array-read-result : tie.Need-array-read-result
-array-read-result c = search needs
-
 returns : tie.Need-returns
 unfolding classOf
 returns c = let h : c .args .b < 256 = search needs in let t : Unit {0} = tt in rw (entry classOf)
 
 pub class-of-spec : {M : Type 1} → statement M
-class-of-spec = tie.close (tie.spec array-read-result returns)
+class-of-spec = tie.close (tie.spec (λ c. search needs) returns)

@@ -9,11 +9,8 @@ answers : Answers 2 isDecimalDigit
 unfolding classOf
 answers = tt
 
-class-of-requires : tie.Need-class-of-requires
-class-of-requires c κs = search needs
-
 returns : tie.Need-returns
 returns c = answer 2 isDecimalDigit answers (c .before .args .b) (c .class-of .result) (c .before .fits .b .fits) (c .class-of .ensures)
 
 pub is-decimal-digit-spec : {M : Type 1} → statement M
-is-decimal-digit-spec = tie.close (tie.spec class-of-requires returns)
+is-decimal-digit-spec = tie.close (tie.spec (λ c κs. search needs) returns)

@@ -9,11 +9,8 @@ answers : Answers 4 isHexDigit
 unfolding classOf
 answers = tt
 
-class-of-requires : tie.Need-class-of-requires
-class-of-requires c κs = search needs
-
 returns : tie.Need-returns
 returns c = answer 4 isHexDigit answers (c .before .args .b) (c .class-of .result) (c .before .fits .b .fits) (c .class-of .ensures)
 
 pub is-hex-digit-spec : {M : Type 1} → statement M
-is-hex-digit-spec = tie.close (tie.spec class-of-requires returns)
+is-hex-digit-spec = tie.close (tie.spec (λ c κs. search needs) returns)

@@ -49,13 +49,10 @@ returns-4 c = control (c .before .before .before .before .args .b) (omega arith)
 returns-5 : tie.Need-returns-5
 returns-5 c = past (c .before .before .args .b) (omega arith)
 
-class-of-requires : tie.Need-class-of-requires
-class-of-requires c κs = search needs
-
 returns-6 : tie.Need-returns-6
 returns-6 c = answer 1 isWhiteSpaceByte answers (c .before .before .before .args .b) (c .class-of .result) (c .before .before .before .fits .b .fits) (c .class-of .ensures)
 
 pub is-white-space-byte-spec : {M : Type 1} → statement M
 is-white-space-byte-spec =
     tie.close
-    (tie.spec returns returns-2 returns-3 returns-4 returns-5 class-of-requires returns-6)
+    (tie.spec returns returns-2 returns-3 returns-4 returns-5 (λ c κs. search needs) returns-6)

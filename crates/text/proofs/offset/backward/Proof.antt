@@ -38,13 +38,4 @@ returns c = stands-cursor (c .before .loop .inv .0) ∙ ap (λ (k : ℕ). cursor
 pub backward-spec : {M : Type 1} → statement M
 backward-spec =
     tie.close
-    (tie.spec
-    Inv-loop
-    μ-loop
-    loop-holds
-    last-char-requires
-    sub-offset
-    sub-chars
-    loop-less
-    loop-again
-    returns)
+    (tie.spec Inv-loop μ-loop loop-holds last-char-requires sub-offset sub-chars loop-less loop-again returns)

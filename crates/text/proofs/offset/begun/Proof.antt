@@ -4,9 +4,6 @@ use borrow.Author.Needs.{needs}
 use Rattle.text.proofs.offset.begun.Statement.{statement}
 use Rattle.text.proofs.offset.begun.Tie as tie
 
-is-continuation-requires : tie.Need-is-continuation-requires
-is-continuation-requires c κs = search needs
-
 returns : tie.Need-returns
 returns c = rw (sym (c .before .is-continuation .ensures) ∙ c .if1 .taken)
 
@@ -14,4 +11,4 @@ returns-2 : tie.Need-returns-2
 returns-2 c = rw (sym (c .before .is-continuation .ensures) ∙ c .if1 .left)
 
 pub begun-spec : {M : Type 1} → statement M
-begun-spec = tie.close (tie.spec is-continuation-requires returns returns-2)
+begun-spec = tie.close (tie.spec (λ c κs. search needs) returns returns-2)

@@ -45,15 +45,4 @@ returns-2 c = stands-cursor (c .before .loop .inv .0) ∙ ap (λ (k : ℕ). curs
 pub forward-spec : {M : Type 1} → statement M
 forward-spec =
     tie.close
-    (tie.spec
-    Inv-loop
-    μ-loop
-    over-chunks-requires
-    loop-holds
-    returns
-    char-len-requires
-    add-offset
-    add-chars
-    loop-less
-    loop-again
-    returns-2)
+    (tie.spec Inv-loop μ-loop over-chunks-requires loop-holds returns char-len-requires add-offset add-chars loop-less loop-again returns-2)

@@ -23,18 +23,6 @@ returns-2 c =
     let least : min target (length s) ≡ length s = omega arith in
     sym (ascii-cursor s target (sym (c .before .before .before .pre .1 .0) ∙ c .before .if1 .taken) ∙ rw least)
 
-forward-requires : tie.Need-forward-requires
-forward-requires c κs = search needs
-
-returns-3 : tie.Need-returns-3
-returns-3 c = search needs
-
-backward-requires : tie.Need-backward-requires
-backward-requires c κs = search needs
-
-returns-4 : tie.Need-returns-4
-returns-4 c = search needs
-
 pub moved-to-spec : {M : Type 1} → statement M
 moved-to-spec =
-    tie.close (tie.spec returns returns-2 forward-requires returns-3 backward-requires returns-4)
+    tie.close (tie.spec returns returns-2 (λ c κs. search needs) (λ c. search needs) (λ c κs. search needs) (λ c. search needs))

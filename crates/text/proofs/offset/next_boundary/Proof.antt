@@ -25,12 +25,6 @@ on s i h e f g = goes-on s i h (rw (← e, ← f) g)
 loop-holds : tie.Need-loop-holds Inv-loop μ-loop
 loop-holds c = (c .before .pre, refl)
 
-byte-at-requires : tie.Need-byte-at-requires Inv-loop μ-loop
-byte-at-requires c κs = tt
-
-is-continuation-requires : tie.Need-is-continuation-requires Inv-loop μ-loop
-is-continuation-requires c κs = tt
-
 add-end : tie.Need-add-end Inv-loop μ-loop
 add-end c = let h = on (c .before .before .before .before .before .args .s .now) (c .before .before .before .loop .end) (c .before .before .before .loop .inv .0) (c .before .before .byte-at .ensures) (c .before .is-continuation .ensures) (c .if1 .taken) .0 in omega arith
 
@@ -55,13 +49,4 @@ returns c = (
 pub next-boundary-spec : {M : Type 1} → statement M
 next-boundary-spec =
     tie.close
-    (tie.spec
-    Inv-loop
-    μ-loop
-    loop-holds
-    byte-at-requires
-    is-continuation-requires
-    add-end
-    loop-less
-    loop-again
-    returns)
+    (tie.spec Inv-loop μ-loop loop-holds (λ c κs. tt) (λ c κs. tt) add-end loop-less loop-again returns)

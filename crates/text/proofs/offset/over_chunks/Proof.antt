@@ -81,20 +81,5 @@ returns c =
 pub over-chunks-spec : {M : Type 1} → statement M
 over-chunks-spec =
     tie.close
-    (tie.spec
-    Inv-loop
-    μ-loop
-    loop-holds
-    sub-loop
-    sub-if1
-    add-end
-    sub-starts
-    part-starts-start
-    part-starts-end
-    starts-requires
-    cast-chars
-    add-chars
-    loop-less
-    loop-again
-    next-boundary-requires
-    returns)
+    (tie.spec Inv-loop μ-loop loop-holds sub-loop sub-if1 add-end sub-starts part-starts-start part-starts-end starts-requires cast-chars add-chars
+    loop-less loop-again next-boundary-requires returns)

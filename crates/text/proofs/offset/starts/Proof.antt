@@ -23,9 +23,6 @@ loop-holds c = (omega arith, refl)
 shared-slice-read-begun : tie.Need-shared-slice-read-begun Inv-loop μ-loop
 shared-slice-read-begun c = omega arith
 
-begun-requires : tie.Need-begun-requires Inv-loop μ-loop
-begun-requires c κs = tt
-
 add-n : tie.Need-add-n Inv-loop μ-loop
 add-n c =
     let w = c .before .before .before .loop in
@@ -57,14 +54,4 @@ returns c = c .before .loop .inv .1 ∙ ap starts (take-all (c .before .loop .i)
 pub starts-spec : {M : Type 1} → statement M
 starts-spec =
     tie.close
-    (tie.spec
-    Inv-loop
-    μ-loop
-    loop-holds
-    shared-slice-read-begun
-    begun-requires
-    add-n
-    add-i
-    loop-less
-    loop-again
-    returns)
+    (tie.spec Inv-loop μ-loop loop-holds shared-slice-read-begun (λ c κs. tt) add-n add-i loop-less loop-again returns)

@@ -7,16 +7,10 @@ use Rattle.text.proofs.utf8.byte_at.Reads as reads
 use Rattle.text.proofs.utf8.byte_at.Lts as lts
 
 -- src/utf8.rt:25:16
-shared-slice-read-result : tie.Need-shared-slice-read-result
-shared-slice-read-result c = search needs
-
 -- src/utf8.rt:25:9
-returns : tie.Need-returns
-returns c = search needs
-
 -- src/utf8.rt:21:1
 returns-2 : tie.Need-returns-2
 returns-2 c = sym (List·getD-eq-default (c .before .args .s .now) 0 (c .if1 .left))
 
 pub byte-at-spec : {M : Type 1} → statement M
-byte-at-spec = tie.close (tie.spec shared-slice-read-result returns returns-2)
+byte-at-spec = tie.close (tie.spec (λ c. search needs) (λ c. search needs) returns-2)

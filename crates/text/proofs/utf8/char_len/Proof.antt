@@ -5,9 +5,6 @@ use borrow.Author.Needs.{needs}
 use Rattle.text.proofs.utf8.char_len.Statement.{statement}
 use Rattle.text.proofs.utf8.char_len.Tie as tie
 
-shared-slice-read-lead : tie.Need-shared-slice-read-lead
-shared-slice-read-lead c = search needs
-
 returns : tie.Need-returns
 returns c = sym (one-there (c .before .before .args .s .now) (c .before .before .args .i) (c .before .before .pre .0) (c .before .before .pre .1 .0) (c .before .before .pre .1 .1) (c .if1 .taken))
 
@@ -21,4 +18,4 @@ returns-4 : tie.Need-returns-4
 returns-4 c = sym (four-there (c .before .before .before .before .args .s .now) (c .before .before .before .before .args .i) (c .before .before .before .before .pre .0) (c .before .before .before .before .pre .1 .0) (c .before .before .before .before .pre .1 .1) (c .before .before .if1 .left) (c .if3 .left))
 
 pub char-len-spec : {M : Type 1} → statement M
-char-len-spec = tie.close (tie.spec shared-slice-read-lead returns returns-2 returns-3 returns-4)
+char-len-spec = tie.close (tie.spec (λ c. search needs) returns returns-2 returns-3 returns-4)

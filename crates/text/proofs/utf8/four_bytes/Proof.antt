@@ -6,44 +6,14 @@ use borrow.Author.Needs.{needs}
 use Rattle.text.proofs.utf8.four_bytes.Statement.{statement}
 use Rattle.text.proofs.utf8.four_bytes.Tie as tie
 
-is-continuation-requires : tie.Need-is-continuation-requires
-is-continuation-requires c κs = search needs
-
-is-continuation-requires-2 : tie.Need-is-continuation-requires-2
-is-continuation-requires-2 c κs = search needs
-
-is-continuation-requires-3 : tie.Need-is-continuation-requires-3
-is-continuation-requires-3 c κs = search needs
-
-sub-code : tie.Need-sub-code
-sub-code c = search needs
-
-mul-code : tie.Need-mul-code
-mul-code c = search needs
-
 sub-code-2 : tie.Need-sub-code-2
 sub-code-2 c = inside-low 128 191 (c .before .before .before .before .before .before .args .b) (sym (c .before .before .before .before .before .is-continuation .ensures) ∙ c .before .before .before .before .if1 .taken)
-
-mul-code-2 : tie.Need-mul-code-2
-mul-code-2 c = search needs
-
-add-code : tie.Need-add-code
-add-code c = search needs
 
 sub-code-3 : tie.Need-sub-code-3
 sub-code-3 c = inside-low 128 191 (c .before .before .before .before .before .before .args .c) (sym (c .before .before .before .is-continuation2 .ensures) ∙ c .before .before .if2 .taken)
 
-mul-code-3 : tie.Need-mul-code-3
-mul-code-3 c = search needs
-
-add-code-2 : tie.Need-add-code-2
-add-code-2 c = search needs
-
 sub-code-4 : tie.Need-sub-code-4
 sub-code-4 c = inside-low 128 191 (c .before .before .before .before .before .before .args .d) (sym (c .before .is-continuation3 .ensures) ∙ c .if3 .taken)
-
-add-code-3 : tie.Need-add-code-3
-add-code-3 c = search needs
 
 returns : tie.Need-returns
 unfolding fourBytes
@@ -72,23 +42,6 @@ returns-6 c = rw (sym (c .before .is-continuation .ensures) ∙ c .if1 .left)
 pub four-bytes-spec : {M : Type 1} → statement M
 four-bytes-spec =
     tie.close
-    (tie.spec
-    is-continuation-requires
-    is-continuation-requires-2
-    is-continuation-requires-3
-    sub-code
-    mul-code
-    sub-code-2
-    mul-code-2
-    add-code
-    sub-code-3
-    mul-code-3
-    add-code-2
-    sub-code-4
-    add-code-3
-    returns
-    returns-2
-    returns-3
-    returns-4
-    returns-5
-    returns-6)
+    (tie.spec (λ c κs. search needs) (λ c κs. search needs) (λ c κs. search needs) (λ c. search needs) (λ c. search needs) sub-code-2
+    (λ c. search needs) (λ c. search needs) sub-code-3 (λ c. search needs) (λ c. search needs) sub-code-4 (λ c. search needs) returns returns-2
+    returns-3 returns-4 returns-5 returns-6)

@@ -5,12 +5,6 @@ use borrow.Author.Needs.{needs}
 use Rattle.text.proofs.utf8.is_boundary.Statement.{statement}
 use Rattle.text.proofs.utf8.is_boundary.Tie as tie
 
-byte-at-requires : tie.Need-byte-at-requires
-byte-at-requires c κs = search needs
-
-is-continuation-requires : tie.Need-is-continuation-requires
-is-continuation-requires c κs = search needs
-
 returns : tie.Need-returns
 unfolding isBoundary
 returns c = rw (c .is-continuation .ensures, c .before .byte-at .ensures, le-leb _ _ (c .before .before .if1 .taken))
@@ -20,4 +14,4 @@ unfolding isBoundary
 returns-2 c = rw (lt-leb _ _ (c .if1 .left))
 
 pub is-boundary-spec : {M : Type 1} → statement M
-is-boundary-spec = tie.close (tie.spec byte-at-requires is-continuation-requires returns returns-2)
+is-boundary-spec = tie.close (tie.spec (λ c κs. search needs) (λ c κs. search needs) returns returns-2)

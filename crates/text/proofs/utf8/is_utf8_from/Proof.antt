@@ -19,9 +19,6 @@ abbrev μ-loop : tie.MeasureT-loop
 loop-holds : tie.Need-loop-holds Inv-loop μ-loop
 loop-holds c = refl
 
-first-char-requires : tie.Need-first-char-requires Inv-loop μ-loop
-first-char-requires c κs = tt
-
 returns : tie.Need-returns Inv-loop μ-loop
 returns c =
     let s = c .before .before .before .before .before .before .args .s .now in
@@ -58,13 +55,4 @@ returns-2 c = sym (utf8-end (c .before .before .before .args .s .now) (c .before
 pub is-utf8-from-spec : {M : Type 1} → statement M
 is-utf8-from-spec =
     tie.close
-    (tie.spec
-    Inv-loop
-    μ-loop
-    loop-holds
-    first-char-requires
-    returns
-    add-i
-    loop-less
-    loop-again
-    returns-2)
+    (tie.spec Inv-loop μ-loop loop-holds (λ c κs. tt) returns add-i loop-less loop-again returns-2)

@@ -32,12 +32,6 @@ loop-holds c =
     let some = p .is .some in
     (omega arith, omega arith)
 
-byte-at-requires : tie.Need-byte-at-requires Inv-loop μ-loop
-byte-at-requires c κs = tt
-
-is-continuation-requires : tie.Need-is-continuation-requires Inv-loop μ-loop
-is-continuation-requires c κs = tt
-
 sub-j-2 : tie.Need-sub-j-2 Inv-loop μ-loop
 sub-j-2 c =
     let s = c .before .before .before .before .before .before .args .s .now in
@@ -62,9 +56,6 @@ loop-again c =
     let past = past-start s i (lastChar (take i s)) p (c .before .before .before .loop .j) (c .before .before .before .loop .inv .0) (sym (c .before .is-continuation .ensures ∙ ap isContinuation (c .before .before .byte-at .ensures)) ∙ c .if2 .taken) in
     (omega arith, omega arith)
 
-first-char-requires : tie.Need-first-char-requires Inv-loop μ-loop
-first-char-requires c κs = tt
-
 returns-2 : tie.Need-returns-2 Inv-loop μ-loop
 returns-2 c =
     let s = c .before .before .before .before .before .before .before .args .s .now in
@@ -76,16 +67,4 @@ returns-2 c =
 pub last-char-spec : {M : Type 1} → statement M
 last-char-spec =
     tie.close
-    (tie.spec
-    Inv-loop
-    μ-loop
-    returns
-    sub-j
-    loop-holds
-    byte-at-requires
-    is-continuation-requires
-    sub-j-2
-    loop-less
-    loop-again
-    first-char-requires
-    returns-2)
+    (tie.spec Inv-loop μ-loop returns sub-j loop-holds (λ c κs. tt) (λ c κs. tt) sub-j-2 loop-less loop-again (λ c κs. tt) returns-2)

@@ -9,22 +9,13 @@ returns : tie.Need-returns
 unfolding multiByte
 returns c = rw (lt-ltb _ 0xc0 (c .if1 .taken))
 
-two-bytes-requires : tie.Need-two-bytes-requires
-two-bytes-requires c κs = search needs
-
 returns-2 : tie.Need-returns-2
 unfolding multiByte
 returns-2 c = rw (le-ltb _ 0xc0 (c .before .before .if1 .left), lt-ltb _ 0xe0 (c .before .if2 .taken)) (c .two-bytes .ensures)
 
-three-bytes-requires : tie.Need-three-bytes-requires
-three-bytes-requires c κs = search needs
-
 returns-3 : tie.Need-returns-3
 unfolding multiByte
 returns-3 c = rw (le-ltb _ 0xc0 (c .before .before .before .if1 .left), le-ltb _ 0xe0 (c .before .before .if2 .left), lt-ltb _ 0xf0 (c .before .if3 .taken)) (c .three-bytes .ensures)
-
-four-bytes-requires : tie.Need-four-bytes-requires
-four-bytes-requires c κs = search needs
 
 returns-4 : tie.Need-returns-4
 unfolding multiByte
@@ -37,12 +28,4 @@ returns-5 c = rw (le-ltb _ 0xc0 (c .before .before .before .if1 .left), le-ltb _
 pub multi-byte-spec : {M : Type 1} → statement M
 multi-byte-spec =
     tie.close
-    (tie.spec
-    returns
-    two-bytes-requires
-    returns-2
-    three-bytes-requires
-    returns-3
-    four-bytes-requires
-    returns-4
-    returns-5)
+    (tie.spec returns (λ c κs. search needs) returns-2 (λ c κs. search needs) returns-3 (λ c κs. search needs) returns-4 returns-5)

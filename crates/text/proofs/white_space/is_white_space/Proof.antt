@@ -31,12 +31,6 @@ returns-4 c = sym (none-between-wide (c .before .before .before .before .before 
 loop-holds : tie.Need-loop-holds Inv-loop μ-loop
 loop-holds c = (omega arith, refl)
 
-mul-entry : tie.Need-mul-entry Inv-loop μ-loop
-mul-entry c = search needs
-
-array-read-entry : tie.Need-array-read-entry Inv-loop μ-loop
-array-read-entry c = search needs
-
 returns-5 : tie.Need-returns-5 Inv-loop μ-loop
 unfolding whiteSpace
 returns-5 c = sym (find-here (spelt whiteSpace) (c .before .before .loop .i) (c .before .before .before .before .before .before .before .args .code) (omega arith) (c .if7 .taken)) ∙ c .before .before .loop .inv .1 ∙ white-space-found (c .before .before .before .before .before .before .before .args .code)
@@ -58,18 +52,5 @@ returns-6 c = sym (find-none (spelt whiteSpace) (c .before .loop .i) (c .before 
 pub is-white-space-spec : {M : Type 1} → statement M
 is-white-space-spec =
     tie.close
-    (tie.spec
-    Inv-loop
-    μ-loop
-    returns
-    returns-2
-    returns-3
-    returns-4
-    loop-holds
-    mul-entry
-    array-read-entry
-    returns-5
-    add-i
-    loop-less
-    loop-again
-    returns-6)
+    (tie.spec Inv-loop μ-loop returns returns-2 returns-3 returns-4 loop-holds (λ c. search needs) (λ c. search needs) returns-5 add-i loop-less
+    loop-again returns-6)

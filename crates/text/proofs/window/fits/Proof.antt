@@ -6,15 +6,6 @@ use Rattle.text.proofs.Windows.{fits-more, fits-start}
 use Rattle.text.proofs.window.fits.Statement.{statement}
 use Rattle.text.proofs.window.fits.Tie as tie
 
-is-awaited-requires : tie.Need-is-awaited-requires
-is-awaited-requires c κs = search needs
-
-is-continuation-requires : tie.Need-is-continuation-requires
-is-continuation-requires c κs = search needs
-
-is-second-requires : tie.Need-is-second-requires
-is-second-requires c κs = search needs
-
 returns : tie.Need-returns
 returns c =
     λ e. fits-more _ _ _ _ (sym (c .before .before .before .before .is-awaited .ensures) ∙ c .before .before .before .if1 .taken) (sym (c .before .before .is-continuation .ensures) ∙ c .before .if2 .taken) (c .is-second .ensures e)
@@ -22,20 +13,10 @@ returns c =
 returns-2 : tie.Need-returns-2
 returns-2 c = λ e. absurd (clash (sym e))
 
-is-start-requires : tie.Need-is-start-requires
-is-start-requires c κs = search needs
-
 returns-3 : tie.Need-returns-3
 returns-3 c = λ e. fits-start _ _ _ _ (sym (c .before .before .is-awaited .ensures) ∙ c .before .if1 .left) (c .is-start .ensures e)
 
 pub fits-spec : {M : Type 1} → statement M
 fits-spec =
     tie.close
-    (tie.spec
-    is-awaited-requires
-    is-continuation-requires
-    is-second-requires
-    returns
-    returns-2
-    is-start-requires
-    returns-3)
+    (tie.spec (λ c κs. search needs) (λ c κs. search needs) (λ c κs. search needs) returns returns-2 (λ c κs. search needs) returns-3)

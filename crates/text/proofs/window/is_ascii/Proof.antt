@@ -22,9 +22,6 @@ loop-holds c = (omega arith, met-start (c .before .args .s .now))
 shared-slice-read-most : tie.Need-shared-slice-read-most Inv-loop μ-loop
 shared-slice-read-most c = omega arith
 
-most-requires : tie.Need-most-requires Inv-loop μ-loop
-most-requires c κs = tt
-
 add-i : tie.Need-add-i Inv-loop μ-loop
 add-i c = omega arith
 
@@ -43,13 +40,4 @@ returns c = met-end _ (c .before .loop .i) (c .before .loop .largest) (c .loop-t
 pub is-ascii-spec : {M : Type 1} → statement M
 is-ascii-spec =
     tie.close
-    (tie.spec
-    Inv-loop
-    μ-loop
-    loop-holds
-    shared-slice-read-most
-    most-requires
-    add-i
-    loop-less
-    loop-again
-    returns)
+    (tie.spec Inv-loop μ-loop loop-holds shared-slice-read-most (λ c κs. tt) add-i loop-less loop-again returns)

@@ -4,9 +4,6 @@ use native.Mathlib.Omega.{arith}
 use Rattle.text.proofs.window.misfit.Statement.{statement}
 use Rattle.text.proofs.window.misfit.Tie as tie
 
-fits-requires : tie.Need-fits-requires
-fits-requires c κs = search needs
-
 returns : tie.Need-returns
 returns c = λ e. c .before .fits2 .ensures (c .if1 .taken)
 
@@ -14,4 +11,4 @@ returns-2 : tie.Need-returns-2
 returns-2 c = λ e. absurd (omega arith)
 
 pub misfit-spec : {M : Type 1} → statement M
-misfit-spec = tie.close (tie.spec fits-requires returns returns-2)
+misfit-spec = tie.close (tie.spec (λ c κs. search needs) returns returns-2)

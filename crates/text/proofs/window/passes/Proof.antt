@@ -35,9 +35,6 @@ sub-is-awaited-2 c = omega arith
 shared-slice-read-is-awaited-3 : tie.Need-shared-slice-read-is-awaited-3 Inv-loop μ-loop
 shared-slice-read-is-awaited-3 c = omega arith
 
-is-awaited-requires : tie.Need-is-awaited-requires Inv-loop μ-loop
-is-awaited-requires c κs = tt
-
 returns-2 : tie.Need-returns-2 Inv-loop μ-loop
 returns-2 c = λ e. absurd (clash (sym e))
 
@@ -64,12 +61,6 @@ shared-slice-read-misfit-3 c = omega arith
 
 shared-slice-read-misfit-4 : tie.Need-shared-slice-read-misfit-4 Inv-loop μ-loop
 shared-slice-read-misfit-4 c = omega arith
-
-misfit-requires : tie.Need-misfit-requires Inv-loop μ-loop
-misfit-requires c κs = tt
-
-most-requires : tie.Need-most-requires Inv-loop μ-loop
-most-requires c κs = tt
 
 add-i : tie.Need-add-i Inv-loop μ-loop
 add-i c = omega arith
@@ -101,30 +92,7 @@ returns-4 c = λ e. absurd (clash (sym e))
 pub passes-spec : {M : Type 1} → statement M
 passes-spec =
     tie.close
-    (tie.spec
-    Inv-loop
-    μ-loop
-    returns
-    shared-slice-read-is-awaited
-    sub-is-awaited
-    shared-slice-read-is-awaited-2
-    sub-is-awaited-2
-    shared-slice-read-is-awaited-3
-    is-awaited-requires
-    returns-2
-    loop-holds
-    sub-misfit
-    shared-slice-read-misfit
-    sub-misfit-2
-    shared-slice-read-misfit-2
-    sub-misfit-3
-    shared-slice-read-misfit-3
-    shared-slice-read-misfit-4
-    misfit-requires
-    most-requires
-    add-i
-    loop-less
-    loop-again
-    starts-well-requires
-    returns-3
-    returns-4)
+    (tie.spec Inv-loop μ-loop returns shared-slice-read-is-awaited sub-is-awaited shared-slice-read-is-awaited-2 sub-is-awaited-2
+    shared-slice-read-is-awaited-3 (λ c κs. tt) returns-2 loop-holds sub-misfit shared-slice-read-misfit sub-misfit-2 shared-slice-read-misfit-2
+    sub-misfit-3 shared-slice-read-misfit-3 shared-slice-read-misfit-4 (λ c κs. tt) (λ c κs. tt) add-i loop-less loop-again starts-well-requires
+    returns-3 returns-4)

@@ -5,33 +5,6 @@ use Rattle.text.specs.Tests.{clash}
 use Rattle.text.proofs.window.starts_well.Statement.{statement}
 use Rattle.text.proofs.window.starts_well.Tie as tie
 
-shared-slice-read-fits : tie.Need-shared-slice-read-fits
-shared-slice-read-fits c = search needs
-
-fits-requires : tie.Need-fits-requires
-fits-requires c κs = search needs
-
-shared-slice-read-fits-2 : tie.Need-shared-slice-read-fits-2
-shared-slice-read-fits-2 c = search needs
-
-shared-slice-read-fits-3 : tie.Need-shared-slice-read-fits-3
-shared-slice-read-fits-3 c = search needs
-
-fits-requires-2 : tie.Need-fits-requires-2
-fits-requires-2 c κs = search needs
-
-shared-slice-read-fits-4 : tie.Need-shared-slice-read-fits-4
-shared-slice-read-fits-4 c = search needs
-
-shared-slice-read-fits-5 : tie.Need-shared-slice-read-fits-5
-shared-slice-read-fits-5 c = search needs
-
-shared-slice-read-fits-6 : tie.Need-shared-slice-read-fits-6
-shared-slice-read-fits-6 c = search needs
-
-fits-requires-3 : tie.Need-fits-requires-3
-fits-requires-3 c κs = search needs
-
 returns : tie.Need-returns
 returns c =
     λ e. record {
@@ -49,16 +22,5 @@ returns-3 c = λ e. absurd (clash (sym e))
 pub starts-well-spec : {M : Type 1} → statement M
 starts-well-spec =
     tie.close
-    (tie.spec
-    shared-slice-read-fits
-    fits-requires
-    shared-slice-read-fits-2
-    shared-slice-read-fits-3
-    fits-requires-2
-    shared-slice-read-fits-4
-    shared-slice-read-fits-5
-    shared-slice-read-fits-6
-    fits-requires-3
-    returns
-    returns-2
-    returns-3)
+    (tie.spec (λ c. search needs) (λ c κs. search needs) (λ c. search needs) (λ c. search needs) (λ c κs. search needs) (λ c. search needs)
+    (λ c. search needs) (λ c. search needs) (λ c κs. search needs) returns returns-2 returns-3)
