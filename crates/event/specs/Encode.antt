@@ -1,10 +1,10 @@
 -- The six events and their bytes, as document 01 lays them out (E1): a tag byte, the body's length in two bytes, the body. Strings are lists
--- of bytes here. `Sound` says which events have an encoding at all: the numbers fit their bytes, and the strings are UTF-8.
+-- of bytes here. `SoundEvent` says which events have an encoding at all: the numbers fit their bytes, and the strings are UTF-8.
 use Prim.Native.Nat.{ℕ, _<_, _≤_}
 use mathlib.Core.Bool.{Bool, true, false}
 use mathlib.Core.List.{List, [], _∷_, _++_}
 use lib.ListN.{length}
-use Rattle.text.specs.Utf8.{Utf8}
+use Rattle.utf8.specs.Utf8.{Utf8}
 use Rattle.event.specs.Number.{highFirst}
 
 -- a YAML tag: none, or a handle and a suffix
@@ -64,8 +64,8 @@ unfoldable pub encodeBody : YamlEvent → List ℕ
 encodeBody e = highFirst 4 (markerIndex e) ++ encodeRest e
 
 -- the bytes of an event
-unfoldable pub encode : YamlEvent → List ℕ
-encode e = tagByte e ∷ (highFirst 2 (length (encodeBody e)) ++ encodeBody e)
+unfoldable pub encodeEvent : YamlEvent → List ℕ
+encodeEvent e = tagByte e ∷ (highFirst 2 (length (encodeBody e)) ++ encodeBody e)
 
 -- ---- sound events
 
@@ -93,7 +93,7 @@ SoundRest (mappingEnd i) = Unit {0}
 SoundRest (scalar i c y f t v) = SoundScalar c y t v
 SoundRest (alias i) = Unit {0}
 
-pub record Sound (e : YamlEvent) : Type 0 where
+pub record SoundEvent (e : YamlEvent) : Type 0 where
   pub index-fits : markerIndex e < 0x1_0000_0000
   pub rest : SoundRest e
   pub body-fits : length (encodeBody e) ≤ 65_535

@@ -1,4 +1,6 @@
--- The definitions that the contracts of `event` cite, in reading order, and the laws that callers go by.
+-- The definitions that the contracts of `event` cite, and what is proved of them; the arguments are in proofs/.
+
+-- What it means: what contracts and theorems cite, from document 01 and the standards. To be believed.
 -- numbers, high byte first
 pub mod Number
 -- the six events and their bytes
@@ -9,19 +11,8 @@ pub mod Read
 pub mod Meaning
 -- event bytes as a list of events
 pub mod EventList
+-- Statements: theorems and laws that a caller may use, and worked cases. Proved; nothing here is to be believed.
+-- what holds of every answer, and that no two events have the same bytes
+pub mod Proved
 -- worked encodings
 pub mod Examples
--- the laws of numbers
-pub mod NumberLaws
--- the laws of encodings
-pub mod EncodeLaws
--- the reader's definitions, case by case
-pub mod ReadCases
--- what is written is read
-pub mod WrittenIsRead
--- what is read was written
-pub mod ReadIsWritten
--- what the reader's answers are worth
-pub mod ReadLaws
--- where the events of a list stand
-pub mod EventListLaws

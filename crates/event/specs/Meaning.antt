@@ -1,14 +1,13 @@
 -- What an answer means, by the encodings: which event stands at a place of the event bytes, what is answered for an event that stands there,
--- and what is said by an answer. `ReadLaws` proves of the reader that it answers an event exactly where one stands. (E1; R3.)
-use Prim.Native.Nat.{ℕ, _+_, _≤_, _<_}
+-- and what is said by an answer. `reads-exactly` (proofs/ReadLaws.antt) proves of the reader that it answers an event exactly where one
+-- stands, in the words of `Exact`. (E1; R3.)
+use Prim.Native.Nat.{ℕ, _+_}
 use mathlib.Core.Path.{_≡_}
 use mathlib.Core.List.{List, _++_}
 use mathlib.Core.Logic.{_⊎_}
 use lib.ListN.{length, drop}
-use Rattle.text.specs.Utf8.{Utf8}
-use Rattle.event.specs.Encode.{Tag, untagged, tagged, YamlEvent, sequenceStart, sequenceEnd, mappingStart, mappingEnd, scalar, alias, encodeTag, encode, Sound}
+use Rattle.event.specs.Encode.{Tag, untagged, tagged, YamlEvent, sequenceStart, sequenceEnd, mappingStart, mappingEnd, scalar, alias, encodeTag, encodeEvent, SoundEvent}
 use Rattle.event.specs.Read.{part, partOf}
-use Rattle.event.specs.declared.string.Part.{Part}
 use Rattle.event.specs.declared.tag.YamlTag.{YamlTag}
 use Rattle.event.specs.declared.tag.YamlTag.the-variants.{Absent, Present}
 use Rattle.event.specs.declared.read.Event.{Event}
@@ -16,9 +15,9 @@ use Rattle.event.specs.declared.read.Event.the-variants.{SequenceStart, 
 
 -- from the place i on, the bytes start with the encoding of the sound event e
 pub record StandsAt (s : List ℕ) (i : ℕ) (e : YamlEvent) : Type 0 where
-  pub sound : Sound e
+  pub sound : SoundEvent e
   pub rest : List ℕ
-  pub starts : drop i s ≡ encode e ++ rest
+  pub starts : drop i s ≡ encodeEvent e ++ rest
 
 -- ---- the answer for an event that stands at a place
 
@@ -38,7 +37,7 @@ placedBody i n (alias m) = Alias m n
 
 -- the answer for an event at the place i: header and marker index are passed, and the next event comes after its bytes
 unfoldable pub placed : ℕ → YamlEvent → Event
-placed i e = placedBody (i + 3 + 4) (i + length (encode e)) e
+placed i e = placedBody (i + 3 + 4) (i + length (encodeEvent e)) e
 
 -- an event stands at the place, and this is its answer
 pub record Answers (s : List ℕ) (i : ℕ) (r : Event) : Type 0 where
@@ -76,39 +75,6 @@ eventNumber (Scalar m c y f t v n) = 0
 eventNumber (Alias m n) = 0
 eventNumber Malformed = 3
 
--- ---- what holds of every answer
-
--- a part of the event bytes that is UTF-8
-pub record TextPart (s : List ℕ) (p : Part) : Type 0 where
-  pub inside : p .at + p .len ≤ length s
-  pub utf8 : Utf8 (partOf s p)
-
-abbrev pub TextParts : List ℕ → YamlTag → Type 0
-TextParts s Absent = Unit {0}
-TextParts s (Present h x) = TextPart s h × TextPart s x
-
--- an event at the place i with the marker index m, and the place n after it
-pub record Passed (s : List ℕ) (i m n : ℕ) : Type 0 where
-  pub index-fits : m < 0x1_0000_0000
-  pub onward : i < n
-  pub inside : n ≤ length s
-
-pub record ScalarWithin (s : List ℕ) (i m c y : ℕ) (t : YamlTag) (v : Part) (n : ℕ) : Type 0 where
-  pub passed : Passed s i m n
-  pub column-fits : c < 0x1_0000_0000
-  pub style-known : y ≤ 4
-  pub tag-within : TextParts s t
-  pub value-within : TextPart s v
-
-abbrev pub Within : List ℕ → ℕ → Event → Type 0
-Within s i (SequenceStart m t n) = Passed s i m n × TextParts s t
-Within s i (SequenceEnd m n) = Passed s i m n
-Within s i (MappingStart m t n) = Passed s i m n × TextParts s t
-Within s i (MappingEnd m n) = Passed s i m n
-Within s i (Scalar m c y f t v n) = ScalarWithin s i m c y t v n
-Within s i (Alias m n) = Passed s i m n
-Within s i Malformed = Unit {0}
-
 -- ---- reading, in one statement
 
 -- r is what reading at the place i of s must answer
@@ -121,4 +87,3 @@ pub record Exact (s : List ℕ) (i : ℕ) (r : Event) : Type 0 where
   -- there is one such event, and the answer says that event
   pub one-stands : (e f : YamlEvent) → StandsAt s i e → StandsAt s i f → e ≡ f
   pub parts-are : (e : YamlEvent) → StandsAt s i e → said s r ≡ says e
-  pub within : Within s i r

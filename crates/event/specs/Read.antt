@@ -1,12 +1,12 @@
 -- What the reader answers, as definitions that compute. An event is read at a place of the event bytes; a part of it lies between a place
--- and the body's end, which nothing may cross. What the answers mean is said in `Meaning`, by the encodings, and proved in `ReadLaws`:
--- an event is answered exactly where the encoding of a sound one stands. (E1; row 3, R3.)
+-- and the body's end, which nothing may cross. What the answers mean is said in `Meaning`, by the encodings: an event is answered exactly
+-- where the encoding of a sound one stands. (E1; row 3, R3.)
 use Prim.Native.Nat.{ℕ, _+_, _-_}
-use mathlib.Core.Bool.{Bool, true, false, cond}
+use mathlib.Core.Bool.{Bool, cond}
 use mathlib.Core.List.{List}
 use lib.Dec.{ltb, leb, eqb}
 use lib.ListN.{length, getD, take, drop}
-use Rattle.text.specs.Utf8.{isUtf8}
+use Rattle.utf8.specs.Characters.{isUtf8}
 use Rattle.event.specs.Number.{numberAt}
 use Rattle.event.specs.declared.string.Part.{Part}
 use Rattle.event.specs.declared.string.Text.{Text}
@@ -92,16 +92,17 @@ abbrev pub withStartTag : (YamlTag → Event) → StartTag → Event
 withStartTag f (start.Valid t) = f t
 withStartTag f start.Invalid = Malformed
 
--- by the event's tag byte
+-- nothing but the marker index, by the tag byte
+abbrev pub bareEvent : ℕ → ℕ → ℕ → Event
+bareEvent kind n e = cond (eqb kind 2) (SequenceEnd n e) (cond (eqb kind 4) (MappingEnd n e) (cond (eqb kind 6) (Alias n e) Malformed))
+
+-- by the tag byte
 unfoldable pub readBody : List ℕ → ℕ → ℕ → ℕ → ℕ → Event
 readBody s kind n i e =
     cond (eqb kind 5) (readScalar s n i e)
     (cond (eqb kind 1) (withStartTag (λ t. SequenceStart n t e) (readStartTag s i e))
     (cond (eqb kind 3) (withStartTag (λ t. MappingStart n t e) (readStartTag s i e))
-    (cond (ltb i e) Malformed
-    (cond (eqb kind 2) (SequenceEnd n e)
-    (cond (eqb kind 4) (MappingEnd n e)
-    (cond (eqb kind 6) (Alias n e) Malformed))))))
+    (cond (ltb i e) Malformed (bareEvent kind n e))))
 
 -- ---- the frame
 

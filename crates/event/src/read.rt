@@ -2,7 +2,7 @@
 ghost use mathlib.Core.Path.{_≡_};
 ghost use Prim.Native.Nat.{_≤_};
 ghost use lib.ListN.{length};
-ghost use Rattle.event.specs.Read.{readScalar, readBody, readEvent};
+ghost use Rattle.event.specs.Read.{readScalar, bareEvent, readBody, readEvent};
 use crate::number::number_at;
 use crate::string::Part;
 use crate::tag::StartTag;
@@ -10,7 +10,7 @@ use crate::tag::TagRead;
 use crate::tag::YamlTag;
 use crate::tag::start_tag;
 use crate::tag::tag_at;
-use text::utf8::is_utf8;
+use utf8::utf8::is_utf8;
 
 // The most event bytes of a call.
 pub const EVENTS_LIMIT: usize = 4_194_304;
@@ -117,6 +117,22 @@ fn read_scalar(events: &[u8], index: u32, at: usize, end: usize) -> Event
     Event::Malformed
 }
 
+// The event of this kind whose body is its marker index alone.
+fn bare_event(kind: u8, index: u32, next: usize) -> Event
+    ensures { λ r. ⌜ r ≡ bareEvent kind index next ⌝ }
+{
+    if kind == SEQUENCE_END {
+        return Event::SequenceEnd { index, next };
+    }
+    if kind == MAPPING_END {
+        return Event::MappingEnd { index, next };
+    }
+    if kind == ALIAS {
+        return Event::Alias { index, next };
+    }
+    Event::Malformed
+}
+
 // The event of this kind whose body goes on after its marker index, at `at`, to `end`.
 fn read_body(events: &[u8], kind: u8, index: u32, at: usize, end: usize) -> Event
     requires { ⌜ at ≤ end ⌝ }
@@ -149,16 +165,7 @@ fn read_body(events: &[u8], kind: u8, index: u32, at: usize, end: usize) -> Even
     if at < end {
         return Event::Malformed;
     }
-    if kind == SEQUENCE_END {
-        return Event::SequenceEnd { index, next: end };
-    }
-    if kind == MAPPING_END {
-        return Event::MappingEnd { index, next: end };
-    }
-    if kind == ALIAS {
-        return Event::Alias { index, next: end };
-    }
-    Event::Malformed
+    bare_event(kind, index, end)
 }
 
 // The event that starts at `at`, or Malformed: the header cut off, an unknown tag or style, a flag above 1, a body that is

@@ -4,7 +4,7 @@ ghost use Prim.Native.Nat.{_≤_};
 ghost use lib.ListN.{length};
 ghost use Rattle.event.specs.Read.{readString};
 use crate::number::number_at;
-use text::utf8::is_utf8;
+use utf8::utf8::is_utf8;
 
 // The bytes of a string's length.
 const LENGTH: usize = 2;

@@ -1,4 +1,4 @@
--- A block, line by line: how far it reaches from a line's start, told from the start of the next. Assumes nothing.
+-- A block, line by line: how far it reaches from a line's start, told from the start of the next.
 use mathlib.Core.Path.{_≡_, refl, sym, _∙_, ap}
 use mathlib.Core.Bool.{Bool, true, false, cond}
 use mathlib.Core.List.{List, [], _∷_, _++_}
@@ -8,11 +8,14 @@ use native.Mathlib.Omega.{arith}
 use borrow.Author.Tests.{lt-ltb, le-ltb, eqb-true}
 use lib.Dec.{eqb}
 use lib.ListN.{length, drop}
-use Rattle.text.specs.Utf8.{Utf8, encode, encodeAll, codes}
-use Rattle.text.specs.Boundary.{Boundary}
-use Rattle.text.specs.Utf8Laws.{boundary-start}
-use Rattle.measure.specs.Run.{newline, bytesOf, whiteSpaceRun}
-use Rattle.measure.specs.Block.{lines, firstOf, isBlank, trimmedLen, endsBlock, pastLine, laterReach, blockReach, blockLen, lineOf}
+use Rattle.utf8.specs.Utf8.{Utf8, encode, encodeAll}
+use Rattle.utf8.specs.Characters.{codes}
+use Rattle.utf8.specs.Boundary.{Boundary}
+use Rattle.utf8.specs.Utf8Laws.{boundary-start}
+use Rattle.measure.specs.Run.{bytesOf, whiteSpaceRun}
+use Rattle.utf8.specs.Ascii.{newline}
+use Rattle.measure.specs.Block.{lines, isBlank, trimmedLen, endsBlock, pastLine, laterReach, blockReach, blockLen}
+use Rattle.measure.specs.Counted.{firstOf, lineOf}
 use Rattle.measure.specs.Places.{Onward, onward, bytes-left, bytes-cons, bytes-append}
 use Rattle.measure.specs.declared.block.Line.{Line}
 use Rattle.measure.proofs.Read.{codes-end}

@@ -1,4 +1,4 @@
--- The bytes up to a closing mark, from a place on. Assumes nothing.
+-- The bytes up to a closing mark, from a place on.
 use mathlib.Core.Path.{_≡_, refl, sym, _∙_, ap}
 use mathlib.Core.Bool.{Bool, true, false, _&&_, _||_}
 use mathlib.Core.List.{List, [], _∷_}
@@ -7,13 +7,14 @@ use native.Mathlib.Nat.{add-zero, add-assoc}
 use native.Mathlib.Omega.{arith}
 use borrow.Author.Tests.{eq-eqb, ne-eqb, eqb-true}
 use lib.Dec.{eqb}
-use lib.ListN.{length, take, drop, getD, length-drop, drop-of-length-le}
+use lib.ListN.{length, drop, getD, length-drop, drop-of-length-le}
 use lib.Seq.{getD-drop, drop-drop}
-use Rattle.measure.specs.Quoted.{singleQuote, doubleQuote, backslash, further, passedTogether, toClosing, quotedLen, Ordinary, Unmarked}
+use Rattle.measure.specs.Quoted.{further, passedTogether, toClosing, quotedLen}
+use Rattle.utf8.specs.Ascii.{singleQuote, doubleQuote, backslash}
 use Rattle.measure.specs.declared.quoted.Quoted.{Quoted}
 use Rattle.measure.specs.declared.quoted.Quoted.the-variants.{Found, Missing}
-use Rattle.text.specs.Tests.{clash}
-use Rattle.measure.proofs.Chunks.{each-more, part-at, part-length}
+use Rattle.letters.specs.Marks.{Ordinary, Unmarked}
+use Rattle.utf8.specs.Tests.{clash}
 
 -- ---- the opening mark
 
@@ -114,22 +115,6 @@ alone quote a b o = rw (ne-eqb a backslash (o .1), ne-eqb a quote (o .0)) (none 
     none true false = refl
     none false true = refl
     none false false = refl
-
-pub unmarked-start : (quote : ℕ) (s : List ℕ) → Unmarked quote s 0
-unmarked-start quote s = record { within = omega arith; each = λ j h. absurd (omega arith) }
-
--- n more, of a chunk of m
-pub unmarked-more : (quote : ℕ) (s : List ℕ) (i n m : ℕ) → m ≤ length s - i → Unmarked quote s i → Unmarked quote (take m (drop i s)) n → (n ≤ m) × Unmarked quote s (i + n)
-unmarked-more quote s i n m h u f =
-    let w = part-length s i m h in
-    let k = f .within in
-    let l = u .within in (
-      omega arith,
-      record {
-        within = omega arith;
-        each = each-more (λ j. Ordinary quote (getD s j 0)) i n (u .each) (λ j g. rw (part-at s i m j (omega arith)) at (f .each j g));
-      },
-    )
 
 pub passes-many : (s : List ℕ) (quote i n : ℕ) → Unmarked quote (drop i s) n → further (i + n) (toClosing quote (drop (i + n) s)) ≡ further i (toClosing quote (drop i s))
 passes-many s quote i zero u = ap (λ (k : ℕ). further k (toClosing quote (drop k s))) (add-zero i)

@@ -5,12 +5,6 @@ pub mod Read
 pub mod Runs
 -- how far something reaches, told from further on
 pub mod Reached
--- chunks of bytes
-pub mod Chunks
--- letters, one by one and by chunks
-pub mod Letters
--- letters as characters
-pub mod Words
 -- up to a closing mark
 pub mod Closing
 -- a line, character by character

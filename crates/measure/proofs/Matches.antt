@@ -1,5 +1,5 @@
 -- A value, matched character by character with the rest of the text: what was matched so far, and how far the match of what is left
--- reaches. Assumes nothing.
+-- reaches.
 use mathlib.Core.Path.{_≡_, refl, sym, _∙_, ap, subst}
 use mathlib.Core.Logic.{⊎-elim}
 use mathlib.Core.Bool.{Bool, true, false, _&&_, _||_}
@@ -12,19 +12,23 @@ use borrow.Author.Tests.{eq-eqb, ne-eqb, eqb-true, lt-ltb, ltb-true}
 use lib.Dec.{eqb, ltb}
 use lib.ListN.{length, take, drop, getD, length-append, length-drop, take-append-drop, List·getD-append}
 use lib.Seq.{take-suc, take-at, drop-drop, getD-drop}
-use Rattle.text.specs.Utf8.{Utf8, encode, encodeAll, codes, character, firstChar}
-use Rattle.text.specs.Boundary.{Boundary}
-use Rattle.text.specs.WhiteSpace.{whiteSpace, isIn, isWhiteSpace}
-use Rattle.text.specs.Utf8Laws.{Char-at, char-at, boundary-start, boundary-splits, codes-encode, read}
-use Rattle.text.specs.declared.utf8.Char.{Char}
-use Rattle.measure.specs.Run.{newline, bytesOf, whiteSpaceRun, afterRun, holdsNewline, runOf, run-split, run-goes-on, run-stops}
-use Rattle.measure.specs.Plain.{isFold, hasByte, Reach, unmatched, reaches, pastEqual, pastRun, beginsWith, takesRun, plainReach, reachOr, plainLen}
-use Rattle.measure.specs.Places.{onward, bytes-cons}
+use Rattle.utf8.specs.Utf8.{Utf8, encode, encodeAll}
+use Rattle.utf8.specs.Characters.{codes, character, firstChar}
+use Rattle.utf8.specs.Boundary.{Boundary}
+use Rattle.utf8.specs.WhiteSpace.{whiteSpace, isIn, isWhiteSpace}
+use Rattle.utf8.specs.Utf8Laws.{Char-at, char-at, boundary-start, boundary-splits, codes-encode, read}
+use Rattle.utf8.specs.declared.utf8.Char.{Char}
+use Rattle.measure.specs.Run.{bytesOf, whiteSpaceRun, afterRun, holdsNewline}
+use Rattle.measure.specs.Counted.{runOf, hasByte}
+use Rattle.utf8.specs.Ascii.{newline}
+use Rattle.measure.specs.Plain.{isFold, Reach, unmatched, reaches, pastEqual, pastRun, beginsWith, takesRun, plainReach, reachOr, plainLen}
+use Rattle.measure.specs.Places.{onward, bytes-cons, run-split, run-goes-on, run-stops}
 use Rattle.measure.specs.declared.run.Run.{Run}
-use Rattle.measure.proofs.Read.{char-read, codes-end, part-is}
-use Rattle.measure.specs.Letters.{WordByte, LetterByte, Letters}
-use Rattle.measure.proofs.Words.{Dark, dark, above-blank, letter-at, solid-at, word-solid, letter-here, fits, rest-of}
-use Rattle.text.specs.Tests.{clash, by-order, and-left, and-right}
+use Rattle.letters.proofs.Chunks.{part-is}
+use Rattle.measure.proofs.Read.{char-read, codes-end}
+use Rattle.letters.specs.Letters.{WordByte, LetterByte, Letters}
+use Rattle.letters.proofs.Words.{Dark, dark, above-blank, letter-at, solid-at, word-solid, letter-here, fits, rest-of}
+use Rattle.utf8.specs.Tests.{clash, by-order, and-left, and-right}
 use Rattle.measure.proofs.Reached.{reached, reached-start, reached-more, reached-on}
 
 -- ---- a character of the value, byte by byte
@@ -97,20 +101,20 @@ module _ {s : List ℕ} {i : ℕ} {t : List ℕ} {j : ℕ} {k : Char} (u : Utf8 
 -- ---- how far the match reaches
 
 -- `at` bytes were matched, the last equal character among them ends at `end`, and r is the match of what is left
-abbrev pub told : ℕ → ℕ → Reach → Reach
-told at end unmatched = unmatched
-told at end (reaches n) = reaches (reached at end n)
+abbrev pub reachBy : ℕ → ℕ → Reach → Reach
+reachBy at end unmatched = unmatched
+reachBy at end (reaches n) = reaches (reached at end n)
 
-told-start : (r : Reach) → told 0 0 r ≡ r
+told-start : (r : Reach) → reachBy 0 0 r ≡ r
 told-start unmatched = refl
 told-start (reaches n) = ap reaches (reached-start n)
 
-told-run : (at end n : ℕ) (r : Reach) → told at end (pastRun n r) ≡ told (at + n) end r
+told-run : (at end n : ℕ) (r : Reach) → reachBy at end (pastRun n r) ≡ reachBy (at + n) end r
 told-run at end n unmatched = refl
 told-run at end n (reaches zero) = refl
 told-run at end n (reaches (suc m)) = ap reaches (reached-more at end (n + suc m) (omega arith) ∙ sym (add-assoc at n (suc m)))
 
-told-equal : (at end n : ℕ) (r : Reach) → 0 < n → told at end (pastEqual n r) ≡ told (at + n) (at + n) r
+told-equal : (at end n : ℕ) (r : Reach) → 0 < n → reachBy at end (pastEqual n r) ≡ reachBy (at + n) (at + n) r
 told-equal at end n unmatched h = refl
 told-equal at end n (reaches m) h = ap reaches (reached-on at end n m h)
 
@@ -162,7 +166,7 @@ pub record Matching (rest value : List ℕ) (at end known v : ℕ) : Type 0 wher
   pub rest-place : Boundary rest at
   pub value-place : Boundary value v
   pub looked : at < known → Known rest at known
-  pub same : told at end (plainReach (codes (drop v value)) (codes (drop at rest))) ≡ plainReach (codes value) (codes rest)
+  pub same : reachBy at end (plainReach (codes (drop v value)) (codes (drop at rest))) ≡ plainReach (codes value) (codes rest)
 
 pub match-begins : {rest value : List ℕ} → Utf8 rest → Utf8 value → Matching rest value 0 0 0 0
 match-begins {rest} {value} u w =
@@ -177,7 +181,7 @@ match-begins {rest} {value} u w =
 pub match-at-end : {rest value : List ℕ} {at end known v : ℕ} → Matching rest value at end known v → length value ≤ v → end ≡ plainLen rest value
 unfolding plainReach plainLen
 match-at-end {rest} {value} {at} {end} {known} {v} r h =
-    ap (reachOr (length value)) (sym (ap (λ (cs : List ℕ). told at end (plainReach cs (codes (drop at rest)))) (codes-end value v h)) ∙ r .same)
+    ap (reachOr (length value)) (sym (ap (λ (cs : List ℕ). reachBy at end (plainReach cs (codes (drop at rest)))) (codes-end value v h)) ∙ r .same)
 
 -- the run m that was read of the part from a place on
 pub run-read : (s : List ℕ) (at : ℕ) {m : Run} → m ≡ runOf (codes (take (length s - at) (drop at s))) → m ≡ runOf (codes (drop at s))
@@ -193,8 +197,8 @@ module _ {rest value : List ℕ} {at end known v : ℕ} {k : Char} (u : Utf8 res
   left = codes (drop (v + k .len) value)
 
   -- the next character of the value decides
-  decides : {x : Reach} → plainReach (k .code ∷ left) (codes (drop at rest)) ≡ x → told at end x ≡ plainReach (codes value) (codes rest)
-  decides e = ap (told at end) (sym (ap (λ (cs : List ℕ). plainReach cs (codes (drop at rest))) (a .forward) ∙ e)) ∙ r .same
+  decides : {x : Reach} → plainReach (k .code ∷ left) (codes (drop at rest)) ≡ x → reachBy at end x ≡ plainReach (codes value) (codes rest)
+  decides e = ap (reachBy at end) (sym (ap (λ (cs : List ℕ). plainReach cs (codes (drop at rest))) (a .forward) ∙ e)) ∙ r .same
 
   -- a blank or newline takes a run that holds a newline
   pub match-run : {m : Run} → known ≤ at → m ≡ runOf (codes (drop at rest)) → isFold (k .code) ≡ true → m .newline ≡ true → Matching rest value (at + m .len) end known (v + k .len)
@@ -209,7 +213,7 @@ module _ {rest value : List ℕ} {at end known v : ℕ} {k : Char} (u : Utf8 res
         rest-place = o .boundary;
         value-place = a .next;
         looked = λ h. absurd (omega arith);
-        same = ap (λ (x : List ℕ). told (at + n) end (plainReach left x)) (o .follow) ∙ sym (told-run at end n (plainReach left (afterRun cs))) ∙ decides (reach-run (k .code) left cs t);
+        same = ap (λ (x : List ℕ). reachBy (at + n) end (plainReach left x)) (o .follow) ∙ sym (told-run at end n (plainReach left (afterRun cs))) ∙ decides (reach-run (k .code) left cs t);
       })
 
 -- the next character of the value takes no run, so it must be equal
@@ -257,7 +261,7 @@ module _ {rest value : List ℕ} {at end known v : ℕ} {k : Char} (u : Utf8 res
         looked = λ h. known-on b (m .looked (let z = b .some in omega arith)) h;
         same =
             sym (told-equal at end (k .len) (plainReach xs ys) (a .some))
-            ∙ ap (λ (l : ℕ). told at end (pastEqual l (plainReach xs ys))) (a .size)
+            ∙ ap (λ (l : ℕ). reachBy at end (pastEqual l (plainReach xs ys))) (a .size)
             ∙ decides u w m a (ap (plainReach (k .code ∷ xs)) (b .forward) ∙ reach-equal (k .code) xs ys n);
       }
 

@@ -1,5 +1,5 @@
 -- How far something reaches, told from further on: `at` bytes were passed, of which the first `end` count for certain, and what is
--- left reaches n bytes from here, 0 where it adds nothing. Assumes nothing.
+-- left reaches n bytes from here, 0 where it adds nothing.
 use mathlib.Core.Path.{_≡_, refl}
 use Prim.Native.Nat.{ℕ, zero, suc, _+_, _<_}
 use native.Mathlib.Nat.{zero-add}

@@ -2,24 +2,25 @@
 -- the first and not blank, has fewer bytes of leading white space than the column. What a line says is how far the block
 -- reaches from its start: 0 bytes where it and all later ones are blank.
 use Prim.Native.Nat.{ℕ, zero, suc, _+_}
-use mathlib.Core.Bool.{Bool, true, false, not, _&&_, cond}
+use mathlib.Core.Bool.{Bool, true, not, _&&_, cond}
 use mathlib.Core.List.{List, [], _∷_}
 use lib.Dec.{eqb, ltb}
 use lib.ListN.{length}
-use Rattle.text.specs.Utf8.{encode, codes}
-use Rattle.text.specs.WhiteSpace.{isWhiteSpace}
-use Rattle.measure.specs.Run.{newline, bytesOf, whiteSpaceRun}
-use Rattle.measure.specs.declared.block.Line.{Line}
+use Rattle.utf8.specs.Utf8.{encode}
+use Rattle.utf8.specs.Characters.{codes}
+use Rattle.utf8.specs.WhiteSpace.{isWhiteSpace}
+use Rattle.measure.specs.Run.{bytesOf, whiteSpaceRun}
+use Rattle.utf8.specs.Ascii.{newline}
 
 -- a character before the first of some lines
-abbrev pub before : ℕ → List (List ℕ) → List (List ℕ)
-before c [] = (c ∷ []) ∷ []
-before c (l ∷ ls) = (c ∷ l) ∷ ls
+abbrev pub ontoFirst : ℕ → List (List ℕ) → List (List ℕ)
+ontoFirst c [] = (c ∷ []) ∷ []
+ontoFirst c (l ∷ ls) = (c ∷ l) ∷ ls
 
 -- the lines, without their newlines (S7)
 unfoldable pub lines : List ℕ → List (List ℕ)
 lines [] = [] ∷ []
-lines (c ∷ cs) = cond (eqb c newline) ([] ∷ lines cs) (before c (lines cs))
+lines (c ∷ cs) = cond (eqb c newline) ([] ∷ lines cs) (ontoFirst c (lines cs))
 
 -- nothing but white space, by code points (W1)
 unfoldable pub isBlank : List ℕ → Bool
@@ -53,18 +54,3 @@ blockReach column (l ∷ ls) = pastLine l (laterReach column ls)
 -- the length of a block scalar (P5)
 unfoldable pub blockLen : List ℕ → ℕ → ℕ
 blockLen rest column = blockReach column (lines (codes rest))
-
--- the first of some lines
-abbrev pub firstOf : List (List ℕ) → List ℕ
-firstOf [] = []
-firstOf (l ∷ ls) = l
-
--- the first line in numbers: its leading white space, which is all of a blank line; up to its last character that is no white
--- space; and all of it
-unfoldable pub lineOf : List ℕ → Line
-lineOf cs =
-    record {
-      lead = bytesOf (whiteSpaceRun (firstOf (lines cs)));
-      trimmed = trimmedLen (firstOf (lines cs));
-      len = bytesOf (firstOf (lines cs));
-    }

@@ -4,11 +4,13 @@ use Prim.Native.Nat.{ℕ}
 use mathlib.Core.Path.{_≡_, refl}
 use mathlib.Core.Bool.{true, false}
 use mathlib.Core.List.{[], _∷_}
-use Rattle.text.specs.Utf8.{codes, charsAfter, firstChar, charOf, multiByte, twoBytes, threeBytes, encode, encodeAll}
-use Rattle.text.specs.WhiteSpace.{whiteSpace, isIn, isWhiteSpace}
-use Rattle.measure.specs.Run.{newline, whiteSpaceRun, afterRun, holdsNewline}
-use Rattle.measure.specs.Plain.{blank, isFold, beginsWith, takesRun, plainReach, plainLen}
-use Rattle.measure.specs.Quoted.{singleQuote, doubleQuote, backslash, passedTogether, toClosing, quotedLen, quotedOrValueLen}
+use Rattle.utf8.specs.Utf8.{encode, encodeAll}
+use Rattle.utf8.specs.Characters.{codes, charsAfter, firstChar, charOf, multiByte, twoBytes, threeBytes}
+use Rattle.utf8.specs.WhiteSpace.{whiteSpace, isIn, isWhiteSpace}
+use Rattle.measure.specs.Run.{whiteSpaceRun, afterRun, holdsNewline}
+use Rattle.utf8.specs.Ascii.{newline, blank, singleQuote, doubleQuote, backslash}
+use Rattle.measure.specs.Plain.{isFold, beginsWith, takesRun, plainReach, plainLen}
+use Rattle.measure.specs.Quoted.{passedTogether, toClosing, quotedLen, quotedOrValueLen}
 use Rattle.measure.specs.Block.{lines, isBlank, trimmedLen, endsBlock, laterReach, blockReach, blockLen}
 use Rattle.measure.specs.Scalar.{plain, singleQuoted, doubleQuoted, literal, folded, styleLen, scalarLen}
 
@@ -34,7 +36,7 @@ abbrev bar : ℕ
 bar = 124
 
 -- the spans of document 01's cases
-pub record Spans : Type 0 where
+pub record CaseSpans : Type 0 where
   -- `a`, blank, newline, two blanks, `b`; value `a b`: 0..6
   pub k7 : scalarLen (a ∷ blank ∷ newline ∷ blank ∷ blank ∷ b ∷ []) (a ∷ blank ∷ b ∷ []) plain false 0 ≡ 6
   -- `a`, three newlines, `b`; value `a`, two newlines, `b`: 0..4, since the second newline finds no run left
@@ -98,7 +100,7 @@ pub record Fallbacks : Type 0 where
   pub cut : scalarLen (doubleQuote ∷ []) (a ∷ b ∷ []) doubleQuoted false 0 ≡ 1
 
 pub record Worked : Type 0 where
-  pub spans : Spans
+  pub spans : CaseSpans
   pub white-space : WhiteSpaceByCodePoints
   pub plains : PlainPoints
   pub quoted : QuotedPoints
@@ -106,7 +108,9 @@ pub record Worked : Type 0 where
   pub fallbacks : Fallbacks
 
 pub worked : Worked
-unfolding scalarLen styleLen plainLen plainReach takesRun beginsWith isFold holdsNewline afterRun whiteSpaceRun isWhiteSpace isIn whiteSpace codes charsAfter firstChar charOf multiByte twoBytes threeBytes encode encodeAll quotedOrValueLen quotedLen toClosing passedTogether blockLen blockReach laterReach endsBlock trimmedLen isBlank lines
+unfolding scalarLen styleLen plainLen plainReach takesRun beginsWith isFold holdsNewline afterRun whiteSpaceRun isWhiteSpace isIn whiteSpace
+    codes charsAfter firstChar charOf multiByte twoBytes threeBytes encode encodeAll quotedOrValueLen quotedLen toClosing passedTogether
+    blockLen blockReach laterReach endsBlock trimmedLen isBlank lines
 worked =
     record {
       spans = record { k7 = refl; k8 = refl; k9 = refl; k11 = refl };

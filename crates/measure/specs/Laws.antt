@@ -1,6 +1,6 @@
 -- What callers may rely on: a length is within the text left; a quoted scalar that is found has two marks, its own first and last
 -- bytes; and what was matched of a plain scalar, and the end of a block, stand at a boundary. A length that falls back to the
--- value's may end anywhere. Assumes nothing.
+-- value's may end anywhere.
 use mathlib.Core.Path.{_≡_, refl, sym, _∙_, ap, subst}
 use mathlib.Core.Bool.{Bool, true, false, cond}
 use mathlib.Core.List.{List, [], _∷_, _++_, append-assoc, append-nil}
@@ -10,17 +10,19 @@ use borrow.Author.Tests.{eqb-true}
 use lib.Dec.{eqb}
 use lib.ListN.{length, drop, getD, length-append}
 use lib.Seq.{getD-append-add}
-use Rattle.text.specs.Utf8.{Utf8, encode, encodeAll, codes}
-use Rattle.text.specs.Boundary.{Boundary}
-use Rattle.text.specs.Bytes.{below-inside}
-use Rattle.text.specs.Utf8Laws.{char-at, first-char-ascii}
-use Rattle.text.specs.declared.utf8.Char.{Char}
-use Rattle.measure.specs.Run.{newline, bytesOf, whiteSpaceRun, afterRun, run-split}
+use Rattle.utf8.specs.Tests.{below-inside}
+use Rattle.utf8.specs.Utf8.{Utf8, encode, encodeAll}
+use Rattle.utf8.specs.Characters.{codes}
+use Rattle.utf8.specs.Boundary.{Boundary}
+use Rattle.utf8.specs.Utf8Laws.{char-at, first-char-ascii}
+use Rattle.utf8.specs.declared.utf8.Char.{Char}
+use Rattle.measure.specs.Run.{bytesOf, whiteSpaceRun, afterRun}
+use Rattle.utf8.specs.Ascii.{newline}
 use Rattle.measure.specs.Plain.{Reach, unmatched, reaches, pastEqual, pastRun, beginsWith, takesRun, plainReach}
 use Rattle.measure.specs.Quoted.{further, passedTogether, toClosing, quotedLen}
-use Rattle.measure.specs.Block.{before, lines, isBlank, trimmedLen, endsBlock, pastLine, laterReach, blockReach, blockLen}
+use Rattle.measure.specs.Block.{ontoFirst, lines, isBlank, trimmedLen, endsBlock, pastLine, laterReach, blockReach, blockLen}
 use Rattle.measure.specs.Scalar.{scalarLen}
-use Rattle.measure.specs.Places.{prefix-boundary, bytes-append}
+use Rattle.measure.specs.Places.{prefix-boundary, bytes-append, run-split}
 use Rattle.measure.specs.declared.quoted.Quoted.{Quoted}
 use Rattle.measure.specs.declared.quoted.Quoted.the-variants.{Found, Missing}
 
@@ -192,28 +194,28 @@ plain-boundary {rest} {n} u value e = whole-boundary u (subst (Reaching (codes r
 -- ---- block
 
 -- lines with a newline between each two
-unfoldable pub joined : List (List ℕ) → List ℕ
-joined [] = []
-joined (l ∷ []) = l
-joined (l ∷ m ∷ ls) = l ++ newline ∷ joined (m ∷ ls)
+unfoldable pub joinedLines : List (List ℕ) → List ℕ
+joinedLines [] = []
+joinedLines (l ∷ []) = l
+joinedLines (l ∷ m ∷ ls) = l ++ newline ∷ joinedLines (m ∷ ls)
 
 lines-some : (cs : List ℕ) → 1 ≤ length (lines cs)
 unfolding lines
 lines-some [] = omega arith
 lines-some (c ∷ cs) = go (eqb c newline) (lines cs)
   where
-    go : (t : Bool) (ls : List (List ℕ)) → 1 ≤ length (cond t ([] ∷ ls) (before c ls))
+    go : (t : Bool) (ls : List (List ℕ)) → 1 ≤ length (cond t ([] ∷ ls) (ontoFirst c ls))
     go true ls = omega arith
     go false [] = omega arith
     go false (l ∷ ls) = omega arith
 
 -- the lines of a text are all of it
-pub lines-joined : (cs : List ℕ) → joined (lines cs) ≡ cs
-unfolding lines joined
+pub lines-joined : (cs : List ℕ) → joinedLines (lines cs) ≡ cs
+unfolding lines joinedLines
 lines-joined [] = refl
 lines-joined (c ∷ cs) = go (eqb c newline) refl (lines cs) (lines-some cs) (lines-joined cs)
   where
-    go : (t : Bool) → eqb c newline ≡ t → (ls : List (List ℕ)) → 1 ≤ length ls → joined ls ≡ cs → joined (cond t ([] ∷ ls) (before c ls)) ≡ c ∷ cs
+    go : (t : Bool) → eqb c newline ≡ t → (ls : List (List ℕ)) → 1 ≤ length ls → joinedLines ls ≡ cs → joinedLines (cond t ([] ∷ ls) (ontoFirst c ls)) ≡ c ∷ cs
     go t e [] h r = absurd (omega arith)
     go true e (l ∷ ls) h r = ap (λ (x : List ℕ). newline ∷ x) r ∙ ap (λ (x : ℕ). x ∷ cs) (sym (eqb-true c newline e))
     go false e (l ∷ []) h r = ap (λ (x : List ℕ). c ∷ x) r
@@ -236,27 +238,27 @@ whole-empty k = k .size ∙ go (k .front) (k .is)
     go [] e = refl
     go (x ∷ front) e = absurd (let z : _≡_ {A = ℕ} 0 1 = cc in omega arith)
 
-whole-line : (l : List ℕ) (ls : List (List ℕ)) (n : ℕ) → Whole (joined ls) n → Whole (joined (l ∷ ls)) (pastLine l n)
-unfolding joined encodeAll encode
+whole-line : (l : List ℕ) (ls : List (List ℕ)) (n : ℕ) → Whole (joinedLines ls) n → Whole (joinedLines (l ∷ ls)) (pastLine l n)
+unfolding joinedLines encodeAll encode
 whole-line l [] zero k = whole-trimmed l
-whole-line l (m ∷ ls) zero k = whole-more (newline ∷ joined (m ∷ ls)) (whole-trimmed l)
+whole-line l (m ∷ ls) zero k = whole-more (newline ∷ joinedLines (m ∷ ls)) (whole-trimmed l)
 whole-line l [] (suc n) k = absurd (let z = whole-empty k in omega arith)
 whole-line l (m ∷ ls) (suc n) k =
     let e : bytesOf (l ++ (newline ∷ [])) ≡ bytesOf l + 1 = bytes-append l (newline ∷ []) in
     rw (append-assoc, e) at (whole-later (l ++ (newline ∷ [])) k)
 
-whole-lines : (column : ℕ) (ls : List (List ℕ)) → Whole (joined ls) (laterReach column ls)
+whole-lines : (column : ℕ) (ls : List (List ℕ)) → Whole (joinedLines ls) (laterReach column ls)
 unfolding laterReach
-whole-lines column [] = whole-none (joined [])
+whole-lines column [] = whole-none (joinedLines [])
 whole-lines column (l ∷ ls) = go (endsBlock column l) (whole-lines column ls)
   where
-    go : (t : Bool) → Whole (joined ls) (laterReach column ls) → Whole (joined (l ∷ ls)) (cond t 0 (pastLine l (laterReach column ls)))
-    go true k = whole-none (joined (l ∷ ls))
+    go : (t : Bool) → Whole (joinedLines ls) (laterReach column ls) → Whole (joinedLines (l ∷ ls)) (cond t 0 (pastLine l (laterReach column ls)))
+    go true k = whole-none (joinedLines (l ∷ ls))
     go false k = whole-line l ls (laterReach column ls) k
 
-whole-block : (column : ℕ) (ls : List (List ℕ)) → Whole (joined ls) (blockReach column ls)
+whole-block : (column : ℕ) (ls : List (List ℕ)) → Whole (joinedLines ls) (blockReach column ls)
 unfolding blockReach
-whole-block column [] = whole-none (joined [])
+whole-block column [] = whole-none (joinedLines [])
 whole-block column (l ∷ ls) = whole-line l ls (laterReach column ls) (whole-lines column ls)
 
 -- a block ends at a boundary

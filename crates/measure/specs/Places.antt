@@ -1,6 +1,6 @@
 -- Places of a text by the characters before them. Where some characters that begin at a boundary end, a boundary stands again, and
--- what follows are the other characters: so the measures count characters and answer bytes. Assumes nothing.
-use mathlib.Core.Path.{_≡_, sym, _∙_, ap, subst}
+-- what follows are the other characters: so the measures count characters and answer bytes.
+use mathlib.Core.Path.{_≡_, refl, sym, _∙_, ap, subst}
 use mathlib.Core.Bool.{Bool, true, false, cond}
 use mathlib.Core.List.{List, [], _∷_, _++_, append-assoc}
 use Prim.Native.Nat.{ℕ, _+_, _-_, _/_, _%_, _≤_}
@@ -8,10 +8,35 @@ use native.Mathlib.Nat.{zero-add}
 use native.Mathlib.Omega.{arith}
 use lib.Dec.{ltb}
 use lib.ListN.{length, drop, length-append, length-drop}
-use Rattle.text.specs.Utf8.{ScalarValues, Utf8, encode, encodeAll, codes}
-use Rattle.text.specs.Boundary.{Boundary}
-use Rattle.text.specs.Utf8Laws.{Place, place-at, place-back, place-boundary, scalars-back, codes-encode, codes-encodeAll, encodeAll-append, boundary-start, boundary-splits}
-use Rattle.measure.specs.Run.{bytesOf}
+use Rattle.utf8.specs.Utf8.{ScalarValues, Utf8, encode, encodeAll}
+use Rattle.utf8.specs.Characters.{codes}
+use Rattle.utf8.specs.Boundary.{Boundary}
+use Rattle.utf8.specs.Utf8Laws.{Place, place-at, place-back, place-boundary, scalars-back, codes-encode, codes-encodeAll, encodeAll-append, boundary-start, boundary-splits}
+use Rattle.utf8.specs.WhiteSpace.{isWhiteSpace}
+use Rattle.measure.specs.Run.{bytesOf, whiteSpaceRun, afterRun}
+
+-- ---- runs
+
+-- the run and what comes after it are all
+pub run-split : (cs : List ℕ) → cs ≡ whiteSpaceRun cs ++ afterRun cs
+unfolding whiteSpaceRun afterRun
+run-split [] = refl
+run-split (c ∷ cs) = go (isWhiteSpace c) (run-split cs)
+  where
+    go : (t : Bool) → cs ≡ whiteSpaceRun cs ++ afterRun cs → c ∷ cs ≡ cond t (c ∷ whiteSpaceRun cs) [] ++ cond t (afterRun cs) (c ∷ cs)
+    go true r = ap (λ (l : List ℕ). c ∷ l) r
+    go false r = refl
+
+-- a run goes on over white space, and over nothing else
+pub run-goes-on : (c : ℕ) (cs : List ℕ) → isWhiteSpace c ≡ true → whiteSpaceRun (c ∷ cs) ≡ c ∷ whiteSpaceRun cs
+unfolding whiteSpaceRun
+run-goes-on c cs e = rw e
+
+pub run-stops : (c : ℕ) (cs : List ℕ) → isWhiteSpace c ≡ false → whiteSpaceRun (c ∷ cs) ≡ []
+unfolding whiteSpaceRun
+run-stops c cs e = rw e
+
+-- ---- places
 
 -- from the boundary i of s on stand the characters xs, and then ys
 pub record Onward (s : List ℕ) (i : ℕ) (xs ys : List ℕ) : Type 0 where

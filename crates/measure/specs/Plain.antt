@@ -1,15 +1,14 @@
 -- The plain measure (P3, S5). The value's characters are matched in turn with those of the rest. What a match says is how far the
 -- span reaches from here: 0 bytes where no later character is equal, so that the span ends after the last equal one.
 use Prim.Native.Nat.{ℕ, zero, suc, _+_}
-use mathlib.Core.Bool.{Bool, true, false, _&&_, _||_, cond}
+use mathlib.Core.Bool.{Bool, false, _&&_, _||_, cond}
 use mathlib.Core.List.{List, [], _∷_}
-use lib.Dec.{eqb, ltb}
-use lib.ListN.{length, drop, getD}
-use Rattle.text.specs.Utf8.{encode, codes}
-use Rattle.measure.specs.Run.{newline, bytesOf, whiteSpaceRun, afterRun, holdsNewline}
-
-abbrev pub blank : ℕ
-blank = 0x20
+use lib.Dec.{eqb}
+use lib.ListN.{length, drop}
+use Rattle.utf8.specs.Utf8.{encode}
+use Rattle.utf8.specs.Characters.{codes}
+use Rattle.measure.specs.Run.{bytesOf, whiteSpaceRun, afterRun, holdsNewline}
+use Rattle.utf8.specs.Ascii.{newline, blank}
 
 -- a character that a folded line break can become: a blank or a newline (S5)
 unfoldable pub isFold : ℕ → Bool
@@ -57,7 +56,3 @@ reachOr n (reaches m) = m
 -- the length of a plain scalar; the value's where the two do not line up (P3)
 unfoldable pub plainLen : List ℕ → List ℕ → ℕ
 plainLen rest value = reachOr (length value) (plainReach (codes value) (codes rest))
-
--- whether a text has the byte b at a place
-unfoldable pub hasByte : List ℕ → ℕ → ℕ → Bool
-hasByte s i b = ltb i (length s) && eqb (getD s i 0) b

@@ -1,22 +1,13 @@
 -- The quoted measure (P4, S6), by bytes: from the opening mark to the closing one. The value's length stands in where either is
 -- missing (S8). A backslash may be the text's last byte; then nothing is left to close the scalar.
-use Prim.Native.Nat.{ℕ, _+_, _≤_, _<_}
-use mathlib.Core.Path.{_≡_}
-use mathlib.Core.Bool.{Bool, true, false, _&&_, _||_, cond}
+use Prim.Native.Nat.{ℕ, _+_}
+use mathlib.Core.Bool.{Bool, _&&_, _||_, cond}
 use mathlib.Core.List.{List, [], _∷_}
 use lib.Dec.{eqb}
-use lib.ListN.{length, getD}
+use lib.ListN.{length}
+use Rattle.utf8.specs.Ascii.{singleQuote, doubleQuote, backslash}
 use Rattle.measure.specs.declared.quoted.Quoted.{Quoted}
 use Rattle.measure.specs.declared.quoted.Quoted.the-variants.{Found, Missing}
-
-abbrev pub singleQuote : ℕ
-singleQuote = 39
-
-abbrev pub doubleQuote : ℕ
-doubleQuote = 34
-
-abbrev pub backslash : ℕ
-backslash = 92
 
 -- found n bytes further on
 abbrev pub further : ℕ → Quoted → Quoted
@@ -41,19 +32,10 @@ unfoldable pub quotedLen : List ℕ → ℕ → Quoted
 quotedLen [] quote = Missing
 quotedLen (a ∷ s) quote = cond (eqb a quote) (further 1 (toClosing quote s)) Missing
 
-abbrev pub foundOr : ℕ → Quoted → ℕ
-foundOr n (Found m) = m
-foundOr n Missing = n
+abbrev pub foundLenOr : ℕ → Quoted → ℕ
+foundLenOr n (Found m) = m
+foundLenOr n Missing = n
 
 -- the same, or the value's length where a mark is missing (S8)
 unfoldable pub quotedOrValueLen : List ℕ → List ℕ → ℕ → ℕ
-quotedOrValueLen rest value quote = foundOr (length value) (quotedLen rest quote)
-
--- A byte that is passed by itself: neither the mark nor a backslash. Such bytes are passed over many at a time, which is no part of the measure.
-abbrev pub Ordinary : ℕ → ℕ → Type 0
-Ordinary quote b = (b ≡ quote → ⊥) × (b ≡ backslash → ⊥)
-
--- the first n bytes are
-pub record Unmarked (quote : ℕ) (s : List ℕ) (n : ℕ) : Type 0 where
-  pub within : n ≤ length s
-  pub each : (j : ℕ) → j < n → Ordinary quote (getD s j 0)
+quotedOrValueLen rest value quote = foundLenOr (length value) (quotedLen rest quote)

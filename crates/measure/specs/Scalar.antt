@@ -6,7 +6,8 @@ use mathlib.Core.List.{List}
 use lib.Dec.{eqb}
 use lib.ListN.{length}
 use Rattle.measure.specs.Plain.{plainLen}
-use Rattle.measure.specs.Quoted.{singleQuote, doubleQuote, quotedOrValueLen}
+use Rattle.measure.specs.Quoted.{quotedOrValueLen}
+use Rattle.utf8.specs.Ascii.{singleQuote, doubleQuote}
 use Rattle.measure.specs.Block.{blockLen}
 
 abbrev pub plain : ℕ

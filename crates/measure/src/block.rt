@@ -1,11 +1,13 @@
 // The block measure. (01: Reading rules, Block; `block_scalar_len`; P5, S7.)
 ghost use mathlib.Core.Path.{_≡_};
-ghost use Rattle.text.specs.Utf8.{Utf8, codes};
-ghost use Rattle.measure.specs.Block.{lineOf, blockLen};
-use crate::letter::letters;
+ghost use Rattle.utf8.specs.Utf8.{Utf8};
+ghost use Rattle.utf8.specs.Characters.{codes};
+ghost use Rattle.measure.specs.Block.{blockLen};
+ghost use Rattle.measure.specs.Counted.{lineOf};
 use crate::run::NEWLINE;
-use text::utf8::first_char;
-use text::white_space::is_white_space;
+use letters::letter::letters;
+use utf8::utf8::first_char;
+use utf8::white_space::is_white_space;
 
 // A line without its newline, in bytes: its leading white space, up to its last character that is no white space (0 where it is
 // blank), and all of it.
@@ -34,7 +36,7 @@ fn first_line(tail: &[u8]) -> Line
                 lead = len;
             }
         } else {
-            len += letters(&tail[len..], &tail[len..]);
+            len += letters(tail, len, tail, len);
             trimmed = len;
         }
     }

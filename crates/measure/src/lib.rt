@@ -2,8 +2,6 @@
 //
 // Each gets the rest of the text from the scalar's start as a part, and counts from its first byte. (01: Reading rules; F3.)
 pub mod block;
-mod chunk;
-pub mod letter;
 pub mod plain;
 pub mod quoted;
 pub mod run;

@@ -1,11 +1,12 @@
 // The plain measure. (01: Reading rules, Plain; `plain_scalar_len`; P3, S5, F6.)
 ghost use mathlib.Core.Path.{_≡_};
-ghost use Rattle.text.specs.Utf8.{Utf8};
-ghost use Rattle.measure.specs.Plain.{plainLen, isFold, hasByte};
-use crate::letter::letters;
+ghost use Rattle.utf8.specs.Utf8.{Utf8};
+ghost use Rattle.measure.specs.Plain.{plainLen, isFold};
+ghost use Rattle.measure.specs.Counted.{hasByte};
 use crate::run::NEWLINE;
 use crate::run::white_space_run;
-use text::utf8::first_char;
+use letters::letter::letters;
+use utf8::utf8::first_char;
 
 const BLANK: u32 = 0x20;
 
@@ -67,7 +68,7 @@ pub fn plain_scalar_len(rest: &[u8], value: &[u8]) -> usize
         }
         at += c.len;
         v += c.len;
-        let n = letters(&rest[at..], &value[v..]);
+        let n = letters(rest, at, value, v);
         at += n;
         v += n;
         end = at;

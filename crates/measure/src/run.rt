@@ -1,9 +1,10 @@
 // White-space runs, by code points. (01: "One notion of white space"; W1.)
 ghost use mathlib.Core.Path.{_≡_};
-ghost use Rattle.text.specs.Utf8.{Utf8, codes};
-ghost use Rattle.measure.specs.Run.{runOf};
-use text::utf8::first_char;
-use text::white_space::is_white_space;
+ghost use Rattle.utf8.specs.Utf8.{Utf8};
+ghost use Rattle.utf8.specs.Characters.{codes};
+ghost use Rattle.measure.specs.Counted.{runOf};
+use utf8::utf8::first_char;
+use utf8::white_space::is_white_space;
 
 pub const NEWLINE: u32 = 0xa;
 

@@ -1,6 +1,6 @@
 // The choice by style, and the cut to the text left. (01: Reading rules; S4, S8.)
 ghost use mathlib.Core.Path.{_≡_};
-ghost use Rattle.text.specs.Utf8.{Utf8};
+ghost use Rattle.utf8.specs.Utf8.{Utf8};
 ghost use Rattle.measure.specs.Scalar.{styleLen, scalarLen};
 use crate::block::block_scalar_len;
 use crate::plain::plain_scalar_len;

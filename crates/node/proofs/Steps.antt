@@ -1,10 +1,9 @@
--- One step back over children, and over pairs. Assumes nothing.
-use mathlib.Core.Path.{_≡_, refl, sym, ap, _∙_}
+-- One step back over children, and over pairs.
+use mathlib.Core.Path.{_≡_}
 use mathlib.Core.List.{List}
 use mathlib.Core.Option.{Option, none, some}
 use Prim.Native.Nat.{ℕ, zero, suc, _-_, _<_}
 use native.Mathlib.Omega.{arith}
-use Rattle.node.specs.Chain.{andThen}
 use Rattle.node.specs.Child.{childBefore, stepsBack}
 use Rattle.node.specs.Entry.{pairEnding}
 use Rattle.node.specs.Search.{earlier, searchBack}
@@ -39,7 +38,10 @@ module _ (b : List ℕ) where
     pairs-none zero v l y h e n = absurd (omega arith)
     pairs-none (suc k) v l y h e n = rw (← e, ← n)
 
-    pub pairs-on : (k v u : ℕ) (l m : Option ℕ) (y : YamlHashEntry) → 0 < k → some y ≡ pairEnding b v → some u ≡ childBefore b (y .key) → m ≡ earlier b events key (y .key) v l → searchBack b events key (k - 1) u m ≡ searchBack b events key k v l
+    pub pairs-on :
+        (k v u : ℕ) (l m : Option ℕ) (y : YamlHashEntry) →
+        0 < k → some y ≡ pairEnding b v → some u ≡ childBefore b (y .key) → m ≡ earlier b events key (y .key) v l →
+        searchBack b events key (k - 1) u m ≡ searchBack b events key k v l
     unfolding searchBack
     pairs-on zero v u l m y h e n q = absurd (omega arith)
     pairs-on (suc k) v u l m y h e n q = rw (← e, ← n, less-one k, q)

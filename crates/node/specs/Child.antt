@@ -8,7 +8,7 @@ use mathlib.Core.Bool.{_&&_}
 use mathlib.Core.List.{List}
 use mathlib.Core.Option.{Option, none, some}
 use lib.Dec.{ltb, leb}
-use Rattle.parser.specs.declared.record.Node.{Node}
+use Rattle.records.specs.declared.record.Node.{Node}
 use Rattle.node.specs.Chain.{andThen, when}
 use Rattle.node.specs.Record.{recordAt}
 use Rattle.node.specs.Kind.{isArray, children, lenAt}

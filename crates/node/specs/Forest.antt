@@ -1,14 +1,11 @@
 -- Nodes as a forest, written from its last tree back, as records are (N2, N3). A forest's post-order is the order in which its nodes are
--- completed, so a node's number is how many come before it. In a sound forest each node's record says how many nodes its tree has and how
--- many children, or pairs.
+-- completed, so a node's number is how many come before it.
 use mathlib.Core.Path.{_≡_}
-use mathlib.Core.Bool.{true}
 use mathlib.Core.Logic.{_⊎_}
 use mathlib.Core.List.{List, [], _∷_, _++_}
-use Prim.Native.Nat.{ℕ, suc, _+_, _*_, _<_}
+use Prim.Native.Nat.{ℕ, _+_}
 use lib.ListN.{length}
-use Rattle.parser.specs.declared.record.Node.{Node}
-use Rattle.node.specs.Record.{isKind}
+use Rattle.records.specs.declared.record.Node.{Node}
 use Rattle.node.specs.Entry.{entry}
 use Rattle.node.specs.declared.entry.YamlHashEntry.{YamlHashEntry}
 
@@ -23,23 +20,6 @@ postOrder (snoc f x kids) = postOrder f ++ (postOrder kids ++ (x ∷ []))
 
 abbrev pub nodesIn : Forest → ℕ
 nodesIn f = length (postOrder f)
-
-abbrev pub trees : Forest → ℕ
-trees nil = 0
-trees (snoc f x kids) = suc (trees f)
-
--- ---- sound records
-
-pub record Tree (x : Node) (kids : Forest) : Type 0 where
-  pub kind : isKind (x .kind) ≡ true
-  pub count : x .subtree ≡ nodesIn kids + 1
-  pub scalar : x .kind < 7 → trees kids ≡ 0
-  pub array : x .kind ≡ 7 → x .payload .first ≡ trees kids
-  pub hash : x .kind ≡ 8 → 2 * x .payload .first ≡ trees kids
-
-unfoldable pub Sound : Forest → Type 0
-Sound nil = Unit {0}
-Sound (snoc f x kids) = Sound f × Sound kids × Tree x kids
 
 -- ---- numbers, where p nodes come before the forest
 

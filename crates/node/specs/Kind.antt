@@ -4,7 +4,7 @@ use mathlib.Core.Bool.{Bool, cond}
 use mathlib.Core.List.{List}
 use mathlib.Core.Option.{Option, none, some}
 use lib.Dec.{ltb, eqb}
-use Rattle.parser.specs.declared.record.Node.{Node}
+use Rattle.records.specs.declared.record.Node.{Node}
 use Rattle.node.specs.Chain.{andThen}
 use Rattle.node.specs.Record.{recordAt}
 use Rattle.node.specs.declared.kind.Flag.{Flag}

@@ -1,12 +1,10 @@
--- The definitions that the contracts of `node` cite, in reading order, and the laws that callers go by.
+-- The definitions that the contracts of `node` cite, and the theorem on trees.
+
+-- What it means: what contracts and theorems cite, from document 01 and the standards. To be believed.
 -- what comes next where there is something
 pub mod Chain
--- members of a list by number
-pub mod Nth
 -- when a record exists
 pub mod Record
--- reading is the inverse of laying out
-pub mod RecordLaws
 -- kinds and counts
 pub mod Kind
 -- spans, tags, piece lists
@@ -21,19 +19,14 @@ pub mod Search
 pub mod Marker
 -- nodes as a forest
 pub mod Forest
--- going back over a forest that is laid out
-pub mod ForestLaws
--- values by key over a forest that is laid out
-pub mod SearchLaws
--- each node but the root is a child of exactly one
-pub mod Parents
 -- the tree that events make
 pub mod Growth
--- it is what a call builds
-pub mod GrowthLaws
--- what the accessors give back of a tree
+-- Statements: theorems and laws that a caller may use, and worked cases. Proved; nothing here is to be believed.
+-- what the accessors give back of a tree: the theorem on trees
 pub mod ReadBack
--- and that they do, where a call built it
-pub mod ReadBackLaws
+-- reading is the inverse of laying out
+pub mod RecordLaws
+-- the nodes of every run are the tree of its events
+pub mod Built
 -- worked cases
 pub mod Examples

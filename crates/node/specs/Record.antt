@@ -5,9 +5,9 @@ use mathlib.Core.List.{List}
 use mathlib.Core.Option.{Option, none, some}
 use lib.Dec.{ltb, leb}
 use lib.ListN.{length, drop}
-use Rattle.parser.specs.Record.{recordWidth, nodeOf}
-use Rattle.parser.specs.Layout.{recordRoom}
-use Rattle.parser.specs.declared.record.Node.{Node}
+use Rattle.records.specs.Record.{recordWidth, nodeOf}
+use Rattle.records.specs.Layout.{recordRoom}
+use Rattle.records.specs.declared.record.Node.{Node}
 use Rattle.node.specs.Chain.{when}
 use Rattle.node.specs.declared.record.Lookup.{Lookup}
 use Rattle.node.specs.declared.record.Lookup.the-variants.{Record, Missing}

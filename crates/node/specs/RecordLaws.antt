@@ -1,4 +1,4 @@
--- Reading records is the inverse of laying them out (E2, N3). Assumes nothing.
+-- Reading records is the inverse of laying them out (E2, N3).
 use mathlib.Core.Path.{_≡_, refl, ap, _∙_}
 use mathlib.Core.Bool.{Bool, true, false}
 use mathlib.Core.List.{List, [], _∷_, _++_, append-assoc}
@@ -6,14 +6,15 @@ use mathlib.Core.Option.{none}
 use Prim.Native.Nat.{ℕ, zero, suc, _+_, _-_, _*_, _/_}
 use native.Mathlib.Omega.{arith}
 use borrow.Author.Tests.{lt-ltb}
-use lib.ListN.{length, drop, replicate, length-append}
+use lib.ListN.{length, drop, replicate, getElem?, length-append}
 use lib.Dec.{ltb, leb·suc-suc}
 use lib.Seq.{drop-append-add}
-use Rattle.parser.specs.Record.{recordWidth, nodeNumbers, nodeOf, node-wide, read-laid, read-zeros}
-use Rattle.parser.specs.Layout.{flat, laidBy, laidNodes}
-use Rattle.parser.specs.declared.record.Node.{Node}
+use Rattle.records.specs.Record.{recordWidth, nodeNumbers, nodeOf}
+use Rattle.records.specs.RecordLaws.{node-wide, read-laid, read-zeros}
+use Rattle.records.specs.Layout.{laidNodes}
+use Rattle.provenance.specs.Layout.{flat, laidBy}
+use Rattle.records.specs.declared.record.Node.{Node}
 use Rattle.node.specs.Chain.{andThen, when}
-use Rattle.node.specs.Nth.{nth}
 use Rattle.node.specs.Record.{existing, recordAt}
 
 -- ---- one record on
@@ -52,7 +53,7 @@ record-zero m n = rw (read-zeros m (recordWidth * n)) (never (ltb n (length (rep
 -- ---- every record
 
 -- record n of nodes laid out is the n-th node, if its kind is one; past them there is none
-pub record-laid : (size : ℕ) (xs : List Node) (n : ℕ) → recordAt (laidNodes size xs) n ≡ andThen (nth xs n) existing
+pub record-laid : (size : ℕ) (xs : List Node) (n : ℕ) → recordAt (laidNodes size xs) n ≡ andThen (getElem? xs n) existing
 unfolding laidBy
 record-laid size [] n = record-zero (size - recordWidth * 0) n
 record-laid size (x ∷ xs) zero = rw append-assoc (record-first x (flat nodeNumbers xs ++ replicate (size - recordWidth * length (x ∷ xs)) 0))

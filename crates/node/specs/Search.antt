@@ -1,5 +1,5 @@
 -- Values by key (N2, N3): of the pairs of a hash, the first whose key is a string with those bytes. All pairs are gone through, from the last
--- to the first; the one met last is the first. That this is `firstWith` of the pairs is shown in `SearchLaws`.
+-- to the first; the one met last is the first. That this is `firstWith` of the pairs says the theorem on trees (`values`, ReadBack.antt).
 --
 -- What document 01 leaves open: a key whose payload points outside the event bytes has no bytes, so it matches none. Where a pair of the hash is
 -- missing there is no answer, whichever other pairs match.
@@ -9,8 +9,8 @@ use mathlib.Core.List.{List, [], _∷_}
 use mathlib.Core.Option.{Option, none, some}
 use lib.Dec.{ltb, leb, eqb}
 use lib.ListN.{length, take, drop}
-use Rattle.schema.specs.Tag.{sameBytes}
-use Rattle.parser.specs.declared.record.Node.{Node}
+use Rattle.utf8.specs.Ascii.{sameBytes}
+use Rattle.records.specs.declared.record.Node.{Node}
 use Rattle.node.specs.Chain.{andThen, when}
 use Rattle.node.specs.Record.{recordAt}
 use Rattle.node.specs.Kind.{isHash}

@@ -5,11 +5,11 @@ use mathlib.Core.Bool.{Bool, _&&_, not}
 use mathlib.Core.List.{List}
 use mathlib.Core.Option.{Option, none, some}
 use lib.Dec.{eqb}
-use Rattle.parser.specs.Record.{absent}
-use Rattle.parser.specs.declared.record.Node.{Node}
-use Rattle.parser.specs.declared.record.Extent.{Extent}
-use Rattle.parser.specs.declared.record.TagInfo.{TagInfo}
-use Rattle.parser.specs.declared.record.PieceList.{PieceList}
+use Rattle.records.specs.Record.{absent}
+use Rattle.records.specs.declared.record.Node.{Node}
+use Rattle.records.specs.declared.record.Extent.{Extent}
+use Rattle.records.specs.declared.record.TagInfo.{TagInfo}
+use Rattle.records.specs.declared.record.PieceList.{PieceList}
 use Rattle.node.specs.Chain.{andThen, when}
 use Rattle.node.specs.Record.{recordAt}
 use Rattle.node.specs.Kind.{isScalar}
@@ -26,8 +26,8 @@ spanAt b n = andThen (recordAt b n) (λ (x : Node). some (x .extent))
 unfoldable pub isAbsent : TagInfo → Bool
 isAbsent t = eqb (t .start) absent && (eqb (t .end) absent && (eqb (t .suffix) absent && eqb (t .len) absent))
 
-unfoldable pub tagAt : List ℕ → ℕ → Option TagInfo
-tagAt b n = andThen (recordAt b n) (λ (x : Node). when (not (isAbsent (x .tag))) (some (x .tag)))
+unfoldable pub tagOf : List ℕ → ℕ → Option TagInfo
+tagOf b n = andThen (recordAt b n) (λ (x : Node). when (not (isAbsent (x .tag))) (some (x .tag)))
 
 unfoldable pub pieceListAt : List ℕ → ℕ → Option PieceList
 pieceListAt b n = andThen (recordAt b n) (λ (x : Node). when (isScalar x && not (eqb (x .list .first) absent)) (some (x .list)))

@@ -3,14 +3,15 @@
 // Going from the last child back by `child_before` costs one step a child. By index it costs the distance from the last.
 ghost use mathlib.Core.Path.{_≡_};
 ghost use Rattle.node.specs.Kind.{children};
-ghost use Rattle.node.specs.Child.{placeAt, recordBefore, lastChild, childBefore, stepsBack, childFromLast, arrayItem, placeIn};
+ghost use Rattle.node.specs.Child.{placeAt, recordBefore, lastChild, lessCount, childBefore, stepsBack, childFromLast, arrayItem, placeIn};
 use crate::kind::Count;
 use crate::kind::len;
+use crate::kind::members;
 use crate::record::Lookup;
 use crate::record::get_record;
-use parser::record::ARRAY;
-use parser::record::HASH;
-use parser::record::Node;
+use records::record::ARRAY;
+use records::record::HASH;
+use records::record::Node;
 
 // A record's number.
 pub enum Place {
@@ -29,7 +30,7 @@ fn existing_place(records: &[u32], n: usize) -> Place
 }
 
 // The record before number `n`: the root of a buffer in which `n` nodes were built.
-pub fn root(records: &[u32], n: usize) -> Place
+pub fn record_before(records: &[u32], n: usize) -> Place
     ensures { λ r. ⌜ placeIn r ≡ recordBefore (now (records .entry)) n ⌝ }
 {
     if n == 0 {
@@ -48,7 +49,20 @@ pub fn last_child(records: &[u32], n: usize) -> Place
     if k == 0 {
         return Place::Missing;
     }
-    root(records, n)
+    record_before(records, n)
+}
+
+// The record that a subtree count leads to from `c`.
+fn less_count(records: &[u32], c: usize, count: usize) -> Place
+    ensures { λ r. ⌜ placeIn r ≡ lessCount (now (records .entry)) c count ⌝ }
+{
+    if count == 0 {
+        return Place::Missing;
+    }
+    if c < count {
+        return Place::Missing;
+    }
+    existing_place(records, c - count)
 }
 
 // The child before `c`, where `c` is not its collection's first child; how many there are says `len`.
@@ -58,14 +72,7 @@ pub fn child_before(records: &[u32], c: usize) -> Place
     let Lookup::Record(x) = get_record(records, c) else {
         return Place::Missing;
     };
-    let count = x.subtree as usize;
-    if count == 0 {
-        return Place::Missing;
-    }
-    if c < count {
-        return Place::Missing;
-    }
-    existing_place(records, c - count)
+    less_count(records, c, x.subtree as usize)
 }
 
 // The child `k` before `c`.
@@ -108,7 +115,7 @@ pub fn child_from_last(records: &[u32], n: usize, k: usize) -> Place
     if child_count(x) <= k {
         return Place::Missing;
     }
-    let Place::At(c) = root(records, n) else {
+    let Place::At(c) = record_before(records, n) else {
         return Place::Missing;
     };
     steps_back(records, c, k)
@@ -118,13 +125,10 @@ pub fn child_from_last(records: &[u32], n: usize, k: usize) -> Place
 pub fn get_array_item(records: &[u32], n: usize, i: usize) -> Place
     ensures { λ r. ⌜ placeIn r ≡ arrayItem (now (records .entry)) n i ⌝ }
 {
-    let Lookup::Record(x) = get_record(records, n) else {
+    let Count::Is(items) = members(records, n, ARRAY) else {
         return Place::Missing;
     };
-    if x.kind != ARRAY {
-        return Place::Missing;
-    }
-    let count = x.payload.first as usize;
+    let count = items as usize;
     if count <= i {
         return Place::Missing;
     }

@@ -4,10 +4,12 @@ ghost use Rattle.node.specs.Entry.{pairEnding, hashEntry, entryIn};
 use crate::child::Place;
 use crate::child::child_before;
 use crate::child::child_from_last;
-use crate::record::Lookup;
-use crate::record::get_record;
-use parser::record::Extent;
-use parser::record::HASH;
+use crate::kind::Count;
+use crate::kind::members;
+use crate::source::Span;
+use crate::source::source_info;
+use records::record::Extent;
+use records::record::HASH;
 
 // The records of a key and its value, the span of each, and the span from the key's start to the value's end.
 pub struct YamlHashEntry {
@@ -27,17 +29,15 @@ pub enum Entry {
 pub fn pair_ending(records: &[u32], v: usize) -> Entry
     ensures { λ r. ⌜ entryIn r ≡ pairEnding (now (records .entry)) v ⌝ }
 {
-    let Lookup::Record(value) = get_record(records, v) else {
+    let Span::Of(value_span) = source_info(records, v) else {
         return Entry::Missing;
     };
     let Place::At(k) = child_before(records, v) else {
         return Entry::Missing;
     };
-    let Lookup::Record(key) = get_record(records, k) else {
+    let Span::Of(key_span) = source_info(records, k) else {
         return Entry::Missing;
     };
-    let key_span = key.extent;
-    let value_span = value.extent;
     let entry_span = Extent {
         start: key_span.start,
         end: value_span.end,
@@ -55,13 +55,10 @@ pub fn pair_ending(records: &[u32], v: usize) -> Entry
 pub fn hash_entry(records: &[u32], n: usize, i: usize) -> Entry
     ensures { λ r. ⌜ entryIn r ≡ hashEntry (now (records .entry)) n i ⌝ }
 {
-    let Lookup::Record(x) = get_record(records, n) else {
+    let Count::Is(count) = members(records, n, HASH) else {
         return Entry::Missing;
     };
-    if x.kind != HASH {
-        return Entry::Missing;
-    }
-    let pairs = x.payload.first as usize;
+    let pairs = count as usize;
     if pairs <= i {
         return Entry::Missing;
     }

@@ -1,10 +1,15 @@
 // What a node is, and how many children it has. (01: `is_scalar`, `is_array`, `is_hash`, `len`, `is_empty`; N3.)
 ghost use mathlib.Core.Path.{_≡_};
+ghost use lib.Dec.{eqb};
+ghost use mathlib.Core.Option.{some};
+ghost use Rattle.records.specs.declared.record.Node.{Node};
+ghost use Rattle.node.specs.Chain.{andThen, when};
+ghost use Rattle.node.specs.Record.{recordAt};
 ghost use Rattle.node.specs.Kind.{isScalarAt, isArrayAt, isHashAt, lenAt, isEmptyAt, flagIn, countIn};
 use crate::record::Lookup;
 use crate::record::get_record;
-use parser::record::ARRAY;
-use parser::record::HASH;
+use records::record::ARRAY;
+use records::record::HASH;
 
 pub enum Flag {
     Is(bool),
@@ -26,22 +31,40 @@ pub fn is_scalar(records: &[u32], n: usize) -> Flag
     Flag::Is(x.kind < ARRAY)
 }
 
-pub fn is_array(records: &[u32], n: usize) -> Flag
-    ensures { λ r. ⌜ flagIn r ≡ isArrayAt (now (records .entry)) n ⌝ }
+// Whether record `n` is of this kind.
+fn kind_is(records: &[u32], n: usize, kind: u32) -> Flag
+    ensures { λ r. ⌜ flagIn r ≡ andThen (recordAt (now (records .entry)) n) (λ (x : Node). some (eqb (x .kind) kind)) ⌝ }
 {
     let Lookup::Record(x) = get_record(records, n) else {
         return Flag::Missing;
     };
-    Flag::Is(x.kind == ARRAY)
+    Flag::Is(x.kind == kind)
+}
+
+pub fn is_array(records: &[u32], n: usize) -> Flag
+    ensures { λ r. ⌜ flagIn r ≡ isArrayAt (now (records .entry)) n ⌝ }
+{
+    kind_is(records, n, ARRAY)
 }
 
 pub fn is_hash(records: &[u32], n: usize) -> Flag
     ensures { λ r. ⌜ flagIn r ≡ isHashAt (now (records .entry)) n ⌝ }
 {
+    kind_is(records, n, HASH)
+}
+
+// How many items or pairs record `n` says that it has, if it is of this kind.
+pub fn members(records: &[u32], n: usize, kind: u32) -> Count
+    ensures { λ r. ⌜ countIn r ≡ andThen (recordAt (now (records .entry)) n) (λ (x : Node). when (eqb (x .kind) kind) (some (x .payload .first))) ⌝ }
+{
     let Lookup::Record(x) = get_record(records, n) else {
-        return Flag::Missing;
+        return Count::Missing;
     };
-    Flag::Is(x.kind == HASH)
+    if x.kind != kind {
+        return Count::Missing;
+    }
+    let count = x.payload.first;
+    Count::Is(count)
 }
 
 // The items of an array, the pairs of a hash, 0 for a scalar; as the record says, whether or not they are there.

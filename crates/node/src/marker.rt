@@ -1,7 +1,7 @@
 // The place of an error at a marker. (01: `scan_error`; N4.)
 ghost use mathlib.Core.Path.{_≡_};
 ghost use Rattle.node.specs.Marker.{scanError, scanned};
-use parser::record::Extent;
+use records::record::Extent;
 use text::admission::Admission;
 use text::admission::admit_text;
 use text::offset::START;

@@ -1,11 +1,11 @@
 // Records by number. (E2, N3.)
 ghost use mathlib.Core.Path.{_≡_};
 ghost use Rattle.node.specs.Record.{recordAt, recordIn};
-use parser::record::HASH;
-use parser::record::NULL;
-use parser::record::Node;
-use parser::record::RECORD_WIDTH;
-use parser::record::read_record;
+use records::record::HASH;
+use records::record::NULL;
+use records::record::Node;
+use records::record::RECORD_WIDTH;
+use records::record::read_record;
 
 pub enum Lookup {
     Record(Node),

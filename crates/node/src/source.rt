@@ -1,13 +1,13 @@
 // Where a node stands: its span, its tag, its pieces. (01: `source_info`, `tag`, `content_source_info`; N3.)
 ghost use mathlib.Core.Path.{_≡_};
-ghost use Rattle.node.specs.Source.{isAbsent, spanAt, tagAt, pieceListAt, spanIn, tagIn, pieceListIn};
+ghost use Rattle.node.specs.Source.{isAbsent, spanAt, tagOf, pieceListAt, spanIn, tagIn, pieceListIn};
 use crate::record::Lookup;
 use crate::record::get_record;
-use parser::record::ABSENT;
-use parser::record::ARRAY;
-use parser::record::Extent;
-use parser::record::PieceList;
-use parser::record::TagInfo;
+use records::record::ABSENT;
+use records::record::ARRAY;
+use records::record::Extent;
+use records::record::PieceList;
+use records::record::TagInfo;
 
 pub enum Span {
     Of(Extent),
@@ -53,7 +53,7 @@ fn is_absent(tag: TagInfo) -> bool
 
 // The tag's span in the text, and its suffix's place and length in the event bytes.
 pub fn tag(records: &[u32], n: usize) -> Tagged
-    ensures { λ r. ⌜ tagIn r ≡ tagAt (now (records .entry)) n ⌝ }
+    ensures { λ r. ⌜ tagIn r ≡ tagOf (now (records .entry)) n ⌝ }
 {
     let Lookup::Record(x) = get_record(records, n) else {
         return Tagged::Missing;

@@ -1,4 +1,4 @@
--- The stack's frames after stores, and what holds of all of them. Assumes nothing.
+-- The stack's frames after stores, and what holds of all of them.
 use mathlib.Core.Path.{_≡_, refl, sym, ap, ap₂, _∙_}
 use mathlib.Core.Bool.{Bool, true, false, _&&_, cond}
 use mathlib.Core.List.{List, [], _∷_}
@@ -10,14 +10,14 @@ use borrow.Author.Tests.{ne-eqb}
 use lib.Dec.{eqb}
 use lib.ListN.{length, getD, set, length-set}
 use lib.Seq.{sets, getD-set-same, getD-set-other}
-use Rattle.text.specs.Boundary.{Boundary}
+use Rattle.utf8.specs.Boundary.{Boundary}
 use Rattle.schema.specs.Record.{truth}
-use Rattle.parser.specs.Record.{absent}
-use Rattle.parser.specs.Collection.{withChild, awaitsValue}
-use Rattle.parser.specs.Held.{suffixAt, suffixPlace, suffixLen, frame, frameNumbers, openOf, Placed, Below, OnBoundaries}
-use Rattle.parser.specs.declared.stack.Open.{Open}
-use Rattle.parser.specs.declared.stack.Suffix.{Suffix}
-use Rattle.parser.specs.declared.stack.Suffix.the-variants.{Absent, At}
+use Rattle.records.specs.Record.{absent}
+use Rattle.spans.specs.Collection.{withChild, awaitsValue}
+use Rattle.parser.specs.Held.{suffixAt, suffixPlace, suffixLen, frame, frameNumbers, openOf, SuffixPlaced, Below, OnBoundaries}
+use Rattle.spans.specs.declared.open.Open.{Open}
+use Rattle.spans.specs.declared.open.Suffix.{Suffix}
+use Rattle.spans.specs.declared.open.Suffix.the-variants.{Absent, At}
 
 -- ---- reads after a run of stores
 
@@ -59,12 +59,12 @@ truth-back : (b : Bool) → eqb (truth b) 1 ≡ b
 truth-back true = refl
 truth-back false = refl
 
-suffix-back : (x : Suffix) → Placed x → suffixAt (suffixPlace x) (suffixLen x) ≡ x
+suffix-back : (x : Suffix) → SuffixPlaced x → suffixAt (suffixPlace x) (suffixLen x) ≡ x
 unfolding suffixAt
 suffix-back Absent h = refl
 suffix-back (At i n) h = rw (ne-eqb i absent (λ e. omega arith))
 
-frame-pushed : (s : List ℕ) (k : ℕ) (o : Open) → k + 7 ≤ length s → Placed (o .suffix) → frame (sets s k (frameNumbers o)) k ≡ o
+frame-pushed : (s : List ℕ) (k : ℕ) (o : Open) → k + 7 ≤ length s → SuffixPlaced (o .suffix) → frame (sets s k (frameNumbers o)) k ≡ o
 frame-pushed s k o h x =
     let t : List ℕ = sets s k (frameNumbers o) in
     let e0 : getD t k 0 ≡ truth (o .mapping) = ap (λ (j : ℕ). getD t j 0) (sym (add-zero k)) ∙ in-run (frameNumbers o) s k 0 (omega arith) h in
@@ -76,7 +76,7 @@ frame-pushed s k o h x =
     let e6 : getD t (k + 6) 0 ≡ o .before = in-run (frameNumbers o) s k 6 (omega arith) h in
     rw (e0, e1, e2, e3, e4, e5, e6, truth-back (o .mapping), suffix-back (o .suffix) x) refl
 
-pub open-push : (d : ℕ) (s : List ℕ) (o : Open) → 7 * d + 7 ≤ length s → Placed (o .suffix) → openOf (d + 1) (sets s (7 * d) (frameNumbers o)) ≡ o ∷ openOf d s
+pub open-push : (d : ℕ) (s : List ℕ) (o : Open) → 7 * d + 7 ≤ length s → SuffixPlaced (o .suffix) → openOf (d + 1) (sets s (7 * d) (frameNumbers o)) ≡ o ∷ openOf d s
 open-push d s o h x =
     rw add-one
     (ap₂ (λ (a : Open) (os : List Open). a ∷ os) (frame-pushed s (7 * d) o h x) (open-same d s (sets s (7 * d) (frameNumbers o)) (λ j l. below-run (frameNumbers o) s (7 * d) j l)))

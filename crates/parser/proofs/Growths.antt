@@ -11,21 +11,21 @@ use borrow.Author.Tests.{ltb-false}
 use lib.Dec.{ltb, leb}
 use lib.ListN.{length, length-append}
 use Rattle.provenance.specs.Reading.{Piece}
-use Rattle.event.specs.Encode.{YamlEvent, encode}
+use Rattle.event.specs.Encode.{YamlEvent, encodeEvent}
 use Rattle.event.specs.Meaning.{placed}
 use Rattle.event.specs.declared.tag.YamlTag.{YamlTag}
 use Rattle.event.specs.declared.read.Event.{Event}
 use Rattle.event.specs.declared.read.Event.the-variants.{SequenceStart, SequenceEnd, MappingStart, MappingEnd, Scalar, Alias, Malformed}
-use Rattle.parser.specs.Record.{absent, noList, withList}
-use Rattle.parser.specs.Scalar.{ScalarAt, scalarNode}
-use Rattle.parser.specs.Collection.{closes, collectionOver, collectionNode}
+use Rattle.records.specs.Record.{absent, noList, withList}
+use Rattle.spans.specs.Scalar.{ScalarAt, scalarNode, eventNode}
+use Rattle.spans.specs.Collection.{closes, collectionOver, collectionNode}
 use Rattle.parser.specs.Machine.{State, Next, go, stop, built, refused, depthLimit, rootDone, beforeRoot, withinDepth, withinRoom}
-use Rattle.parser.specs.Machine.{completed, started, ended, closed, aliased, keeping, scalarKept, scalared, step, ending, follow}
+use Rattle.parser.specs.Machine.{completed, onStart, ended, onEnd, onAlias, keeping, scalarKept, onScalar, onEvent, ending, follow}
 use Rattle.parser.specs.RunLaws.{stop-not-go}
 use Rattle.parser.specs.EventRun.{goOn, reached, runEvents}
 use Rattle.parser.specs.Demand.{Consecutive}
-use Rattle.parser.specs.declared.record.Node.{Node}
-use Rattle.parser.specs.declared.stack.Open.{Open}
+use Rattle.records.specs.declared.record.Node.{Node}
+use Rattle.spans.specs.declared.open.Open.{Open}
 use Rattle.parser.proofs.EventRun.{go-is, refused-not-built}
 
 -- ---- gates
@@ -133,12 +133,12 @@ unfolding collectionNode collectionOver
 collection-no-list text o i n = refl
 
 module _ (text events : List ℕ) (room most : ℕ) (small : most < absent) where
-  start-grown : (mapping : Bool) (index : ℕ) (tag : YamlTag) (st st′ : State) → started text mapping index tag st ≡ go st′ → Grown most st st′
-  unfolding started
+  start-grown : (mapping : Bool) (index : ℕ) (tag : YamlTag) (st st′ : State) → onStart text mapping index tag st ≡ go st′ → Grown most st st′
+  unfolding onStart
   start-grown mapping index tag st st′ e =
       subst (λ (s : State). Grown most st s) (go-is _ st′ (past-depth st _ st′ (past-root st _ st′ e .1))) (grown-same most st _ refl refl)
 
-  end-grown : (mapping : Bool) (index : ℕ) (os : List Open) (st st′ : State) → closed text room mapping index os st ≡ go st′ → Grown most st st′
+  end-grown : (mapping : Bool) (index : ℕ) (os : List Open) (st st′ : State) → onEnd text room mapping index os st ≡ go st′ → Grown most st st′
   unfolding ended
   end-grown mapping index [] st st′ e = absurd (stop-not-go 4 st′ e)
   end-grown mapping index (o ∷ os) st st′ e = by (closes mapping o) e
@@ -150,16 +150,16 @@ module _ (text events : List ℕ) (room most : ℕ) (small : most < absent) wher
           opened f = subst (λ (s : State). Grown most st s) (go-is _ st′ (past-room room st _ st′ f .1)) (grown-node most _ st _ (collection-no-list text o _ _) refl refl)
       by false f = absurd (stop-not-go 4 st′ f)
 
-  alias-grown : (index : ℕ) (st st′ : State) → aliased text room index st ≡ go st′ → Grown most st st′
-  unfolding aliased
+  alias-grown : (index : ℕ) (st st′ : State) → onAlias text room index st ≡ go st′ → Grown most st st′
+  unfolding onAlias
   alias-grown index st st′ e = subst (λ (s : State). Grown most st s) (go-is _ st′ (past-room room st _ st′ (past-root st _ st′ e .1) .1)) (grown-node most _ st _ refl refl refl)
 
   scalar-grown : (x : ScalarAt) (tag : YamlTag) (st st′ : State) → scalarKept text events most x tag st ≡ go st′ → Grown most st st′
-  unfolding scalarKept scalarNode
+  unfolding scalarKept eventNode scalarNode
   scalar-grown x tag st st′ e = grown-kept most _ _ st st′ small refl e
 
-  pub step-grown : (e : Event) (st st′ : State) → step text events room most e st ≡ go st′ → Grown most st st′
-  unfolding scalared
+  pub step-grown : (e : Event) (st st′ : State) → onEvent text events room most e st ≡ go st′ → Grown most st st′
+  unfolding onScalar
   step-grown (SequenceStart index tag n) st st′ h = start-grown false index tag st st′ h
   step-grown (SequenceEnd index n) st st′ h = end-grown false index (st .opens) st st′ h
   step-grown (MappingStart index tag n) st st′ h = start-grown true index tag st st′ h
@@ -173,10 +173,10 @@ module _ (text events : List ℕ) (room most : ℕ) (small : most < absent) wher
   pub reached-grown : (i : ℕ) (es : List YamlEvent) (st st′ : State) → reached text events room most i es st ≡ go st′ → Grown most st st′
   unfolding reached
   reached-grown i [] st st′ e = subst (λ (s : State). Grown most st s) (go-is st st′ e) (grown-same most st st refl refl)
-  reached-grown i (x ∷ es) st st′ e = by (step text events room most (placed i x) st) refl e (λ s h. reached-grown (i + length (encode x)) es s st′ h)
+  reached-grown i (x ∷ es) st st′ e = by (onEvent text events room most (placed i x) st) refl e (λ s h. reached-grown (i + length (encodeEvent x)) es s st′ h)
     where
-      by : (n : Next) → step text events room most (placed i x) st ≡ n → goOn n (λ (s : State). reached text events room most (i + length (encode x)) es s) ≡ go st′
-          → ((s : State) → reached text events room most (i + length (encode x)) es s ≡ go st′ → Grown most s st′) → Grown most st st′
+      by : (n : Next) → onEvent text events room most (placed i x) st ≡ n → goOn n (λ (s : State). reached text events room most (i + length (encodeEvent x)) es s) ≡ go st′
+          → ((s : State) → reached text events room most (i + length (encodeEvent x)) es s ≡ go st′ → Grown most s st′) → Grown most st st′
       by (stop m) is f rest = absurd (stop-not-go m st′ f)
       by (go s) is f rest = grown-on most st s st′ (step-grown (placed i x) st s is) (rest s f)
 
@@ -195,9 +195,9 @@ module _ (text events : List ℕ) (room most : ℕ) (small : most < absent) wher
   pub run-grown : (i k : ℕ) (es : List YamlEvent) (st : State) (xs : List Node) (ps : List Piece) → runEvents text events room most ending i k es st ≡ built xs ps → Grown most st (final xs ps)
   unfolding runEvents
   run-grown i k [] st xs ps e = ending-grown k st xs ps e
-  run-grown i k (x ∷ es) st xs ps e = by (step text events room most (placed i x) st) refl e (λ s h. run-grown (i + length (encode x)) (k + 1) es s xs ps h)
+  run-grown i k (x ∷ es) st xs ps e = by (onEvent text events room most (placed i x) st) refl e (λ s h. run-grown (i + length (encodeEvent x)) (k + 1) es s xs ps h)
     where
-      by : (n : Next) → step text events room most (placed i x) st ≡ n → follow n (λ (s : State). runEvents text events room most ending (i + length (encode x)) (k + 1) es s) k ≡ built xs ps
-          → ((s : State) → runEvents text events room most ending (i + length (encode x)) (k + 1) es s ≡ built xs ps → Grown most s (final xs ps)) → Grown most st (final xs ps)
+      by : (n : Next) → onEvent text events room most (placed i x) st ≡ n → follow n (λ (s : State). runEvents text events room most ending (i + length (encodeEvent x)) (k + 1) es s) k ≡ built xs ps
+          → ((s : State) → runEvents text events room most ending (i + length (encodeEvent x)) (k + 1) es s ≡ built xs ps → Grown most s (final xs ps)) → Grown most st (final xs ps)
       by (stop m) is f rest = absurd (refused-not-built m k xs ps f)
       by (go s) is f rest = grown-on most st s (final xs ps) (step-grown (placed i x) st s is) (rest s f)

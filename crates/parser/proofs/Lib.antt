@@ -1,11 +1,9 @@
 -- Lemmas that serve several functions, by subject.
--- entries laid out one after the other
-mod Layouts
 -- pieces laid out, a part lent and back
 mod Pieces
 -- the frames of the stack
 mod Frames
--- texts, boundaries, starts
+-- cursors, suffixes, parts of the event bytes
 mod Starts
 -- the rows, and what holds after each event
 mod Turns

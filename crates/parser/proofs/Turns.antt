@@ -1,4 +1,4 @@
--- What the code does to its stack and buffers is what the machine does to its state, on plain values. Assumes nothing.
+-- What the code does to its stack and buffers is what the machine does to its state, on plain values.
 use mathlib.Core.Path.{_≡_, refl, sym, ap, ap₂, _∙_}
 use mathlib.Core.Bool.{Bool, true, false, _&&_}
 use mathlib.Core.List.{List, [], _∷_, _++_}
@@ -6,47 +6,46 @@ use mathlib.Core.Option.{Option, none, some}
 use Prim.Native.Nat.{ℕ, _+_, _-_, _*_, _/_, _≤_, _<_}
 use native.Mathlib.Omega.{arith}
 use borrow.Author.Tests.{lt-ltb, le-ltb, le-leb, lt-leb}
-use borrow.Rule.Slice.PartMut.{putMid}
 use lib.Dec.{eqb, ltb}
 use lib.ListN.{length, take, drop, replicate, length-append}
 use lib.Seq.{sets, length-sets}
-use Rattle.text.specs.Utf8.{Utf8}
-use Rattle.text.specs.Boundary.{Boundary}
-use Rattle.text.specs.Utf8Laws.{boundary-start}
+use Rattle.utf8.specs.Utf8.{Utf8}
+use Rattle.utf8.specs.Boundary.{Boundary}
+use Rattle.utf8.specs.Utf8Laws.{boundary-start}
 use Rattle.text.specs.Offset.{byteOffset, cursorAt}
 use Rattle.text.specs.OffsetLaws.{cursor-stands, offset-boundary}
 use Rattle.text.specs.declared.offset.Cursor.{Cursor}
 use Rattle.provenance.specs.Reading.{Piece}
+use Rattle.provenance.specs.Layout.{room, laidPieces, answerOf, bufferOf}
+use Rattle.provenance.specs.declared.walk.Walked.{Walked}
 use Rattle.provenance.specs.declared.walk.Walked.the-variants.{Listed, NoRoom, NoList}
 use Rattle.event.specs.declared.tag.YamlTag.{YamlTag}
-use Rattle.parser.specs.Record.{withList}
-use Rattle.schema.specs.declared.plain.Resolved.{Resolved}
-use Rattle.parser.specs.Scalar.{ScalarAt, spanLen, listAt, suffixOf, tagInfo, resolvedBy, scalarNode}
-use Rattle.parser.specs.Collection.{withChild, closes, collectionNode}
-use Rattle.parser.specs.Machine.{State, Next, go, stop, depthLimit, rootDone, beforeRoot, withinDepth, withinRoom, completed, started, ended, closed, keeping, scalarKept}
-use Rattle.parser.specs.Layout.{stored}
-use Rattle.parser.specs.Held.{frame, frameNumbers, openOf, Placed, Below, OnBoundaries, Held, Pushable, Moved, Walks}
-use Rattle.parser.specs.declared.record.Node.{Node}
-use Rattle.parser.specs.declared.record.TagInfo.{TagInfo}
-use Rattle.parser.specs.declared.stack.Open.{Open}
+use Rattle.records.specs.Record.{withList}
+use Rattle.spans.specs.Scalar.{suffixOf}
+use Rattle.spans.specs.Collection.{withChild, closes, collectionNode}
+use Rattle.parser.specs.Machine.{State, Next, go, stop, depthLimit, rootDone, beforeRoot, withinDepth, withinRoom, completed, onStart, ended, onEnd, keeping}
+use Rattle.records.specs.Layout.{stored, recordRoom, pieceLimit}
+use Rattle.event.specs.Read.{eventsLimit}
+use Rattle.parser.specs.Held.{frame, frameNumbers, openOf, SuffixPlaced, Below, OnBoundaries, Held, Pushable, Moved, Counted}
+use Rattle.records.specs.declared.record.Node.{Node}
+use Rattle.spans.specs.declared.open.Open.{Open}
 use Rattle.parser.specs.declared.answer.Counts.{Counts}
 use Rattle.parser.specs.declared.answer.Move.the-variants.{Go}
-use Rattle.parser.proofs.Layouts.{nodes-more}
-use Rattle.parser.proofs.Pieces.{filled-fits, lent-length, lent-zero, back-with, back-zero, back-length}
-use Rattle.parser.proofs.Starts.{scalar-spans}
+use Rattle.records.specs.LayoutLaws.{nodes-more}
+use Rattle.parser.proofs.Pieces.{Walks, walks-of, filled-fits, lent-length, lent-zero, back-with, back-zero, back-length}
 use Rattle.parser.proofs.Frames.{open-length, open-pop, open-push, below-more, boundaries-more}
 
 abbrev pub counts : ℕ → ℕ → ℕ → Cursor → Counts
 counts nodes depth used cursor = record { nodes = nodes; depth = depth; used = used; cursor = cursor }
 
 -- one node more
-pub moved-on : (text : List ℕ) (size pieceSize : ℕ) (st : State) (c r : Counts) (x : Node) (s b p : List ℕ) → length (st .nodes) ≡ c .nodes
-    → Held text size pieceSize (completed x st) r s b p → Held text size pieceSize (completed x st) r s b p × (r .nodes ≤ c .nodes + 1)
+pub moved-on : (text : List ℕ) (size piecesSize : ℕ) (st : State) (c r : Counts) (x : Node) (s b p : List ℕ) → length (st .nodes) ≡ c .nodes
+    → Held text size piecesSize (completed x st) r s b p → Held text size piecesSize (completed x st) r s b p × (r .nodes ≤ c .nodes + 1)
 unfolding completed
-moved-on text size pieceSize st c r x s b p e h =
+moved-on text size piecesSize st c r x s b p e h =
     (h, let n : length (st .nodes) + 1 ≡ r .nodes = sym (length-append (st .nodes) (x ∷ [])) ∙ h .nodes-are in omega arith)
 
-module _ (text : List ℕ) (size pieceSize : ℕ) (st : State) (c : Counts) (s b p : List ℕ) (h : Held text size pieceSize st c s b p) where
+module _ (text : List ℕ) (size piecesSize : ℕ) (st : State) (c : Counts) (s b p : List ℕ) (h : Held text size piecesSize st c s b p) where
   depth-is : length (st .opens) ≡ c .depth
   depth-is = ap length (h .opens-are) ∙ open-length (c .depth) s
 
@@ -72,22 +71,22 @@ module _ (text : List ℕ) (size pieceSize : ℕ) (st : State) (c : Counts) (s b
   unfolding withinDepth
   not-deep n l = rw (depth-is, lt-leb depthLimit (c .depth) l)
 
-  pub no-room : (n : Next) → size / 12 ≤ c .nodes → withinRoom (size / 12) st n ≡ stop 7
+  pub no-room : (n : Next) → recordRoom size ≤ c .nodes → withinRoom (recordRoom size) st n ≡ stop 7
   unfolding withinRoom
-  no-room n l = rw (h .nodes-are, le-leb (size / 12) (c .nodes) l)
+  no-room n l = rw (h .nodes-are, le-leb (recordRoom size) (c .nodes) l)
 
-  pub in-room : (n : Next) → c .nodes < size / 12 → withinRoom (size / 12) st n ≡ n
+  pub in-room : (n : Next) → c .nodes < recordRoom size → withinRoom (recordRoom size) st n ≡ n
   unfolding withinRoom
-  in-room n l = rw (h .nodes-are, lt-leb (size / 12) (c .nodes) l)
+  in-room n l = rw (h .nodes-are, lt-leb (recordRoom size) (c .nodes) l)
 
   -- ---- the cursor moves
 
-  pub moved-cursor : (k : ℕ) (cur : Cursor) → cur ≡ cursorAt text k → Held text size pieceSize st (counts (c .nodes) (c .depth) (c .used) cur) s b p
+  pub moved-cursor : (k : ℕ) (cur : Cursor) → cur ≡ cursorAt text k → Held text size piecesSize st (counts (c .nodes) (c .depth) (c .used) cur) s b p
   moved-cursor k cur e =
       record {
         stack-size = h .stack-size;
         size-is = h .size-is;
-        piece-size-is = h .piece-size-is;
+        pieces-size-is = h .pieces-size-is;
         nodes-are = h .nodes-are;
         opens-are = h .opens-are;
         pieces-are = h .pieces-are;
@@ -104,15 +103,15 @@ module _ (text : List ℕ) (size pieceSize : ℕ) (st : State) (c : Counts) (s b
 
   -- ---- a node is complete
 
-  pub pushed : (x : Node) (s′ b′ : List ℕ) → c .nodes < size / 12 → Boundary text (x .extent .start) → length s′ ≡ length s
+  pub pushed : (x : Node) (s′ b′ : List ℕ) → c .nodes < recordRoom size → Boundary text (x .extent .start) → length s′ ≡ length s
       → openOf (c .depth) s′ ≡ withChild (x .extent .start) (openOf (c .depth) s) → length b′ ≡ length b → b′ ≡ stored b (c .nodes) x
-      → Held text size pieceSize (completed x st) (counts (c .nodes + 1) (c .depth) (c .used) (c .cursor)) s′ b′ p
+      → Held text size piecesSize (completed x st) (counts (c .nodes + 1) (c .depth) (c .used) (c .cursor)) s′ b′ p
   unfolding completed
   pushed x s′ b′ l on len es lb eb =
       record {
         stack-size = len ∙ h .stack-size;
         size-is = lb ∙ h .size-is;
-        piece-size-is = h .piece-size-is;
+        pieces-size-is = h .pieces-size-is;
         nodes-are = length-append (st .nodes) (x ∷ []) ∙ ap (λ (n : ℕ). n + 1) (h .nodes-are);
         opens-are = ap (withChild (x .extent .start)) (h .opens-are) ∙ sym es;
         pieces-are = h .pieces-are;
@@ -127,7 +126,7 @@ module _ (text : List ℕ) (size pieceSize : ℕ) (st : State) (c : Counts) (s b
         cursor-stands = h .cursor-stands;
       }
 
-  pub pushable : c .nodes < 4194304 → c .nodes < size / 12 → Pushable c s b
+  pub pushable : c .nodes < eventsLimit → c .nodes < recordRoom size → Pushable c s b
   pushable few l =
       record { stack-size = h .stack-size; deep = h .deep; room = rw (h .size-is) l; few = few; below = h .below }
 
@@ -136,10 +135,10 @@ module _ (text : List ℕ) (size pieceSize : ℕ) (st : State) (c : Counts) (s b
   abbrev pub opening : Bool → ℕ → YamlTag → Open
   opening mapping i tag = record { mapping = mapping; start = i; suffix = suffixOf tag; children = 0; first = 0; before = c .nodes }
 
-  pub opened : (mapping : Bool) (index : ℕ) (tag : YamlTag) (cur : Cursor) → Utf8 text → cur ≡ cursorAt text index → cur .offset ≡ byteOffset text index → Placed (suffixOf tag)
+  pub opened : (mapping : Bool) (index : ℕ) (tag : YamlTag) (cur : Cursor) → Utf8 text → cur ≡ cursorAt text index → cur .offset ≡ byteOffset text index → SuffixPlaced (suffixOf tag)
       → (eqb (c .depth) 0 && ltb 0 (c .nodes)) ≡ false → c .depth < depthLimit
-      → Moved text size pieceSize (c .nodes) (started text mapping index tag st) (Go (counts (c .nodes) (c .depth + 1) (c .used) cur)) (sets s (7 * c .depth) (frameNumbers (opening mapping (cur .offset) tag))) b p
-  unfolding started
+      → Moved text size piecesSize (c .nodes) (onStart text mapping index tag st) (Go (counts (c .nodes) (c .depth + 1) (c .used) cur)) (sets s (7 * c .depth) (frameNumbers (opening mapping (cur .offset) tag))) b p
+  unfolding onStart
   opened mapping index tag cur u e o x r l =
       let t : List ℕ = sets s (7 * c .depth) (frameNumbers (opening mapping (cur .offset) tag)) in
       let long = h .stack-size in
@@ -148,7 +147,7 @@ module _ (text : List ℕ) (size pieceSize : ℕ) (st : State) (c : Counts) (s b
         record {
           stack-size = length-sets s (7 * c .depth) (frameNumbers (opening mapping (cur .offset) tag)) ∙ h .stack-size;
           size-is = h .size-is;
-          piece-size-is = h .piece-size-is;
+          pieces-size-is = h .pieces-size-is;
           nodes-are = h .nodes-are;
           opens-are = rw (← o, h .nodes-are, h .opens-are) (sym on);
           pieces-are = h .pieces-are;
@@ -167,7 +166,7 @@ module _ (text : List ℕ) (size pieceSize : ℕ) (st : State) (c : Counts) (s b
 
   -- ---- a collection ends
 
-  pub none-open : (room index : ℕ) (mapping : Bool) → c .depth ≡ 0 → closed text room mapping index (st .opens) st ≡ stop 4
+  pub none-open : (room index : ℕ) (mapping : Bool) → c .depth ≡ 0 → onEnd text room mapping index (st .opens) st ≡ stop 4
   none-open room index mapping d = rw (h .opens-are, d)
 
   module _ (d : 0 < c .depth) where
@@ -180,11 +179,11 @@ module _ (text : List ℕ) (size pieceSize : ℕ) (st : State) (c : Counts) (s b
     opens-pop : st .opens ≡ inner ∷ openOf (c .depth - 1) s
     opens-pop = h .opens-are ∙ open-pop (c .depth) s d
 
-    pub mismatched : (room index : ℕ) (mapping : Bool) → closes mapping inner ≡ false → closed text room mapping index (st .opens) st ≡ stop 4
+    pub mismatched : (room index : ℕ) (mapping : Bool) → closes mapping inner ≡ false → onEnd text room mapping index (st .opens) st ≡ stop 4
     mismatched room index mapping e = rw (opens-pop, e)
 
     pub matched : (room index : ℕ) (mapping : Bool) → closes mapping inner ≡ true
-        → closed text room mapping index (st .opens) st ≡ withinRoom room st (go (completed (collectionNode text inner (byteOffset text index) (c .nodes)) outside))
+        → onEnd text room mapping index (st .opens) st ≡ withinRoom room st (go (completed (collectionNode text inner (byteOffset text index) (c .nodes)) outside))
     unfolding ended
     matched room index mapping e = rw (opens-pop, e, h .nodes-are)
 
@@ -195,12 +194,12 @@ module _ (text : List ℕ) (size pieceSize : ℕ) (st : State) (c : Counts) (s b
     inner-on = rw (open-pop (c .depth) s d) at (h .on-boundaries)
 
     -- the innermost collection is taken off, and the cursor moves
-    pub popped : (k : ℕ) (cur : Cursor) → cur ≡ cursorAt text k → Held text size pieceSize outside (counts (c .nodes) (c .depth - 1) (c .used) cur) s b p
+    pub popped : (k : ℕ) (cur : Cursor) → cur ≡ cursorAt text k → Held text size piecesSize outside (counts (c .nodes) (c .depth - 1) (c .used) cur) s b p
     popped k cur e =
         record {
           stack-size = h .stack-size;
           size-is = h .size-is;
-          piece-size-is = h .piece-size-is;
+          pieces-size-is = h .pieces-size-is;
           nodes-are = h .nodes-are;
           opens-are = refl;
           pieces-are = h .pieces-are;
@@ -224,75 +223,70 @@ module _ (text : List ℕ) (size pieceSize : ℕ) (st : State) (c : Counts) (s b
   free = take (length p - 4 * c .used) (drop (4 * c .used) p)
 
   pub free-zero : free ≡ replicate (length free) 0
-  free-zero = lent-zero pieceSize (4 * c .used) (st .pieces) p (h .pieces-hold) used-is (h .piece-size-is) (h .pieces-fit)
+  free-zero = lent-zero piecesSize (4 * c .used) (st .pieces) p (h .pieces-hold) used-is (h .pieces-size-is) (h .pieces-fit)
 
-  free-length : length free ≡ pieceSize - 4 * c .used
-  free-length = lent-length pieceSize (4 * c .used) (st .pieces) p (h .pieces-hold) used-is (h .piece-size-is) (h .pieces-fit)
+  pub free-length : length free ≡ piecesSize - 4 * c .used
+  free-length = lent-length piecesSize (4 * c .used) (st .pieces) p (h .pieces-hold) used-is (h .pieces-size-is) (h .pieces-fit)
 
-  pub walk-no-room : (x : Node) (o : Option (List Piece)) (y : List ℕ) → Walks (length free) o NoRoom y → keeping (pieceSize / 4) x o st ≡ stop 8
-  unfolding keeping
-  walk-no-room x none y w = absurd w
-  walk-no-room x (some ps) y w =
-      let l = w .0 in
-      let q = free-length in
-      let f = h .pieces-fit in
-      rw (h .pieces-are, lt-ltb (pieceSize / 4) (c .used + length ps) (omega arith))
+  -- what the walk left there
+  module _ (y : List ℕ) (len : length y ≡ piecesSize - 4 * c .used) where
+    pub walk-no-room : (x : Node) (o : Option (List Piece)) → Walks (length y) o NoRoom y → keeping (piecesSize / 4) x o st ≡ stop 8
+    unfolding keeping
+    walk-no-room x none w = absurd w
+    walk-no-room x (some ps) w =
+        let l = w .0 in
+        let f = h .pieces-fit in
+        rw (h .pieces-are, lt-ltb (piecesSize / 4) (c .used + length ps) (omega arith))
 
-  -- the buffer is as it was, and the node has no list
-  pub walk-no-list : (x : Node) (o : Option (List Piece)) (y : List ℕ) → Walks (length free) o NoList y
-      → (keeping (pieceSize / 4) x o st ≡ go (completed x st)) × (putMid (4 * c .used) (length p - 4 * c .used) p y ≡ p)
-  unfolding keeping
-  walk-no-list x none y w = (refl, back-zero pieceSize (4 * c .used) (st .pieces) p (h .pieces-hold) used-is (h .piece-size-is) (h .pieces-fit) y w)
-  walk-no-list x (some ps) y w = absurd w
+    -- the buffer is as it was, and the node has no list
+    pub walk-no-list : (x : Node) (o : Option (List Piece)) → Walks (length y) o NoList y
+        → (keeping (piecesSize / 4) x o st ≡ go (completed x st)) × (take (4 * c .used) p ++ y ≡ p)
+    unfolding keeping
+    walk-no-list x none w =
+        (refl, back-zero piecesSize (4 * c .used) (st .pieces) p (h .pieces-hold) used-is (h .pieces-size-is) (h .pieces-fit) y (w ∙ ap (λ (n : ℕ). replicate n 0) len))
+    walk-no-list x (some ps) w = absurd w
 
-  -- n pieces more
-  pub record Listing (x : Node) (o : Option (List Piece)) (n : ℕ) (p′ : List ℕ) : Type 0 where
-    pub with-pieces : State
-    pub held : Held text size pieceSize with-pieces (counts (c .nodes) (c .depth) (c .used + n) (c .cursor)) s b p′
-    pub kept : keeping (pieceSize / 4) x o st ≡ go (completed (withList x (c .used) n) with-pieces)
-    pub fits : c .used + n ≤ 4294967294
+    -- n pieces more
+    pub record Listing (x : Node) (o : Option (List Piece)) (n : ℕ) : Type 0 where
+      pub with-pieces : State
+      pub held : Held text size piecesSize with-pieces (counts (c .nodes) (c .depth) (c .used + n) (c .cursor)) s b (take (4 * c .used) p ++ y)
+      pub kept : keeping (piecesSize / 4) x o st ≡ go (completed (withList x (c .used) n) with-pieces)
+      pub fits : c .used + n ≤ pieceLimit
 
-  pub walk-listed : (x : Node) (o : Option (List Piece)) (n : ℕ) (y : List ℕ) → length y ≡ length free → Walks (length free) o (Listed n) y
-      → Listing x o n (putMid (4 * c .used) (length p - 4 * c .used) p y)
-  unfolding keeping
-  walk-listed x none n y l w = absurd w
-  walk-listed x (some ps) n y l w =
-      let a : n ≡ length ps = w .0 in
-      let q = free-length in
-      let z = h .pieces-fit in
-      let few = h .pieces-few in
-      let room : 4 * length ps ≤ length free = filled-fits (length free) ps y (w .1) l in
-      let in-room : c .used + length ps ≤ pieceSize / 4 = omega arith in
-      record {
-        with-pieces = record { nodes = st .nodes; opens = st .opens; pieces = st .pieces ++ ps };
-        held = record {
-          stack-size = h .stack-size;
-          size-is = h .size-is;
-          piece-size-is = back-length pieceSize (4 * c .used) (st .pieces) p (h .pieces-hold) used-is (h .piece-size-is) z y l ∙ h .piece-size-is;
-          nodes-are = h .nodes-are;
-          opens-are = h .opens-are;
-          pieces-are = length-append (st .pieces) ps ∙ ap₂ _+_ (h .pieces-are) (sym a);
-          records-hold = h .records-hold;
-          pieces-hold = back-with pieceSize (4 * c .used) (st .pieces) p (h .pieces-hold) used-is (h .piece-size-is) z ps y (w .1);
-          records-fit = h .records-fit;
-          pieces-fit = omega arith;
-          pieces-few = few;
-          deep = h .deep;
-          below = h .below;
-          on-boundaries = h .on-boundaries;
-          cursor-stands = h .cursor-stands;
-        };
-        kept = rw (h .pieces-are, ← a, le-ltb (pieceSize / 4) (c .used + n) (omega arith)) refl;
-        fits = omega arith;
-      }
+    pub walk-listed : (x : Node) (o : Option (List Piece)) (n : ℕ) → Walks (length y) o (Listed n) y → Listing x o n
+    unfolding keeping
+    walk-listed x none n w = absurd w
+    walk-listed x (some ps) n w =
+        let a : n ≡ length ps = w .0 in
+        let z = h .pieces-fit in
+        let few = h .pieces-few in
+        let within : 4 * length ps ≤ length y = filled-fits (length y) ps y (w .1) refl in
+        let in-room : c .used + length ps ≤ piecesSize / 4 = omega arith in
+        record {
+          with-pieces = record { nodes = st .nodes; opens = st .opens; pieces = st .pieces ++ ps };
+          held = record {
+            stack-size = h .stack-size;
+            size-is = h .size-is;
+            pieces-size-is = back-length piecesSize (4 * c .used) (st .pieces) p (h .pieces-hold) used-is (h .pieces-size-is) z y len;
+            nodes-are = h .nodes-are;
+            opens-are = h .opens-are;
+            pieces-are = length-append (st .pieces) ps ∙ ap₂ _+_ (h .pieces-are) (sym a);
+            records-hold = h .records-hold;
+            pieces-hold = back-with piecesSize (4 * c .used) (st .pieces) p (h .pieces-hold) used-is (h .pieces-size-is) z ps y (w .1 ∙ ap (λ (m : ℕ). laidPieces m ps) len);
+            records-fit = h .records-fit;
+            pieces-fit = omega arith;
+            pieces-few = few;
+            deep = h .deep;
+            below = h .below;
+            on-boundaries = h .on-boundaries;
+            cursor-stands = h .cursor-stands;
+          };
+          kept = rw (h .pieces-are, ← a, le-ltb (piecesSize / 4) (c .used + n) (omega arith)) refl;
+          fits = omega arith;
+        }
 
--- ---- a scalar's parts, put together
-
-pub scalar-kept : (text events : List ℕ) (pieceRoom : ℕ) (x : ScalarAt) (tag : YamlTag) (st : State) (t : TagInfo) (r : Resolved) (y : Node)
-    → t ≡ tagInfo text (x .start) (suffixOf tag) → r ≡ resolvedBy events (x .value) (x .style) tag → y ≡ scalarNode text x t r
-    → scalarKept text events pieceRoom x tag st ≡ keeping pieceRoom y (listAt text (y .extent .start) (y .extent .end - y .extent .start) (x .value) (x .style) (x .column)) st
-unfolding scalarKept scalarNode
-scalar-kept text events pieceRoom x tag st t r y et er ey =
-    let sp = scalar-spans text x t r in
-    let n : x .start + spanLen text x - x .start ≡ spanLen text x = omega arith in
-    rw (ey, sp .from, sp .to, n, ← et, ← er) refl
+    -- so what is listed can be counted
+    pub walk-counted : (x : Node) (o : Option (List Piece)) (w : Walked) → w ≡ answerOf (room (length y)) o → y ≡ bufferOf (length y) o → Counted (c .used) w
+    walk-counted x o NoRoom e f = tt
+    walk-counted x o NoList e f = tt
+    walk-counted x o (Listed n) e f = walk-listed x o n (walks-of (length y) o (Listed n) y e f) .fits

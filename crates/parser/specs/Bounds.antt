@@ -1,5 +1,5 @@
 -- What a call comes to is in bounds: the nodes and the place by the number of event bytes, since each node has an event and each event that
--- leads on takes at least a byte; the pieces by their room; the number by the table's last. Assumes nothing but that events are bytes.
+-- leads on takes at least a byte; the pieces by their room; the number by the table's last. Of the events it is asked that they are bytes.
 use mathlib.Core.Path.{_≡_, refl, sym, ap, _∙_}
 use Prim.Native.Nat.{ℕ, zero, suc, _+_, _≤_, _<_}
 use mathlib.Core.Bool.{Bool, true, false, cond}
@@ -10,9 +10,9 @@ use borrow.Author.Tests.{ltb-false}
 use lib.Dec.{ltb, leb}
 use lib.ListN.{length, length-append}
 use Rattle.provenance.specs.Reading.{Piece}
-use Rattle.event.specs.Number.{Bytes}
+use Rattle.utf8.specs.Ascii.{Bytes}
 use Rattle.event.specs.Read.{readEvent, eventsLimit}
-use Rattle.event.specs.ReadLaws.{answer-within}
+use Rattle.event.proofs.ReadLaws.{answer-within}
 use Rattle.event.specs.declared.tag.YamlTag.{YamlTag}
 use Rattle.event.specs.declared.tag.YamlTag.the-variants.{Absent}
 use Rattle.event.specs.declared.read.Event.{Event}
@@ -21,17 +21,19 @@ use Rattle.text.specs.Admission.{admission, admissionOfBoth}
 use Rattle.text.specs.declared.admission.Admission.{Admission}
 use Rattle.text.specs.declared.admission.Admission.the-variants.{Admitted, TooLong, NotUtf8}
 use Rattle.measure.specs.Scalar.{folded}
-use Rattle.parser.specs.Record.{withList}
-use Rattle.parser.specs.Scalar.{ScalarAt}
-use Rattle.parser.specs.Collection.{closes}
+use Rattle.records.specs.Record.{withList}
+use Rattle.spans.specs.Scalar.{ScalarAt}
+use Rattle.spans.specs.Collection.{closes}
 use Rattle.parser.specs.Machine.{State, empty, Next, go, stop, Outcome, built, refused, depthLimit, rootDone, beforeRoot, withinDepth, withinRoom}
-use Rattle.parser.specs.Machine.{completed, started, ended, closed, aliased, keeping, scalarAt, scalarKept, scalared}
-use Rattle.parser.specs.Machine.{step, nextPlace, ending, follow, run, runAll}
+use Rattle.parser.specs.Machine.{completed, onStart, ended, onEnd, onAlias, keeping, scalarKept, onScalar}
+use Rattle.spans.specs.Scalar.{scalarAt}
+use Rattle.parser.specs.Machine.{onEvent, nextPlace, ending, follow, run, runAll}
 use Rattle.parser.specs.RunLaws.{onward, stop-not-go}
-use Rattle.parser.specs.Layout.{recordRoom, pieceRoom, pieceLimit}
-use Rattle.parser.specs.Call.{admitted, building, oneScalar, readingScalar}
-use Rattle.parser.specs.declared.record.Node.{Node}
-use Rattle.parser.specs.declared.stack.Open.{Open}
+use Rattle.records.specs.Layout.{recordRoom, pieceRoom, pieceLimit}
+use Rattle.parser.specs.Call.{admitted, building, oneScalar, scalarCall}
+use Rattle.records.specs.declared.record.Node.{Node}
+use Rattle.spans.specs.declared.open.Open.{Open}
+use Rattle.spans.specs.declared.scalar.ScalarMark.{ScalarMark}
 
 -- the last number of the table
 abbrev pub lastNumber : ℕ
@@ -77,18 +79,18 @@ abbrev withPieces : List Piece → State → State
 withPieces ps st = record { nodes = st .nodes; opens = st .opens; pieces = st .pieces ++ ps }
 
 module _ (text events : List ℕ) (room r k : ℕ) where
-  start-stepped : (mapping : Bool) (index : ℕ) (tag : YamlTag) (st : State) → Holding k r st → Stepped (k + 1) r (started text mapping index tag st)
-  unfolding started
+  start-stepped : (mapping : Bool) (index : ℕ) (tag : YamlTag) (st : State) → Holding k r st → Stepped (k + 1) r (onStart text mapping index tag st)
+  unfolding onStart
   start-stepped mapping index tag st h = before-root (k + 1) r st _ (within-depth (k + 1) r st _ (omega arith, h .1))
 
-  end-stepped : (mapping : Bool) (index : ℕ) (os : List Open) (st : State) → Holding k r st → Stepped (k + 1) r (closed text room mapping index os st)
+  end-stepped : (mapping : Bool) (index : ℕ) (os : List Open) (st : State) → Holding k r st → Stepped (k + 1) r (onEnd text room mapping index os st)
   unfolding ended
   end-stepped mapping index [] st h = omega arith
   end-stepped mapping index (o ∷ os) st h =
       pick-stepped (k + 1) r (closes mapping o) (ended text room index o os st) (stop 4) (within-room (k + 1) r room st _ (completes k r _ _ h)) (omega arith)
 
-  alias-stepped : (index : ℕ) (st : State) → Holding k r st → Stepped (k + 1) r (aliased text room index st)
-  unfolding aliased
+  alias-stepped : (index : ℕ) (st : State) → Holding k r st → Stepped (k + 1) r (onAlias text room index st)
+  unfolding onAlias
   alias-stepped index st h = before-root (k + 1) r st _ (within-room (k + 1) r room st _ (completes k r _ st h))
 
   kept-in-room : (x : Node) (ps : List Piece) (st : State) (t : Bool) → ltb r (length (st .pieces) + length ps) ≡ t → Holding k r st
@@ -107,8 +109,8 @@ module _ (text events : List ℕ) (room r k : ℕ) where
   unfolding scalarKept
   scalar-stepped x tag st h = keep-stepped _ _ st h
 
-  pub stepped : (e : Event) (st : State) → Holding k r st → Stepped (k + 1) r (step text events room r e st)
-  unfolding scalared
+  pub stepped : (e : Event) (st : State) → Holding k r st → Stepped (k + 1) r (onEvent text events room r e st)
+  unfolding onScalar
   stepped (SequenceStart index tag n) st h = start-stepped false index tag st h
   stepped (SequenceEnd index n) st h = end-stepped false index (st .opens) st h
   stepped (MappingStart index tag n) st h = start-stepped true index tag st h
@@ -129,21 +131,21 @@ ended-bounded n r k st h l = by (rootDone st)
 
 module _ (text events : List ℕ) (bytes : Bytes events) (room r : ℕ) where
   -- an event that leads on ends further on, within the bytes
-  led-on : (i : ℕ) (st n : State) → step text events room r (readEvent events i) st ≡ go n
+  led-on : (i : ℕ) (st n : State) → onEvent text events room r (readEvent events i) st ≡ go n
       → (i < nextPlace (readEvent events i)) × (nextPlace (readEvent events i) ≤ length events)
   led-on i st n e =
       onward events i (readEvent events i) (answer-within events i bytes)
-      (λ bad. stop-not-go 3 n (sym (ap (λ (x : Event). step text events room r x st) bad) ∙ e))
+      (λ bad. stop-not-go 3 n (sym (ap (λ (x : Event). onEvent text events room r x st) bad) ∙ e))
 
   -- event number k stands at i, and at most k nodes are complete before it
   pub run-bounded : (f i k : ℕ) (st : State) → Holding k r st → k ≤ i → i ≤ length events → Bounded (length events) r (run text events room r f i k st)
   unfolding run
   run-bounded zero i k st h l m = ended-bounded (length events) r k st h (omega arith)
   run-bounded (suc f) i k st h l m =
-      by (ltb i (length events)) (step text events room r (readEvent events i) st) refl (stepped text events room r k (readEvent events i) st h)
+      by (ltb i (length events)) (onEvent text events room r (readEvent events i) st) refl (stepped text events room r k (readEvent events i) st h)
       (λ j u g a b. run-bounded f j (k + 1) u g a b)
     where
-      by : (t : Bool) (n : Next) → step text events room r (readEvent events i) st ≡ n → Stepped (k + 1) r n
+      by : (t : Bool) (n : Next) → onEvent text events room r (readEvent events i) st ≡ n → Stepped (k + 1) r n
           → ((j : ℕ) (u : State) → Holding (k + 1) r u → k + 1 ≤ j → j ≤ length events → Bounded (length events) r (run text events room r f j (k + 1) u))
           → Bounded (length events) r (cond t (follow n (λ (u : State). run text events room r f (nextPlace (readEvent events i)) (k + 1) u) k) (ending k st))
       by false n e g rest = ended-bounded (length events) r k st h (omega arith)
@@ -165,19 +167,19 @@ room-limited : (size : ℕ) → pieceRoom size ≤ pieceLimit
 room-limited size = omega arith
 
 -- `build`: as many nodes as there are event bytes at most, and as many pieces as may be kept
-pub building-bounded : (text events : List ℕ) (size pieceSize : ℕ) → Bytes events → Bounded eventsLimit pieceLimit (building text events size pieceSize)
+pub building-bounded : (text events : List ℕ) (size piecesSize : ℕ) → Bytes events → Bounded eventsLimit pieceLimit (building text events size piecesSize)
 unfolding building runAll
-building-bounded text events size pieceSize bytes = by (ltb eventsLimit (length events)) refl
+building-bounded text events size piecesSize bytes = by (ltb eventsLimit (length events)) refl
   where
     all : Outcome
-    all = run text events (recordRoom size) (pieceRoom pieceSize) (length events) 0 0 empty
+    all = run text events (recordRoom size) (pieceRoom piecesSize) (length events) 0 0 empty
 
     by : (t : Bool) → ltb eventsLimit (length events) ≡ t → Bounded eventsLimit pieceLimit (cond t (refused 1 0) (admitted (admission text) all))
     by true e = (omega arith, omega arith)
     by false e =
         admitted-bounded eventsLimit pieceLimit (admission text) all
-        (bounded-wider (length events) eventsLimit (pieceRoom pieceSize) pieceLimit all (ltb-false eventsLimit (length events) e) (room-limited pieceSize)
-        (run-bounded text events bytes (recordRoom size) (pieceRoom pieceSize) (length events) 0 0 empty (omega arith, omega arith) (omega arith) (omega arith)))
+        (bounded-wider (length events) eventsLimit (pieceRoom piecesSize) pieceLimit all (ltb-false eventsLimit (length events) e) (room-limited piecesSize)
+        (run-bounded text events bytes (recordRoom size) (pieceRoom piecesSize) (length events) 0 0 empty (omega arith, omega arith) (omega arith) (omega arith)))
 
 one-bounded : (r : ℕ) (t : Bool) (n : Next) → Stepped 1 r n → Bounded 1 r (cond t (refused 3 0) (follow n (λ (st : State). built (st .nodes) (st .pieces)) 0))
 one-bounded r true n g = (omega arith, omega arith)
@@ -185,13 +187,12 @@ one-bounded r false (go st) g = g
 one-bounded r false (stop number) g = (g, omega arith)
 
 -- the call on one scalar: one node
-pub scalar-bounded : (text : List ℕ) (index column style : ℕ) (emptySpan : Bool) (value : List ℕ) (pieceSize : ℕ)
-    → Bounded 1 pieceLimit (readingScalar text index column style emptySpan value pieceSize)
-unfolding readingScalar oneScalar
-scalar-bounded text index column style emptySpan value pieceSize =
-    let x = scalarAt text false index column style emptySpan value 0 in
-    let o = oneScalar text index column style emptySpan value pieceSize in
-    let r = pieceRoom pieceSize in
+pub scalar-bounded : (text : List ℕ) (m : ScalarMark) (value : List ℕ) (piecesSize : ℕ) → Bounded 1 pieceLimit (scalarCall text m value piecesSize)
+unfolding scalarCall oneScalar
+scalar-bounded text m value piecesSize =
+    let x = scalarAt text false m value 0 in
+    let o = oneScalar text m value piecesSize in
+    let r = pieceRoom piecesSize in
     admitted-bounded 1 pieceLimit (admissionOfBoth text value) o
-    (bounded-wider 1 1 r pieceLimit o (omega arith) (room-limited pieceSize)
-    (one-bounded r (ltb folded style) (scalarKept text [] r x Absent empty) (scalar-stepped text [] 0 r 0 x Absent empty (omega arith, omega arith))))
+    (bounded-wider 1 1 r pieceLimit o (omega arith) (room-limited piecesSize)
+    (one-bounded r (ltb folded (m .style)) (scalarKept text [] r x Absent empty) (scalar-stepped text [] 0 r 0 x Absent empty (omega arith, omega arith))))

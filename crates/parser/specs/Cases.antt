@@ -6,15 +6,16 @@ use mathlib.Core.Path.{_≡_, refl}
 use mathlib.Core.Bool.{false}
 use mathlib.Core.List.{List, [], _∷_, _++_}
 use Rattle.text.specs.Admission.{admission, admissionOfBoth}
-use Rattle.text.specs.Boundary.{isBoundary}
-use Rattle.text.specs.Offset.{isAscii, byteOffset}
-use Rattle.text.specs.Utf8.{codes, charsAfter, firstChar, charOf, multiByte, twoBytes, encode, encodeAll, isUtf8, allSome}
-use Rattle.text.specs.WhiteSpace.{whiteSpace, isIn, isWhiteSpace}
-use Rattle.schema.specs.Ascii.{bytes, sameBytes as sameName}
+use Rattle.utf8.specs.Boundary.{isBoundary}
+use Rattle.text.specs.Offset.{byteOffset}
+use Rattle.utf8.specs.Utf8.{encode, encodeAll, isAscii}
+use Rattle.utf8.specs.Characters.{codes, charsAfter, firstChar, charOf, multiByte, twoBytes, isUtf8, allSome}
+use Rattle.utf8.specs.WhiteSpace.{whiteSpace, isIn, isWhiteSpace}
+use Rattle.utf8.specs.Ascii.{bytes, sameBytes}
 use Rattle.schema.specs.CoreSchema.{coreSchema, table, firstMatch}
 use Rattle.schema.specs.Integer.{digitValue, positional, signedValue, inRange, held}
 use Rattle.schema.specs.Matcher.{nullable, derivative, accepts}
-use Rattle.schema.specs.Record.{both}
+use Rattle.schema.specs.Record.{twoNumbers}
 use Rattle.schema.specs.Tag.{standardTagSuffix, untagged, resolveScalar}
 use Rattle.schema.specs.declared.record.Payload.{Payload}
 use Rattle.measure.specs.Run.{whiteSpaceRun, afterRun, holdsNewline}
@@ -24,30 +25,30 @@ use Rattle.measure.specs.Block.{lines, isBlank, trimmedLen, endsBlock, laterRea
 use Rattle.measure.specs.Scalar.{plain, singleQuoted, doubleQuoted, literal, styleLen, scalarLen}
 use Rattle.provenance.specs.Run.{whiteRun, newlinesIn, throughLast, cut, blankRun, onlyNewlines}
 use Rattle.provenance.specs.Escape.{digitsFrom, digits, radix16, codeContent, singleQuoteEscapes, isOneOf, oneByteEscapes, backslashEscape, doubleQuoteEscapes, escapesOf}
-use Rattle.provenance.specs.Grammar.{sameBytes, breakPair, opensBreak, breakStep, equalStep, endStep, step}
+use Rattle.provenance.specs.Grammar.{breakPair, opensBreak, breakStep, equalStep, endStep, step}
 use Rattle.provenance.specs.Reading.{readBy, readingOf, piece, verbatim, replacement, stepPieces, joined, piecesOf}
 use Rattle.provenance.specs.Layout.{piecesIf}
 use Rattle.provenance.specs.Start.{atEmptyBlockHeader, beforeNewline, headerEnd, walkStart, listFrom, scalarList}
-use Rattle.tag.specs.Tokens.{bytes as bytesOf, before, withWord, tokens, tokensBefore}
-use Rattle.tag.specs.Tag.{openings, property, spanOf, decide, firstTag, tagAt, guess, tagSpan}
+use Rattle.tag.specs.Tokens.{byteLength, charsBefore, withWord, tokens, tokensBefore}
+use Rattle.tag.specs.Tag.{openings, property, spanOf, decide, firstTag, tagBefore, guess, tagSpan}
 use Rattle.event.specs.Number.{highFirst, numberAt}
 use Rattle.event.specs.Encode as event
-use Rattle.event.specs.Encode.{encodeString, encodeTag, encodeRest, encodeBody, encode as encodeEvent}
+use Rattle.event.specs.Encode.{encodeString, encodeTag, encodeRest, encodeBody, encodeEvent}
 use Rattle.event.specs.Read.{readString, readTag, readStartTag, readScalar, readBody, readEvent}
-use Rattle.parser.specs.Record.{extent, noTag, noList, pieceList}
-use Rattle.parser.specs.Scalar.{stepPast, scalarStart, spanLen, listAt, tagInfo, resolvedBy, scalarNode}
-use Rattle.parser.specs.Collection.{closes, collectionEnd, collectionStart, members, collectionOver, collectionNode}
-use Rattle.parser.specs.Machine.{Outcome, built, rootDone, beforeRoot, withinDepth, withinRoom, completed, started, ended, keeping, scalarKept, scalared, ending, run, runAll}
-use Rattle.parser.specs.Call.{building, oneScalar, readingScalar}
-use Rattle.parser.specs.declared.record.Node.{Node}
-use Rattle.parser.specs.declared.record.PieceList.{PieceList}
-use Rattle.parser.specs.declared.record.TagInfo.{TagInfo}
+use Rattle.records.specs.Record.{extent, noTag, noList, pieceList}
+use Rattle.spans.specs.Scalar.{stepPast, scalarStart, spanLen, listAt, tagInfo, resolvedBy, scalarNode, eventNode, mark}
+use Rattle.spans.specs.Collection.{closes, collectionEnd, collectionStart, members, collectionOver, collectionNode}
+use Rattle.parser.specs.Machine.{Outcome, built, rootDone, beforeRoot, withinDepth, withinRoom, completed, onStart, ended, keeping, scalarKept, onScalar, ending, run, runAll}
+use Rattle.parser.specs.Call.{building, oneScalar, scalarCall}
+use Rattle.records.specs.declared.record.Node.{Node}
+use Rattle.records.specs.declared.record.PieceList.{PieceList}
+use Rattle.records.specs.declared.record.TagInfo.{TagInfo}
 
 -- ---- calls
 
 -- the scalar with its marker at this index, in this column and style, over a buffer of three pieces
 abbrev one : List ℕ → ℕ → ℕ → ℕ → List ℕ → Outcome
-one text index column style value = readingScalar text index column style false value 12
+one text index column style value = scalarCall text (mark index column style false) value 12
 
 -- a word that is both text and plain value
 abbrev word : String → Outcome
@@ -69,7 +70,7 @@ whole kind n payload = built (scalar kind 0 n 1 payload ∷ []) (piece verbatim 
 
 -- an array with so many records in its subtree and so many children
 abbrev array : ℕ → ℕ → ℕ → ℕ → Node
-array a e n children = record { kind = 7; extent = extent a e; tag = noTag; subtree = n; list = noList; payload = both children 0 }
+array a e n children = record { kind = 7; extent = extent a e; tag = noTag; subtree = n; list = noList; payload = twoNumbers children 0 }
 
 -- ---- the text of K1, and the events of K12
 
@@ -89,52 +90,52 @@ closing i = encodeEvent (event.sequenceEnd i)
 
 pub record WorkedCases : Type 0 where
   -- index 3 gives byte 4; index 9 gives 5
-  pub k1 : one accented 3 3 plain (bytes "a") ≡ built (scalar 5 4 5 1 (both 0 1) ∷ []) (piece verbatim 4 5 1 ∷ [])
-  pub k1-past : one accented 9 9 plain [] ≡ built (scalar 1 5 5 0 (both 0 0) ∷ []) []
+  pub k1 : one accented 3 3 plain (bytes "a") ≡ built (scalar 5 4 5 1 (twoNumbers 0 1) ∷ []) (piece verbatim 4 5 1 ∷ [])
+  pub k1-past : one accented 9 9 plain [] ≡ built (scalar 1 5 5 0 (twoNumbers 0 0) ∷ []) []
   -- integers (3) with their high and low 32 bits, reals (4) and strings (5) with their place and length
-  pub k2 : word "9223372036854775807" ≡ whole 3 19 (both 0x7fff_ffff 0xffff_ffff)
-  pub k3 : word "9223372036854775808" ≡ whole 4 19 (both 0 19)
-  pub k4 : word "-9223372036854775808" ≡ whole 3 20 (both 0x8000_0000 0)
-  pub k5 : word "0xFFFFFFFFFFFFFFFF" ≡ whole 5 18 (both 0 18)
-  pub k6-nan : word "+.nan" ≡ whole 5 5 (both 0 5)
-  pub k6-inf : word "+.inf" ≡ whole 4 5 (both 0 5)
-  pub octal-17 : word "0o17" ≡ whole 3 4 (both 0 15)
-  pub minus-zero : word "-0" ≡ whole 3 2 (both 0 0)
-  pub leading-zeros : word "007" ≡ whole 3 3 (both 0 7)
+  pub k2 : word "9223372036854775807" ≡ whole 3 19 (twoNumbers 0x7fff_ffff 0xffff_ffff)
+  pub k3 : word "9223372036854775808" ≡ whole 4 19 (twoNumbers 0 19)
+  pub k4 : word "-9223372036854775808" ≡ whole 3 20 (twoNumbers 0x8000_0000 0)
+  pub k5 : word "0xFFFFFFFFFFFFFFFF" ≡ whole 5 18 (twoNumbers 0 18)
+  pub k6-nan : word "+.nan" ≡ whole 5 5 (twoNumbers 0 5)
+  pub k6-inf : word "+.inf" ≡ whole 4 5 (twoNumbers 0 5)
+  pub octal-17 : word "0o17" ≡ whole 3 4 (twoNumbers 0 15)
+  pub minus-zero : word "-0" ≡ whole 3 2 (twoNumbers 0 0)
+  pub leading-zeros : word "007" ≡ whole 3 3 (twoNumbers 0 7)
   -- a fold
   pub k7 : one (bytes "a \n  b") 0 0 plain (bytes "a b")
-      ≡ built (scalar 5 0 6 3 (both 0 3) ∷ []) (piece verbatim 0 1 1 ∷ piece replacement 1 5 1 ∷ piece verbatim 5 6 1 ∷ [])
+      ≡ built (scalar 5 0 6 3 (twoNumbers 0 3) ∷ []) (piece verbatim 0 1 1 ∷ piece replacement 1 5 1 ∷ piece verbatim 5 6 1 ∷ [])
   -- the pieces reach 5
   pub k8 : one (bytes "a\n\n\nb") 0 0 plain (bytes "a\n\nb")
-      ≡ built (scalar 5 0 4 3 (both 0 4) ∷ []) (piece verbatim 0 1 1 ∷ piece replacement 1 4 2 ∷ piece verbatim 4 5 1 ∷ [])
+      ≡ built (scalar 5 0 4 3 (twoNumbers 0 4) ∷ []) (piece verbatim 0 1 1 ∷ piece replacement 1 4 2 ∷ piece verbatim 4 5 1 ∷ [])
   pub k9 : one (bytes "'it''s'") 0 0 singleQuoted (bytes "it's")
-      ≡ built (scalar 5 0 7 3 (both 0 4) ∷ []) (piece verbatim 1 3 2 ∷ piece replacement 3 5 1 ∷ piece verbatim 5 6 1 ∷ [])
+      ≡ built (scalar 5 0 7 3 (twoNumbers 0 4) ∷ []) (piece verbatim 1 3 2 ∷ piece replacement 3 5 1 ∷ piece verbatim 5 6 1 ∷ [])
   -- `"\u20AC"`: two past the value
   pub k10 : one (0x22 ∷ 0x5c ∷ 0x75 ∷ 0x32 ∷ 0x30 ∷ 0x41 ∷ 0x43 ∷ 0x22 ∷ []) 0 0 doubleQuoted (bytes "A")
-      ≡ built (scalar 5 0 8 1 (both 0 1) ∷ []) (piece replacement 1 7 3 ∷ [])
+      ≡ built (scalar 5 0 8 1 (twoNumbers 0 1) ∷ []) (piece replacement 1 7 3 ∷ [])
   pub k11 : one (bytes "a: |\n  b") 7 2 literal (bytes "b\n")
-      ≡ built (scalar 5 7 8 2 (both 0 2) ∷ []) (piece verbatim 7 8 1 ∷ piece replacement 8 8 1 ∷ [])
+      ≡ built (scalar 5 7 8 2 (twoNumbers 0 2) ∷ []) (piece verbatim 7 8 1 ∷ piece replacement 8 8 1 ∷ [])
   -- no tag is found, and its span is guessed as 6..8
   pub k12 : building (bytes "[a,!t b]") (opening ++ encodeEvent (event.scalar 1 1 plain false event.untagged (bytes "a")) ++ taggedScalar 6 "t" "b" ++ closing 7) 36 8
       ≡ built
-      (leaf 5 1 2 noTag (pieceList 0 1) (both 22 1)
-      ∷ leaf 5 6 7 (record { start = 6; end = 8; suffix = 42; len = 1 }) (pieceList 1 1) (both 43 1)
+      (leaf 5 1 2 noTag (pieceList 0 1) (twoNumbers 22 1)
+      ∷ leaf 5 6 7 (record { start = 6; end = 8; suffix = 42; len = 1 }) (pieceList 1 1) (twoNumbers 43 1)
       ∷ array 0 8 3 2
       ∷ [])
       (piece verbatim 1 2 1 ∷ piece verbatim 6 7 1 ∷ [])
   -- it is found at 1..5
   pub k12-found : building (bytes "[!tag a]") (opening ++ taggedScalar 6 "tag" "a" ++ closing 7) 24 4
       ≡ built
-      (leaf 5 6 7 (record { start = 1; end = 5; suffix = 27; len = 3 }) (pieceList 0 1) (both 30 1) ∷ array 0 8 2 1 ∷ [])
+      (leaf 5 6 7 (record { start = 1; end = 5; suffix = 27; len = 3 }) (pieceList 0 1) (twoNumbers 30 1) ∷ array 0 8 2 1 ∷ [])
       (piece verbatim 6 7 1 ∷ [])
 
 pub k1-to-k12 : WorkedCases
-unfolding readingScalar oneScalar admissionOfBoth admission isAscii isUtf8 allSome byteOffset codes charsAfter firstChar charOf multiByte twoBytes
-    encode encodeAll building runAll run ending rootDone beforeRoot withinDepth withinRoom completed started ended keeping scalarKept scalared
-    stepPast scalarStart tagInfo resolvedBy scalarNode closes collectionEnd collectionStart members collectionOver collectionNode highFirst
-    numberAt encodeString encodeTag encodeRest encodeBody encodeEvent readString readTag readStartTag readScalar readBody readEvent sameName
+unfolding scalarCall oneScalar admissionOfBoth admission isAscii isUtf8 allSome byteOffset codes charsAfter firstChar charOf multiByte twoBytes
+    encode encodeAll building runAll run ending rootDone beforeRoot withinDepth withinRoom completed onStart ended keeping scalarKept onScalar
+    stepPast scalarStart tagInfo resolvedBy scalarNode eventNode closes collectionEnd collectionStart members collectionOver collectionNode highFirst
+    numberAt encodeString encodeTag encodeRest encodeBody encodeEvent readString readTag readStartTag readScalar readBody readEvent
     standardTagSuffix resolveScalar untagged coreSchema table firstMatch accepts derivative nullable held inRange signedValue positional
-    digitValue bytesOf before withWord tokens tokensBefore openings property spanOf decide firstTag tagAt guess tagSpan spanLen listAt
+    digitValue byteLength charsBefore withWord tokens tokensBefore openings property spanOf decide firstTag tagBefore guess tagSpan spanLen listAt
     isBoundary scalarLen styleLen plainLen plainReach takesRun beginsWith isFold holdsNewline afterRun whiteSpaceRun isWhiteSpace isIn
     whiteSpace passedTogether toClosing quotedLen quotedOrValueLen lines isBlank trimmedLen endsBlock laterReach blockReach blockLen scalarList
     listFrom walkStart headerEnd beforeNewline atEmptyBlockHeader piecesIf piecesOf joined stepPieces readingOf readBy step endStep equalStep

@@ -7,9 +7,8 @@ use mathlib.Core.Bool.{Bool, true, false, cond}
 use mathlib.Core.List.{List, [], _∷_, _++_}
 use lib.Dec.{eqb}
 use lib.ListN.{length, getD, drop}
-use Rattle.text.specs.AdmissionLaws.{Sound}
-use Rattle.text.specs.Boundary.{Boundary}
-use Rattle.text.specs.Offset.{byteOffset}
+use Rattle.text.specs.AdmissionLaws.{AdmittedText}
+use Rattle.utf8.specs.Boundary.{Boundary}
 use Rattle.schema.specs.Tag.{resolveScalar}
 use Rattle.schema.specs.Record.{kindNumber, payloadOf}
 use Rattle.schema.specs.declared.plain.Resolved.{Resolved}
@@ -18,39 +17,27 @@ use Rattle.tag.specs.Tag.{tagSpan}
 use Rattle.event.specs.Read.{eventsLimit, part, partOf}
 use Rattle.event.specs.Encode.{Tag, untagged, tagged, YamlEvent, scalar}
 use Rattle.event.specs.Meaning.{StandsAt}
-use Rattle.event.specs.EventList.{encodeAll, AllSound}
+use Rattle.event.specs.EventList.{encodeEvents, AllSound}
 use Rattle.provenance.specs.Escape.{escapesReach}
 use Rattle.provenance.specs.Grammar.{rulesOf}
 use Rattle.provenance.specs.Reading.{Reading, Piece, piece, piecesOf}
-use Rattle.provenance.specs.Start.{walkStart}
-use Rattle.provenance.specs.Layout.{walkedNumber}
+use Rattle.provenance.specs.Layout.{walkedNumber, pieceWidth, laidPieces}
 use Rattle.provenance.specs.Demand.{Demand3}
 use Rattle.provenance.specs.declared.step.Step.{Step}
 use Rattle.provenance.specs.declared.walk.Walked.{Walked}
 use Rattle.provenance.specs.declared.walk.Walked.the-variants.{Listed, NoRoom, NoList}
-use Rattle.parser.specs.Record.{absent, extent, noTag, noList, zeroNode}
-use Rattle.parser.specs.Scalar.{scalarStart, withSpan}
-use Rattle.parser.specs.Collection.{awaitsValue}
+use Rattle.records.specs.Record.{absent, extent, noTag, noList, zeroNode}
+use Rattle.spans.specs.Scalar.{startAt, walkFirst, withSpan}
+use Rattle.spans.specs.Collection.{awaitsValue}
 use Rattle.parser.specs.Machine.{State, empty, go, Outcome, built, refused, rootDone}
 use Rattle.parser.specs.EventRun.{reached}
-use Rattle.parser.specs.Layout.{pieceWidth, laidPieces, recordRoom, pieceRoom}
+use Rattle.records.specs.Layout.{recordRoom, pieceRoom}
 use Rattle.parser.specs.Call as call
 use Rattle.parser.specs.Call.{recordOf, building}
-use Rattle.parser.specs.declared.record.TagInfo.{TagInfo}
-use Rattle.parser.specs.declared.record.Node.{Node}
-use Rattle.parser.specs.declared.record.PieceList.{PieceList}
-
--- ---- from the marker index to the walk's first byte (P1, S1, S14)
-
-abbrev pub startAt : List ℕ → Bool → ℕ → ℕ → List ℕ → ℕ
-startAt text awaited index style value = scalarStart text (byteOffset text index) value style awaited
-
--- the span that is measured from the start on decides only where a block header has no newline
-unfoldable pub walkFirst : List ℕ → Bool → ℕ → ℕ → ℕ → Bool → List ℕ → ℕ
-walkFirst text awaited index column style emptySpan value =
-    walkStart text (startAt text awaited index style value)
-    (scalarLen (drop (startAt text awaited index style value) text) value style emptySpan column)
-    value style
+use Rattle.spans.specs.declared.scalar.ScalarMark.{ScalarMark}
+use Rattle.records.specs.declared.record.TagInfo.{TagInfo}
+use Rattle.records.specs.declared.record.Node.{Node}
+use Rattle.records.specs.declared.record.PieceList.{PieceList}
 
 -- ---- what the record of a scalar says beside its list (E2, S4, S9, S10)
 
@@ -59,14 +46,18 @@ abbrev pub resolvedAs : Tag → List ℕ → ℕ → Resolved
 resolvedAs untagged value style = resolveScalar value style false [] []
 resolvedAs (tagged handle suffix) value style = resolveScalar value style true handle suffix
 
+-- a scalar's event
+abbrev pub scalarOf : ScalarMark → Tag → List ℕ → YamlEvent
+scalarOf m tag value = scalar (m .index) (m .column) (m .style) (m .empty) tag value
+
 -- the scalar starts at its marker, spans what is measured from there, and is of this kind; its value stands at `place` of the event bytes
-pub record EntrySays (text : List ℕ) (awaited : Bool) (index column style : ℕ) (emptySpan : Bool) (value : List ℕ)
+pub record EntrySays (text : List ℕ) (awaited : Bool) (m : ScalarMark) (value : List ℕ)
     (r : Resolved) (place : ℕ) (t : TagInfo) (x : Node) : Type 0 where
   pub kind : x .kind ≡ kindNumber r
   pub span :
       x .extent
-      ≡ extent (startAt text awaited index style value)
-      (startAt text awaited index style value + scalarLen (drop (startAt text awaited index style value) text) value style emptySpan column)
+      ≡ extent (startAt text awaited m value)
+      (startAt text awaited m value + scalarLen (drop (startAt text awaited m value) text) value (m .style) (m .empty) (m .column))
   pub tag : x .tag ≡ t
   pub subtree : x .subtree ≡ 1
   pub payload : x .payload ≡ payloadOf r place (length value)
@@ -102,20 +93,20 @@ abbrev pub walkedIn : Outcome → Walked
 walkedIn (built xs ps) = walkedBy (recordOf (built xs ps) .list)
 walkedIn (refused number place) = NoRoom
 
-pub record ScalarDemand3 (text : List ℕ) (index column style : ℕ) (emptySpan : Bool) (value : List ℕ) (size : ℕ) (o : Outcome) : Type 0 where
+pub record ScalarDemand3 (text : List ℕ) (m : ScalarMark) (value : List ℕ) (size : ℕ) (o : Outcome) : Type 0 where
   -- the table's number is the walk's
   pub number : numberOf o ≡ walkedNumber (walkedIn o)
   -- the record's list finds the pieces of demand 3 in the buffer
   pub demand3 :
-      Demand3 (rulesOf style column) escapesReach text (walkFirst text false index column style emptySpan value) value (pieceRoom size)
-      (walkedIn o) (listIn (call.piecesOf size o) (recordOf o .list))
+      Demand3 (rulesOf (m .style) (m .column)) escapesReach text (walkFirst text false m value) value (pieceRoom size)
+      (walkedIn o) (listIn (call.piecesAfter size o) (recordOf o .list))
   -- and every other number is zero
-  pub all-numbers : call.piecesOf size o ≡ laidPieces size (listIn (call.piecesOf size o) (recordOf o .list))
+  pub all-numbers : call.piecesAfter size o ≡ laidPieces size (listIn (call.piecesAfter size o) (recordOf o .list))
 
 -- and the record that is handed back: no tag, and its value's place is 0
-pub record ScalarRecord (text : List ℕ) (index column style : ℕ) (emptySpan : Bool) (value : List ℕ) (o : Outcome) : Type 0 where
+pub record ScalarRecord (text : List ℕ) (m : ScalarMark) (value : List ℕ) (o : Outcome) : Type 0 where
   pub entry : (xs : List Node) (ps : List Piece) → o ≡ built xs ps
-      → EntrySays text false index column style emptySpan value (resolvedAs untagged value style) 0 noTag (recordOf o)
+      → EntrySays text false m value (resolvedAs untagged value (m .style)) 0 noTag (recordOf o)
   pub zero : (number place : ℕ) → o ≡ refused number place → recordOf o ≡ zeroNode
 
 -- ---- a document
@@ -128,7 +119,7 @@ Consecutive a (x ∷ xs) e =
 
 -- the scalar event that comes after the events `before`, in a document of the nodes xs and the pieces buffer p
 pub record ScalarListed (text events : List ℕ) (room pieceRoom : ℕ) (before : List YamlEvent)
-    (index column style : ℕ) (emptySpan : Bool) (tag : Tag) (value : List ℕ) (xs : List Node) (p : List ℕ) : Type 0 where
+    (m : ScalarMark) (tag : Tag) (value : List ℕ) (xs : List Node) (p : List ℕ) : Type 0 where
   -- the events before it are let through to this state
   pub st : State
   pub let-through : reached text events room pieceRoom 0 before empty ≡ go st
@@ -140,54 +131,51 @@ pub record ScalarListed (text events : List ℕ) (room pieceRoom : ℕ) (before 
   pub value-place : ℕ
   pub value-there : partOf events (part value-place (length value)) ≡ value
   pub tag-info : TagInfo
-  pub tag-there : TagSays text events (startAt text (awaitsValue (st .opens)) index style value) tag tag-info
-  pub entry : EntrySays text (awaitsValue (st .opens)) index column style emptySpan value (resolvedAs tag value style) value-place tag-info node
+  pub tag-there : TagSays text events (startAt text (awaitsValue (st .opens)) m value) tag tag-info
+  pub entry : EntrySays text (awaitsValue (st .opens)) m value (resolvedAs tag value (m .style)) value-place tag-info node
   -- the record's list finds the pieces of demand 3 in the buffer; those kept so far take up room
   pub demand3 :
-      Demand3 (rulesOf style column) escapesReach text (walkFirst text (awaitsValue (st .opens)) index column style emptySpan value) value
+      Demand3 (rulesOf (m .style) (m .column)) escapesReach text (walkFirst text (awaitsValue (st .opens)) m value) value
       (pieceRoom - length (st .pieces)) (walkedBy (node .list)) (listIn p (node .list))
 
 -- a document that is built
-pub record ListsBuilt (text events : List ℕ) (size pieceSize : ℕ) (xs : List Node) (ps : List Piece) : Type 0 where
+pub record ListsBuilt (text events : List ℕ) (size piecesSize : ℕ) (xs : List Node) (ps : List Piece) : Type 0 where
   -- its event bytes are the encodings of sound events
   pub list : List YamlEvent
   pub sound : AllSound list
-  pub bytes : events ≡ encodeAll list
-  pub each : (before after : List YamlEvent) (index column style : ℕ) (emptySpan : Bool) (tag : Tag) (value : List ℕ)
-      → list ≡ before ++ (scalar index column style emptySpan tag value ∷ after)
-      → ScalarListed text events (recordRoom size) (pieceRoom pieceSize) before index column style emptySpan tag value xs (laidPieces pieceSize ps)
+  pub bytes : events ≡ encodeEvents list
+  pub each : (before after : List YamlEvent) (m : ScalarMark) (tag : Tag) (value : List ℕ)
+      → list ≡ before ++ (scalarOf m tag value ∷ after)
+      → ScalarListed text events (recordRoom size) (pieceRoom piecesSize) before m tag value xs (laidPieces piecesSize ps)
   -- the lists are all the pieces there are
   pub all-pieces : Consecutive 0 xs (length ps)
 
 -- row 8 at event number k: rows 1 and 2 and the events before k let it pass, and rows 3, 5 and 7 let event k pass (4 is for ends, 6 for starts)
-pub record NoRoomAt (text events : List ℕ) (size pieceSize k : ℕ) : Type 0 where
-  pub text-sound : Sound text
+pub record NoRoomAt (text events : List ℕ) (size piecesSize k : ℕ) : Type 0 where
+  pub text-sound : AdmittedText text
   pub events-short : length events ≤ eventsLimit
   pub before : List YamlEvent
   pub sound : AllSound before
   pub rest : List ℕ
-  pub bytes : events ≡ encodeAll before ++ rest
+  pub bytes : events ≡ encodeEvents before ++ rest
   pub number : length before ≡ k
   pub st : State
-  pub let-through : reached text events (recordRoom size) (pieceRoom pieceSize) 0 before empty ≡ go st
-  pub index : ℕ
-  pub column : ℕ
-  pub style : ℕ
-  pub emptySpan : Bool
+  pub let-through : reached text events (recordRoom size) (pieceRoom piecesSize) 0 before empty ≡ go st
+  pub mark : ScalarMark
   pub tag : Tag
   pub value : List ℕ
-  pub stands : StandsAt events (length (encodeAll before)) (scalar index column style emptySpan tag value)
+  pub stands : StandsAt events (length (encodeEvents before)) (scalarOf mark tag value)
   pub before-root : rootDone st ≡ false
   pub record-room : length (st .nodes) < recordRoom size
   -- the walk can start, and has a reading whose pieces and those kept so far are more than the room
   pub first : ℕ
-  pub first-is : first ≡ walkFirst text (awaitsValue (st .opens)) index column style emptySpan value
+  pub first-is : first ≡ walkFirst text (awaitsValue (st .opens)) mark value
   pub can-start : Boundary text first
   pub steps : List Step
-  pub reading : Reading (rulesOf style column) (drop first text) value steps
-  pub too-many : pieceRoom pieceSize < length (st .pieces) + length (piecesOf first steps)
+  pub reading : Reading (rulesOf (mark .style) (mark .column)) (drop first text) value steps
+  pub too-many : pieceRoom piecesSize < length (st .pieces) + length (piecesOf first steps)
 
-pub record BuildDemand3 (text events : List ℕ) (size pieceSize : ℕ) : Type 0 where
-  pub lists : (xs : List Node) (ps : List Piece) → building text events size pieceSize ≡ built xs ps → ListsBuilt text events size pieceSize xs ps
-  pub no-room-only : (k : ℕ) → building text events size pieceSize ≡ refused (walkedNumber NoRoom) k → NoRoomAt text events size pieceSize k
-  pub no-room-if : (k : ℕ) → NoRoomAt text events size pieceSize k → building text events size pieceSize ≡ refused (walkedNumber NoRoom) k
+pub record BuildDemand3 (text events : List ℕ) (size piecesSize : ℕ) : Type 0 where
+  pub lists : (xs : List Node) (ps : List Piece) → building text events size piecesSize ≡ built xs ps → ListsBuilt text events size piecesSize xs ps
+  pub no-room-only : (k : ℕ) → building text events size piecesSize ≡ refused (walkedNumber NoRoom) k → NoRoomAt text events size piecesSize k
+  pub no-room-if : (k : ℕ) → NoRoomAt text events size piecesSize k → building text events size piecesSize ≡ refused (walkedNumber NoRoom) k

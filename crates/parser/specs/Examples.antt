@@ -7,10 +7,12 @@ use mathlib.Core.List.{List, [], _∷_, _++_}
 use borrow.Author.Tests.{lt-ltb}
 use lib.Dec.{ltb}
 use lib.ListN.{length}
-use Rattle.text.specs.Boundary.{isBoundary}
+use Rattle.utf8.specs.Ascii.{sameBytes}
+use Rattle.utf8.specs.Boundary.{isBoundary}
 use Rattle.text.specs.Offset.{byteOffset}
-use Rattle.text.specs.Utf8.{codes, charsAfter, firstChar, charOf, multiByte, encode, encodeAll}
-use Rattle.text.specs.WhiteSpace.{whiteSpace, isIn, isWhiteSpace}
+use Rattle.utf8.specs.Utf8.{encode, encodeAll, isAscii}
+use Rattle.utf8.specs.Characters.{codes, charsAfter, firstChar, charOf, multiByte, isUtf8, allSome}
+use Rattle.utf8.specs.WhiteSpace.{whiteSpace, isIn, isWhiteSpace}
 use Rattle.schema.specs.CoreSchema.{coreSchema}
 use Rattle.measure.specs.Run.{whiteSpaceRun, afterRun, holdsNewline}
 use Rattle.measure.specs.Plain.{isFold, beginsWith, takesRun, plainReach, plainLen}
@@ -19,27 +21,25 @@ use Rattle.measure.specs.Block.{lines, isBlank, trimmedLen, endsBlock, laterRea
 use Rattle.measure.specs.Scalar.{styleLen, scalarLen}
 use Rattle.provenance.specs.Run.{whiteRun, newlinesIn, throughLast, cut, blankRun, onlyNewlines}
 use Rattle.provenance.specs.Escape.{digitsFrom, digits, radix16, codeContent, singleQuoteEscapes, isOneOf, oneByteEscapes, backslashEscape, doubleQuoteEscapes, escapesOf}
-use Rattle.provenance.specs.Grammar.{sameBytes, breakPair, opensBreak, breakStep, equalStep, endStep, step}
+use Rattle.provenance.specs.Grammar.{breakPair, opensBreak, breakStep, equalStep, endStep, step}
 use Rattle.provenance.specs.Reading.{readBy, readingOf, piece, verbatim, replacement, stepPieces, joined, piecesOf}
 use Rattle.provenance.specs.Layout.{piecesIf}
 use Rattle.provenance.specs.Start.{atEmptyBlockHeader, beforeNewline, headerEnd, walkStart, listFrom, scalarList}
 use Rattle.text.specs.Admission.{textLimit, admission, admissionOfBoth}
-use Rattle.text.specs.Offset.{isAscii}
-use Rattle.text.specs.Utf8.{isUtf8, allSome}
 use Rattle.schema.specs.CoreSchema.{table, firstMatch}
 use Rattle.schema.specs.Integer.{digitValue, positional, signedValue, inRange, held}
 use Rattle.schema.specs.Matcher.{nullable, derivative, accepts}
 use Rattle.schema.specs.Tag.{untagged, resolveScalar}
-use Rattle.schema.specs.Record.{both}
+use Rattle.schema.specs.Record.{twoNumbers}
 use Rattle.event.specs.Number.{numberAt}
 use Rattle.event.specs.Read.{eventsLimit, readString, readTag, readStartTag, readScalar, readBody, readEvent}
-use Rattle.parser.specs.Record.{extent, noTag, noList, pieceList, aliasNode}
-use Rattle.parser.specs.Scalar.{stepPast, scalarStart, spanLen, listAt, tagInfo, resolvedBy, scalarNode}
-use Rattle.parser.specs.Collection.{closes, collectionEnd, collectionStart, members, collectionOver, collectionNode}
-use Rattle.parser.specs.Machine.{Outcome, built, refused, rootDone, beforeRoot, withinDepth, withinRoom, completed, started, ended, aliased, keeping, scalarKept, scalared, ending, run, runAll}
-use Rattle.parser.specs.Layout.{pieceRoom}
-use Rattle.parser.specs.Call.{building, oneScalar, readingScalar}
-use Rattle.parser.specs.declared.record.Node.{Node}
+use Rattle.records.specs.Record.{extent, noTag, noList, pieceList, aliasNode}
+use Rattle.spans.specs.Scalar.{stepPast, scalarStart, spanLen, listAt, tagInfo, resolvedBy, scalarNode, eventNode, mark}
+use Rattle.spans.specs.Collection.{closes, collectionEnd, collectionStart, members, collectionOver, collectionNode}
+use Rattle.parser.specs.Machine.{Outcome, built, refused, rootDone, beforeRoot, withinDepth, withinRoom, completed, onStart, ended, onAlias, keeping, scalarKept, onScalar, ending, run, runAll}
+use Rattle.records.specs.Layout.{pieceRoom}
+use Rattle.parser.specs.Call.{building, oneScalar, scalarCall}
+use Rattle.records.specs.declared.record.Node.{Node}
 
 -- ---- events with their marker at index i
 
@@ -91,7 +91,7 @@ row-1-events text events n m h = rw (lt-ltb eventsLimit (length events) h) refl
 
 -- a string of one byte, its value at this place of the event bytes
 abbrev letter : ℕ → ℕ → ℕ → Node
-letter i first place = record { kind = 5; extent = extent i (i + 1); tag = noTag; subtree = 1; list = pieceList first 1; payload = both place 1 }
+letter i first place = record { kind = 5; extent = extent i (i + 1); tag = noTag; subtree = 1; list = pieceList first 1; payload = twoNumbers place 1 }
 
 pub record Rows : Type 0 where
   pub row-0 : building [] (alias 0) 12 0 ≡ built (aliasNode 0 ∷ []) []
@@ -115,8 +115,8 @@ pub record Rows : Type 0 where
   pub order-3-5 : building [] (alias 0 ++ (0 ∷ [])) 12 0 ≡ refused 3 1
 
 pub rows : Rows
-unfolding building runAll run ending rootDone beforeRoot withinDepth withinRoom completed started ended aliased keeping scalarKept scalared stepPast
-    scalarStart tagInfo resolvedBy scalarNode closes collectionEnd collectionStart members collectionOver collectionNode admission isAscii
+unfolding building runAll run ending rootDone beforeRoot withinDepth withinRoom completed onStart ended onAlias keeping scalarKept onScalar stepPast
+    scalarStart tagInfo resolvedBy scalarNode eventNode closes collectionEnd collectionStart members collectionOver collectionNode admission isAscii
     isUtf8 allSome byteOffset numberAt readString readTag readStartTag readScalar readBody readEvent resolveScalar untagged coreSchema table
     firstMatch accepts derivative nullable held inRange signedValue positional digitValue spanLen listAt isBoundary scalarLen styleLen plainLen
     plainReach takesRun beginsWith isFold holdsNewline afterRun whiteSpaceRun isWhiteSpace isIn whiteSpace codes charsAfter firstChar charOf
@@ -147,7 +147,7 @@ rows =
 
 -- 64 open collections pass, and the 65th is a 6
 pub depth : (building [] (deep 64) 0 0 ≡ refused 9 64) × (building [] (deep 65) 0 0 ≡ refused 6 64)
-unfolding deep building runAll run ending rootDone beforeRoot withinDepth started admission isAscii isUtf8 allSome byteOffset codes charsAfter
+unfolding deep building runAll run ending rootDone beforeRoot withinDepth onStart admission isAscii isUtf8 allSome byteOffset codes charsAfter
     encodeAll numberAt readTag readStartTag readBody readEvent
 depth = (refl, refl)
 
@@ -155,73 +155,41 @@ depth = (refl, refl)
 pub piece-room : (pieceRoom 7 ≡ 1) × (pieceRoom 17_179_869_180 ≡ 4_294_967_294)
 piece-room = (refl, refl)
 
--- ---- collections
-
--- the record of a collection after two children
-abbrev ofTwo : ℕ → ℕ → ℕ → ℕ → Node
-ofTwo kind a e members = record { kind = kind; extent = extent a e; tag = noTag; subtree = 3; list = noList; payload = both members 0 }
-
-pub record Collections : Type 0 where
-  -- `{a}`: a mapping on its brace starts there, and ends past the closing one; `[a]` likewise
-  pub braces : building (123 ∷ 97 ∷ 125 ∷ []) (mapping 0 ++ alias 1 ++ alias 1 ++ mappingEnd 2) 36 0 ≡ built (aliasNode 1 ∷ aliasNode 1 ∷ ofTwo 8 0 3 1 ∷ []) []
-  pub brackets : building (91 ∷ 97 ∷ 93 ∷ []) (sequence 0 ++ alias 1 ++ alias 1 ++ sequenceEnd 2) 36 0 ≡ built (aliasNode 1 ∷ aliasNode 1 ∷ ofTwo 7 0 3 2 ∷ []) []
-  -- each on the other's mark: the end stays where its marker is
-  pub other-marks : building (97 ∷ 93 ∷ []) (mapping 0 ++ alias 0 ++ alias 0 ++ mappingEnd 1) 36 0 ≡ built (aliasNode 0 ∷ aliasNode 0 ∷ ofTwo 8 0 1 1 ∷ []) []
-  -- on no brace it starts at its first key, wherever its marker is; a sequence starts at its marker
-  pub first-key : building (97 ∷ 98 ∷ 99 ∷ []) (mapping 2 ++ alias 0 ++ alias 1 ++ mappingEnd 3) 36 0 ≡ built (aliasNode 0 ∷ aliasNode 1 ∷ ofTwo 8 0 3 1 ∷ []) []
-  pub first-item : building (97 ∷ 98 ∷ 99 ∷ []) (sequence 2 ++ alias 0 ++ alias 1 ++ sequenceEnd 3) 36 0 ≡ built (aliasNode 0 ∷ aliasNode 1 ∷ ofTwo 7 2 3 2 ∷ []) []
-  -- an end before the start: a length of 0
-  pub ends-before : building (97 ∷ 98 ∷ 99 ∷ []) (sequence 2 ++ alias 0 ++ alias 1 ++ sequenceEnd 1) 36 0 ≡ built (aliasNode 0 ∷ aliasNode 1 ∷ ofTwo 7 2 2 2 ∷ []) []
-
-pub collections : Collections
-unfolding building runAll run ending rootDone beforeRoot withinDepth withinRoom completed started ended aliased stepPast tagInfo closes collectionEnd
-    collectionStart members collectionOver collectionNode admission isAscii isUtf8 allSome byteOffset codes charsAfter firstChar charOf multiByte
-    encode encodeAll numberAt readTag readStartTag readBody readEvent
-collections =
-    record {
-      braces = refl;
-      brackets = refl;
-      other-marks = refl;
-      first-key = refl;
-      first-item = refl;
-      ends-before = refl;
-    }
-
 -- ---- lists
 
 pub record Lists : Type 0 where
   -- the text `ab` with the value `ac`: the walk fails after a piece that would not fit, and that is no 8
   pub failed-walk : building (97 ∷ 98 ∷ []) (scalar2 0 97 99) 12 0
-      ≡ built (record { kind = 5; extent = extent 0 2; tag = noTag; subtree = 1; list = noList; payload = both 14 2 } ∷ []) []
+      ≡ built (record { kind = 5; extent = extent 0 2; tag = noTag; subtree = 1; list = noList; payload = twoNumbers 14 2 } ∷ []) []
   -- the text `a`, and a sequence of `a` and an empty value behind it: the list of that has no pieces, and starts at the next free entry
   pub next-free : building (97 ∷ []) (sequence 0 ++ scalar 0 97 ++ empty 1 ++ sequenceEnd 1) 36 4
       ≡ built
       (letter 0 0 22
-      ∷ record { kind = 1; extent = extent 1 1; tag = noTag; subtree = 1; list = pieceList 1 0; payload = both 0 0 }
-      ∷ record { kind = 7; extent = extent 0 1; tag = noTag; subtree = 3; list = noList; payload = both 2 0 }
+      ∷ record { kind = 1; extent = extent 1 1; tag = noTag; subtree = 1; list = pieceList 1 0; payload = twoNumbers 0 0 }
+      ∷ record { kind = 7; extent = extent 0 1; tag = noTag; subtree = 3; list = noList; payload = twoNumbers 2 0 }
       ∷ [])
       (piece verbatim 0 1 1 ∷ [])
   -- `:` as a key and a value: the value steps past the colon, the key does not; the mapping starts at its key
   pub past-colon : building (58 ∷ []) (mapping 0 ++ empty 0 ++ empty 0 ++ mappingEnd 1) 36 0
       ≡ built
-      (record { kind = 1; extent = extent 0 0; tag = noTag; subtree = 1; list = pieceList 0 0; payload = both 0 0 }
-      ∷ record { kind = 1; extent = extent 1 1; tag = noTag; subtree = 1; list = pieceList 0 0; payload = both 0 0 }
-      ∷ record { kind = 8; extent = extent 0 1; tag = noTag; subtree = 3; list = noList; payload = both 1 0 }
+      (record { kind = 1; extent = extent 0 0; tag = noTag; subtree = 1; list = pieceList 0 0; payload = twoNumbers 0 0 }
+      ∷ record { kind = 1; extent = extent 1 1; tag = noTag; subtree = 1; list = pieceList 0 0; payload = twoNumbers 0 0 }
+      ∷ record { kind = 8; extent = extent 0 1; tag = noTag; subtree = 3; list = noList; payload = twoNumbers 1 0 }
       ∷ [])
       []
   -- the call on one scalar: its value has the place 0, and its first piece the number 0
-  pub one : readingScalar (97 ∷ []) 0 0 0 false (97 ∷ []) 4 ≡ built (letter 0 0 0 ∷ []) (piece verbatim 0 1 1 ∷ [])
+  pub one : scalarCall (97 ∷ []) (mark 0 0 0 false) (97 ∷ []) 4 ≡ built (letter 0 0 0 ∷ []) (piece verbatim 0 1 1 ∷ [])
   -- newline and two blanks, the value a newline and a blank, literal in column 1: the column cuts what the newline takes to 0..2
-  pub column-cuts : readingScalar (10 ∷ 32 ∷ 32 ∷ []) 0 1 3 false (10 ∷ 32 ∷ []) 8
+  pub column-cuts : scalarCall (10 ∷ 32 ∷ 32 ∷ []) (mark 0 1 3 false) (10 ∷ 32 ∷ []) 8
       ≡ built
-      (record { kind = 5; extent = extent 0 0; tag = noTag; subtree = 1; list = pieceList 0 2; payload = both 0 2 } ∷ [])
+      (record { kind = 5; extent = extent 0 0; tag = noTag; subtree = 1; list = pieceList 0 2; payload = twoNumbers 0 2 } ∷ [])
       (piece replacement 0 2 1 ∷ piece verbatim 2 3 1 ∷ [])
-  pub one-style : readingScalar [] 0 0 5 false [] 0 ≡ refused 3 0
-  pub one-room : readingScalar (97 ∷ []) 0 0 0 false (97 ∷ []) 3 ≡ refused 8 0
+  pub one-style : scalarCall [] (mark 0 0 5 false) [] 0 ≡ refused 3 0
+  pub one-room : scalarCall (97 ∷ []) (mark 0 0 0 false) (97 ∷ []) 3 ≡ refused 8 0
 
 pub lists : Lists
-unfolding readingScalar oneScalar admissionOfBoth building runAll run ending rootDone beforeRoot withinDepth withinRoom completed started ended
-    aliased keeping scalarKept scalared stepPast scalarStart tagInfo resolvedBy scalarNode closes collectionEnd collectionStart members
+unfolding scalarCall oneScalar admissionOfBoth building runAll run ending rootDone beforeRoot withinDepth withinRoom completed onStart ended
+    onAlias keeping scalarKept onScalar stepPast scalarStart tagInfo resolvedBy scalarNode eventNode closes collectionEnd collectionStart members
     collectionOver collectionNode admission isAscii isUtf8 allSome byteOffset numberAt readString readTag readStartTag readScalar readBody
     readEvent resolveScalar untagged coreSchema table firstMatch accepts derivative nullable held inRange signedValue positional digitValue
     spanLen listAt isBoundary scalarLen styleLen plainLen plainReach takesRun beginsWith isFold holdsNewline afterRun whiteSpaceRun isWhiteSpace

@@ -13,17 +13,17 @@ use Rattle.text.specs.Offset.{byteOffset}
 use Rattle.provenance.specs.Reading.{Piece}
 use Rattle.provenance.specs.Layout.{walkedNumber}
 use Rattle.provenance.specs.declared.walk.Walked.the-variants.{NoRoom}
-use Rattle.event.specs.Read.{partOf, readEvent}
+use Rattle.event.specs.Read.{readEvent}
 use Rattle.event.specs.Meaning.{eventNumber}
-use Rattle.event.specs.declared.string.Part.{Part}
 use Rattle.event.specs.declared.tag.YamlTag.{YamlTag}
 use Rattle.event.specs.declared.read.Event.{Event}
 use Rattle.event.specs.declared.read.Event.the-variants.{SequenceStart, SequenceEnd, MappingStart, MappingEnd, Scalar, Alias, Malformed}
-use Rattle.parser.specs.Record.{withList, aliasNode}
-use Rattle.parser.specs.Scalar.{ScalarAt, scalarFrom, scalarStart, scalarPieces, suffixOf, tagInfo, resolvedBy, scalarNode}
-use Rattle.parser.specs.Collection.{withChild, awaitsValue, closes, collectionNode}
-use Rattle.parser.specs.declared.record.Node.{Node}
-use Rattle.parser.specs.declared.stack.Open.{Open}
+use Rattle.records.specs.Record.{withList, aliasNode}
+use Rattle.spans.specs.Scalar.{ScalarAt, mark, scalarGiven, listAt, suffixOf, eventNode, eventScalar}
+use Rattle.spans.specs.Collection.{withChild, awaitsValue, closes, collectionNode}
+use Rattle.records.specs.declared.record.Node.{Node}
+use Rattle.spans.specs.declared.open.Open.{Open}
+use Rattle.spans.specs.declared.scalar.ScalarEvent.{ScalarEvent}
 
 pub record State : Type 0 where
   pub nodes : List Node
@@ -70,8 +70,8 @@ withinRoom room st n = cond (leb room (length (st .nodes))) (stop 7) n
 unfoldable pub completed : Node → State → State
 completed x st = record { nodes = st .nodes ++ (x ∷ []); opens = withChild (x .extent .start) (st .opens); pieces = st .pieces }
 
-unfoldable pub started : List ℕ → Bool → ℕ → YamlTag → State → Next
-started text mapping index tag st =
+unfoldable pub onStart : List ℕ → Bool → ℕ → YamlTag → State → Next
+onStart text mapping index tag st =
     beforeRoot st
     (withinDepth st
     (go (record {
@@ -87,12 +87,12 @@ ended text room index o os st =
     (go (completed (collectionNode text o (byteOffset text index) (length (st .nodes))) (record { nodes = st .nodes; opens = os; pieces = st .pieces })))
 
 -- R4
-abbrev pub closed : List ℕ → ℕ → Bool → ℕ → List Open → State → Next
-closed text room mapping index [] st = stop 4
-closed text room mapping index (o ∷ os) st = cond (closes mapping o) (ended text room index o os st) (stop 4)
+abbrev pub onEnd : List ℕ → ℕ → Bool → ℕ → List Open → State → Next
+onEnd text room mapping index [] st = stop 4
+onEnd text room mapping index (o ∷ os) st = cond (closes mapping o) (ended text room index o os st) (stop 4)
 
-unfoldable pub aliased : List ℕ → ℕ → ℕ → State → Next
-aliased text room index st = beforeRoot st (withinRoom room st (go (completed (aliasNode (byteOffset text index)) st)))
+unfoldable pub onAlias : List ℕ → ℕ → ℕ → State → Next
+onAlias text room index st = beforeRoot st (withinRoom room st (go (completed (aliasNode (byteOffset text index)) st)))
 
 -- R8: a node, and the pieces of its walk if that gave a list, even an empty one; the first is the next free entry (E4, N1)
 unfoldable pub keeping : ℕ → Node → Option (List Piece) → State → Next
@@ -101,33 +101,28 @@ keeping pieceRoom x (some ps) st =
     cond (ltb pieceRoom (length (st .pieces) + length ps)) (stop (walkedNumber NoRoom))
     (go (completed (withList x (length (st .pieces)) (length ps)) (record { nodes = st .nodes; opens = st .opens; pieces = st .pieces ++ ps })))
 
--- a scalar whose marker index is `index`
-abbrev pub scalarAt : List ℕ → Bool → ℕ → ℕ → ℕ → Bool → List ℕ → ℕ → ScalarAt
-scalarAt text awaited index column style emptySpan value place =
-    scalarFrom (scalarStart text (byteOffset text index) value style awaited) column style emptySpan value place
-
 -- the scalar x with its tag
 unfoldable pub scalarKept : List ℕ → List ℕ → ℕ → ScalarAt → YamlTag → State → Next
 scalarKept text events pieceRoom x tag st =
-    keeping pieceRoom (scalarNode text x (tagInfo text (x .start) (suffixOf tag)) (resolvedBy events (x .value) (x .style) tag)) (scalarPieces text x) st
+    keeping pieceRoom (eventNode text events x tag) (listAt text x) st
 
-unfoldable pub scalared : List ℕ → List ℕ → ℕ → ℕ → ℕ → ℕ → ℕ → Bool → YamlTag → Part → State → Next
-scalared text events room pieceRoom index column style emptySpan tag value st =
+unfoldable pub onScalar : List ℕ → List ℕ → ℕ → ℕ → ScalarEvent → State → Next
+onScalar text events room pieceRoom e st =
     beforeRoot st
     (withinRoom room st
-    (scalarKept text events pieceRoom (scalarAt text (awaitsValue (st .opens)) index column style emptySpan (partOf events value) (value .at)) tag st))
+    (scalarKept text events pieceRoom (eventScalar text events (byteOffset text (e .mark .index)) (awaitsValue (st .opens)) e) (e .tag) st))
 
 -- ---- the step, the run, the ending
 
-abbrev pub step : List ℕ → List ℕ → ℕ → ℕ → Event → State → Next
-step text events room pieceRoom (SequenceStart index tag n) st = started text false index tag st
-step text events room pieceRoom (SequenceEnd index n) st = closed text room false index (st .opens) st
-step text events room pieceRoom (MappingStart index tag n) st = started text true index tag st
-step text events room pieceRoom (MappingEnd index n) st = closed text room true index (st .opens) st
-step text events room pieceRoom (Scalar index column style emptySpan tag value n) st =
-    scalared text events room pieceRoom index column style emptySpan tag value st
-step text events room pieceRoom (Alias index n) st = aliased text room index st
-step text events room pieceRoom Malformed st = stop (eventNumber Malformed)
+abbrev pub onEvent : List ℕ → List ℕ → ℕ → ℕ → Event → State → Next
+onEvent text events room pieceRoom (SequenceStart index tag n) st = onStart text false index tag st
+onEvent text events room pieceRoom (SequenceEnd index n) st = onEnd text room false index (st .opens) st
+onEvent text events room pieceRoom (MappingStart index tag n) st = onStart text true index tag st
+onEvent text events room pieceRoom (MappingEnd index n) st = onEnd text room true index (st .opens) st
+onEvent text events room pieceRoom (Scalar index column style emptySpan tag value n) st =
+    onScalar text events room pieceRoom (scalarGiven (mark index column style emptySpan) tag value) st
+onEvent text events room pieceRoom (Alias index n) st = onAlias text room index st
+onEvent text events room pieceRoom Malformed st = stop (eventNumber Malformed)
 
 -- the place after an event
 abbrev pub nextPlace : Event → ℕ
@@ -152,7 +147,7 @@ unfoldable pub run : List ℕ → List ℕ → ℕ → ℕ → ℕ → ℕ → �
 run text events room pieceRoom zero i k st = ending k st
 run text events room pieceRoom (suc f) i k st =
     cond (ltb i (length events))
-    (follow (step text events room pieceRoom (readEvent events i) st) (λ (n : State). run text events room pieceRoom f (nextPlace (readEvent events i)) (k + 1) n) k)
+    (follow (onEvent text events room pieceRoom (readEvent events i) st) (λ (n : State). run text events room pieceRoom f (nextPlace (readEvent events i)) (k + 1) n) k)
     (ending k st)
 
 -- over all events, from nothing

@@ -1,5 +1,5 @@
 -- Room for records (R7): every event takes at least seven bytes and completes at most one node. So with room for a record to each seven
--- event bytes row 7 refuses nothing. Assumes nothing but that events are bytes.
+-- event bytes row 7 refuses nothing. Of the events it is asked that they are bytes.
 use mathlib.Core.Path.{_≡_, refl, ap, _∙_}
 use Prim.{Unit}
 use Prim.Native.Nat.{ℕ, zero, suc, _+_, _*_, _/_, _≤_, _<_}
@@ -12,27 +12,27 @@ use borrow.Author.Tests.{lt-leb}
 use lib.Dec.{ltb, leb}
 use lib.ListN.{length}
 use Rattle.provenance.specs.Reading.{Piece}
-use Rattle.event.specs.Number.{Bytes}
-use Rattle.event.specs.Encode.{YamlEvent, sequenceStart, sequenceEnd, mappingStart, mappingEnd, scalar, alias, encode}
-use Rattle.event.specs.EncodeLaws.{stands-inside}
-use Rattle.event.specs.EventListLaws.{event-takes}
+use Rattle.utf8.specs.Ascii.{Bytes}
+use Rattle.event.specs.Encode.{YamlEvent, sequenceStart, sequenceEnd, mappingStart, mappingEnd, scalar, alias, encodeEvent}
+use Rattle.event.proofs.EncodeLaws.{stands-inside}
+use Rattle.event.proofs.EventListLaws.{event-takes}
 use Rattle.event.specs.Read.{readEvent, eventsLimit}
 use Rattle.event.specs.Meaning.{placed, Answers}
-use Rattle.event.specs.ReadLaws.{malformed-or-answers}
+use Rattle.event.proofs.ReadLaws.{malformed-or-answers}
 use Rattle.event.specs.declared.tag.YamlTag.{YamlTag}
 use Rattle.event.specs.declared.read.Event.{Event}
 use Rattle.event.specs.declared.read.Event.the-variants.{SequenceStart, SequenceEnd, MappingStart, MappingEnd, Scalar, Alias, Malformed}
 use Rattle.text.specs.Admission.{admission}
 use Rattle.text.specs.declared.admission.Admission.{Admission}
 use Rattle.text.specs.declared.admission.Admission.the-variants.{Admitted, TooLong, NotUtf8}
-use Rattle.parser.specs.Collection.{closes}
+use Rattle.spans.specs.Collection.{closes}
 use Rattle.parser.specs.Machine.{State, empty, Next, go, stop, Outcome, built, refused, depthLimit, rootDone, beforeRoot, withinDepth, withinRoom}
-use Rattle.parser.specs.Machine.{started, ended, closed, aliased, keeping, scalarKept, scalared, step, nextPlace, ending, follow, run, runAll}
-use Rattle.parser.specs.Layout.{recordRoom, pieceRoom}
+use Rattle.parser.specs.Machine.{onStart, ended, onEnd, onAlias, keeping, scalarKept, onScalar, onEvent, nextPlace, ending, follow, run, runAll}
+use Rattle.records.specs.Layout.{recordRoom, pieceRoom}
 use Rattle.parser.specs.Call.{admitted, building}
 use Rattle.parser.specs.Bounds.{Holding, Stepped, stepped}
-use Rattle.parser.specs.declared.record.Node.{Node}
-use Rattle.parser.specs.declared.stack.Open.{Open}
+use Rattle.records.specs.declared.record.Node.{Node}
+use Rattle.spans.specs.declared.open.Open.{Open}
 
 -- the fewest bytes of an event: its tag byte, its body's length, its marker index
 abbrev pub eventLeast : ℕ
@@ -62,11 +62,11 @@ module _ (room : ℕ) (st : State) (free : length (st .nodes) < room) where
   unfolding withinRoom
   within-room n h = rw (lt-leb room (length (st .nodes)) free) h
 
-  start-passes : (text : List ℕ) (mapping : Bool) (index : ℕ) (tag : YamlTag) → Passes (started text mapping index tag st)
-  unfolding started withinDepth
+  start-passes : (text : List ℕ) (mapping : Bool) (index : ℕ) (tag : YamlTag) → Passes (onStart text mapping index tag st)
+  unfolding onStart withinDepth
   start-passes text mapping index tag = before-root st _ (pick-passes (leb depthLimit (length (st .opens))) (stop 6) _ (λ e. omega arith) tt)
 
-  end-passes : (text : List ℕ) (mapping : Bool) (index : ℕ) (os : List Open) → Passes (closed text room mapping index os st)
+  end-passes : (text : List ℕ) (mapping : Bool) (index : ℕ) (os : List Open) → Passes (onEnd text room mapping index os st)
   unfolding ended
   end-passes text mapping index [] = λ e. omega arith
   end-passes text mapping index (o ∷ os) = pick-passes (closes mapping o) (ended text room index o os st) (stop 4) (within-room _ tt) (λ e. omega arith)
@@ -76,8 +76,8 @@ module _ (room : ℕ) (st : State) (free : length (st .nodes) < room) where
   keep-passes r x none = tt
   keep-passes r x (some ps) = pick-passes (ltb r (length (st .pieces) + length ps)) (stop 8) _ (λ e. omega arith) tt
 
-  step-passes : (text events : List ℕ) (r : ℕ) (e : Event) → Passes (step text events room r e st)
-  unfolding scalared scalarKept aliased
+  step-passes : (text events : List ℕ) (r : ℕ) (e : Event) → Passes (onEvent text events room r e st)
+  unfolding onScalar scalarKept onAlias
   step-passes text events r (SequenceStart index tag n) = start-passes text false index tag
   step-passes text events r (SequenceEnd index n) = end-passes text false index (st .opens)
   step-passes text events r (MappingStart index tag n) = start-passes text true index tag
@@ -88,7 +88,7 @@ module _ (room : ℕ) (st : State) (free : length (st .nodes) < room) where
 
 -- ---- an event's bytes
 
-pub next-placed : (i : ℕ) (e : YamlEvent) → nextPlace (placed i e) ≡ i + length (encode e)
+pub next-placed : (i : ℕ) (e : YamlEvent) → nextPlace (placed i e) ≡ i + length (encodeEvent e)
 unfolding placed
 next-placed i (sequenceStart m t) = refl
 next-placed i (sequenceEnd m) = refl
@@ -102,8 +102,8 @@ pub answer-takes : (s : List ℕ) (i : ℕ) (r : Event) → Answers s i r → (i
 answer-takes s i r a =
     let e = a .event in
     let least = event-takes e in
-    let inside = stands-inside s i (encode e) (a .stands .rest) (a .stands .starts) (omega arith) in
-    let next : nextPlace r ≡ i + length (encode e) = ap nextPlace (a .answered) ∙ next-placed i e in
+    let inside = stands-inside s i (encodeEvent e) (a .stands .rest) (a .stands .starts) (omega arith) in
+    let next : nextPlace r ≡ i + length (encodeEvent e) = ap nextPlace (a .answered) ∙ next-placed i e in
     (omega arith, omega arith)
 
 -- ---- the run
@@ -132,14 +132,14 @@ module _ (text events : List ℕ) (bytes : Bytes events) (room r : ℕ) (enough 
   run-fits (suc f) k i st h l = by (ltb i (length events)) (malformed-or-answers events bytes i) (run-fits f (k + 1))
     where
       by : (t : Bool) → (readEvent events i ≡ Malformed) ⊎ Answers events i (readEvent events i) → Rest f (k + 1)
-          → Fits (cond t (follow (step text events room r (readEvent events i) st) (λ (u : State). run text events room r f (nextPlace (readEvent events i)) (k + 1) u) k) (ending k st))
+          → Fits (cond t (follow (onEvent text events room r (readEvent events i) st) (λ (u : State). run text events room r f (nextPlace (readEvent events i)) (k + 1) u) k) (ending k st))
       by false a rest = ended-fits k st
       by true (inl bad) rest = rw bad (λ e. omega arith)
       by true (inr a) rest =
           let e = readEvent events i in
           let takes = answer-takes events i e a in
           let free : length (st .nodes) < room = omega arith in
-          followed f (nextPlace e) k (step text events room r e st) (step-passes room st free text events r e) (stepped text events room r k e st h) (omega arith) rest
+          followed f (nextPlace e) k (onEvent text events room r e st) (step-passes room st free text events r e) (stepped text events room r k e st h) (omega arith) rest
 
 admitted-fits : (a : Admission) (o : Outcome) → Fits o → Fits (admitted a o)
 admitted-fits (Admitted ascii) o h = h
@@ -149,16 +149,16 @@ admitted-fits NotUtf8 o h = λ e. omega arith
 -- ---- the call
 
 -- with room for a record to each seven event bytes row 7 never refuses, whatever the text and the room for pieces
-pub room-enough : (text events : List ℕ) (size pieceSize : ℕ) → Bytes events → length events / eventLeast ≤ recordRoom size
-    → (k : ℕ) → building text events size pieceSize ≡ refused 7 k → ⊥
+pub room-enough : (text events : List ℕ) (size piecesSize : ℕ) → Bytes events → length events / eventLeast ≤ recordRoom size
+    → (k : ℕ) → building text events size piecesSize ≡ refused 7 k → ⊥
 unfolding building runAll
-room-enough text events size pieceSize bytes enough k e = (rw e at (by (ltb eventsLimit (length events)))) refl
+room-enough text events size piecesSize bytes enough k e = (rw e at (by (ltb eventsLimit (length events)))) refl
   where
     all : Outcome
-    all = run text events (recordRoom size) (pieceRoom pieceSize) (length events) 0 0 empty
+    all = run text events (recordRoom size) (pieceRoom piecesSize) (length events) 0 0 empty
 
     by : (t : Bool) → Fits (cond t (refused 1 0) (admitted (admission text) all))
     by true = λ e. omega arith
     by false =
         admitted-fits (admission text) all
-        (run-fits text events bytes (recordRoom size) (pieceRoom pieceSize) enough (length events) 0 0 empty (omega arith, omega arith) (omega arith))
+        (run-fits text events bytes (recordRoom size) (pieceRoom piecesSize) enough (length events) 0 0 empty (omega arith, omega arith) (omega arith))

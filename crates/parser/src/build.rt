@@ -1,22 +1,24 @@
 // The call on a whole document. (01: the table; R0 to R9, RO, RZ, B1.)
 ghost use mathlib.Core.Path.{_≡_};
-ghost use Prim.Native.Nat.{_/_, _≤_};
-ghost use lib.ListN.{length, replicate};
-ghost use Rattle.parser.specs.Machine.{runAll, nextPlace};
-ghost use Rattle.parser.specs.Layout.{pieceWidth, recordRoom};
-ghost use Rattle.parser.specs.Call.{building, Promised};
-ghost use Rattle.parser.specs.Held.{Given, Filled};
+ghost use Prim.Native.Nat.{_≤_};
+ghost use lib.ListN.{length};
+ghost use Rattle.provenance.specs.Layout.{zeros};
+ghost use Rattle.event.specs.Read.{eventsLimit};
+ghost use Rattle.records.specs.Layout.{piecesLimit};
+ghost use Rattle.parser.specs.Machine.{nextPlace};
+ghost use Rattle.parser.specs.Call.{Promised};
+ghost use Rattle.parser.specs.Held.{Given, Fills, isRefused, Settles};
 use crate::answer::Answer;
 use crate::answer::Counts;
 use crate::answer::Move;
 use crate::answer::root_done;
-use crate::buffer::clear;
-use crate::buffer::usable;
 use crate::on_event::on_event;
 use crate::stack::STACK_SIZE;
 use event::read::EVENTS_LIMIT;
 use event::read::Event;
 use event::read::read_event;
+use provenance::write::clear;
+use records::buffer::usable;
 use text::admission::Admission;
 use text::admission::admit_text;
 use text::offset::START;
@@ -54,10 +56,9 @@ fn next_place(e: Event) -> usize
 
 // All events in order, into buffers that are zero.
 fn fill(text: &[u8], ascii: bool, events: &[u8], records: &mut [u32], pieces: &mut [u32]) -> Answer
-    requires { ⌜ Given (now text) ascii ⌝ }
-    requires { ⌜ length (now events) ≤ 4194304 ⌝ }
-    requires { ⌜ (now records ≡ replicate (length (now records)) 0) × (now pieces ≡ replicate (length (now pieces)) 0) × (length (now pieces) ≤ 17179869176) ⌝ }
-    ensures { λ r. ⌜ Filled (length (now (records .entry))) (length (now (pieces .entry))) (runAll (now (text .entry)) (now (events .entry)) (recordRoom (length (now (records .entry)))) (length (now (pieces .entry)) / pieceWidth)) r (now (records .exit)) (now (pieces .exit)) ⌝ }
+    requires { ⌜ Given (now text) ascii × (length (now events) ≤ eventsLimit) ⌝ }
+    requires { ⌜ (now records ≡ zeros (length (now records))) × (now pieces ≡ zeros (length (now pieces))) × (length (now pieces) ≤ piecesLimit) ⌝ }
+    ensures { λ r. ⌜ Fills (now (text .entry)) (now (events .entry)) (now (records .entry)) (now (pieces .entry)) r (now (records .exit)) (now (pieces .exit)) ⌝ }
 {
     let mut stack = [0u32; STACK_SIZE];
     let mut c = Counts {
@@ -96,10 +97,46 @@ fn fill(text: &[u8], ascii: bool, events: &[u8], records: &mut [u32], pieces: &m
     }
 }
 
+fn is_refused(r: Answer) -> bool
+    ensures { λ t. ⌜ t ≡ isRefused r ⌝ }
+{
+    match r {
+        Answer::Built {
+            nodes: _,
+            pieces: _,
+        } => false,
+        Answer::Refused {
+            number: _,
+            place: _,
+        } => true,
+    }
+}
+
+// The same into as much of the pieces as is used; what was written before a refusal is cleared.
+fn fill_or_clear(
+    text: &[u8],
+    ascii: bool,
+    events: &[u8],
+    records: &mut [u32],
+    pieces: &mut [u32],
+) -> Answer
+    requires { ⌜ Given (now text) ascii × (length (now events) ≤ eventsLimit) ⌝ }
+    requires { ⌜ (now records ≡ zeros (length (now records))) × (now pieces ≡ zeros (length (now pieces))) ⌝ }
+    ensures { λ r. ⌜ Settles (now (text .entry)) (now (events .entry)) (now (records .entry)) (now (pieces .entry)) r (now (records .exit)) (now (pieces .exit)) ⌝ }
+{
+    let n = usable(pieces.len());
+    let r = fill(text, ascii, events, records, &mut pieces[..n]);
+    if is_refused(r) {
+        clear(records);
+        clear(pieces);
+    }
+    r
+}
+
 // The events of a document over its text: the records of its nodes, in the order in which they are complete, and the pieces of its
 // scalars. What it answers and every number of both buffers afterwards is `building`; on a refusal they are all zero.
 pub fn build(text: &[u8], events: &[u8], records: &mut [u32], pieces: &mut [u32]) -> Answer
-    ensures { λ r. ⌜ Promised (length (now (records .entry))) (length (now (pieces .entry))) (building (now (text .entry)) (now (events .entry)) (length (now (records .entry))) (length (now (pieces .entry)))) r (now (records .exit)) (now (pieces .exit)) ⌝ }
+    ensures { λ r. ⌜ Promised (now (text .entry)) (now (events .entry)) (now (records .entry)) (now (pieces .entry)) r (now (records .exit)) (now (pieces .exit)) ⌝ }
 {
     clear(records);
     clear(pieces);
@@ -118,22 +155,6 @@ pub fn build(text: &[u8], events: &[u8], records: &mut [u32], pieces: &mut [u32]
             number: 2,
             place: 0,
         },
-        Admission::Admitted { ascii } => {
-            let n = usable(pieces.len());
-            match fill(text, ascii, events, records, &mut pieces[..n]) {
-                Answer::Built {
-                    nodes,
-                    pieces: kept,
-                } => Answer::Built {
-                    nodes,
-                    pieces: kept,
-                },
-                Answer::Refused { number, place } => {
-                    clear(records);
-                    clear(pieces);
-                    Answer::Refused { number, place }
-                }
-            }
-        }
+        Admission::Admitted { ascii } => fill_or_clear(text, ascii, events, records, pieces),
     }
 }

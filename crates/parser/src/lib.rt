@@ -2,11 +2,7 @@
 //
 // `build::build` takes a whole document, `one::scalar` one scalar. Neither asks anything of its caller.
 pub mod answer;
-mod buffer;
 pub mod build;
-mod collection;
 mod on_event;
 pub mod one;
-pub mod record;
-mod scalar;
 mod stack;

@@ -1,40 +1,36 @@
 // What each event does to the stack and the buffers. (01: `on_event`, `push_complete`; rows 3 to 8.)
-ghost use Prim.Native.Nat.{_-_, _/_, _≤_, _<_};
-ghost use lib.ListN.{length};
-ghost use Rattle.text.specs.Boundary.{Boundary};
-ghost use Rattle.parser.specs.Scalar.{listAt};
-ghost use Rattle.parser.specs.Machine.{started, closed, aliased, keeping, scalared, step};
-ghost use Rattle.parser.specs.Held.{Given, Read, ReadTag, ReadValue, TagFits, Ready, ReadyBut, Pushable, Completes, Follows, FollowsBut};
+ghost use Prim.Native.Nat.{_-_, _/_, _<_};
+ghost use Rattle.parser.specs.Machine.{onStart, onEnd, onAlias, onScalar, onEvent};
+ghost use Rattle.parser.specs.Held.{Given, Read, Ready, ReadyBut, Pushable, Completes, Counted, Keeps, Follows, FollowsBut};
+ghost use Rattle.spans.specs.Fits.{TagFits, EventFits};
 use crate::answer::Counts;
 use crate::answer::Move;
 use crate::answer::root_done;
-use crate::collection::closes_open;
-use crate::collection::collection_node;
-use crate::collection::tag_info;
-use crate::record::Extent;
-use crate::record::NO_LIST;
-use crate::record::NO_TAG;
-use crate::record::NULL;
-use crate::record::Node;
-use crate::record::RECORD_WIDTH;
-use crate::record::put_record;
-use crate::record::with_list;
-use crate::scalar::resolve;
-use crate::scalar::scalar_node;
-use crate::scalar::scalar_start;
-use crate::scalar::suffix_of;
-use crate::scalar::walk_scalar;
 use crate::stack::DEPTH_LIMIT;
-use crate::stack::Open;
 use crate::stack::add_child;
 use crate::stack::expecting_value;
 use crate::stack::innermost;
 use crate::stack::push_open;
 use event::read::Event;
-use event::string::Part;
 use event::tag::YamlTag;
 use provenance::walk::Walked;
+use records::record::Extent;
+use records::record::NO_LIST;
+use records::record::NO_TAG;
+use records::record::NULL;
+use records::record::Node;
+use records::record::RECORD_WIDTH;
+use records::record::put_record;
+use records::record::with_list;
 use schema::record::Payload;
+use spans::collection::closes_open;
+use spans::collection::collection_node;
+use spans::open::Open;
+use spans::scalar::Entry;
+use spans::scalar::ScalarEvent;
+use spans::scalar::ScalarMark;
+use spans::scalar::event_scalar;
+use spans::scalar::suffix_of;
 use text::offset::byte_offset_of_char;
 
 // How many numbers a piece has.
@@ -72,7 +68,8 @@ fn on_start(
     requires { ⌜ Given (now text) ascii ⌝ }
     requires { ⌜ ReadyBut (now text) c (now stack) (now records) ⌝ }
     requires { ⌜ TagFits tag ⌝ }
-    ensures { λ r. ⌜ FollowsBut (now (text .entry)) c (now (stack .entry)) (now (records .entry)) (λ room st. started (now (text .entry)) mapping index tag st) r (now (stack .exit)) (now (records .exit)) ⌝ }
+    ensures { λ r. ⌜ FollowsBut (now (text .entry)) c (now (stack .entry)) (now (records .entry))
+        (λ room st. onStart (now (text .entry)) mapping index tag st) r (now (stack .exit)) (now (records .exit)) ⌝ }
 {
     if root_done(c) {
         return Move::Stop(5);
@@ -115,7 +112,8 @@ fn on_end(
 ) -> Move
     requires { ⌜ Given (now text) ascii ⌝ }
     requires { ⌜ ReadyBut (now text) c (now stack) (now records) ⌝ }
-    ensures { λ r. ⌜ FollowsBut (now (text .entry)) c (now (stack .entry)) (now (records .entry)) (λ room st. closed (now (text .entry)) room mapping index (st .opens) st) r (now (stack .exit)) (now (records .exit)) ⌝ }
+    ensures { λ r. ⌜ FollowsBut (now (text .entry)) c (now (stack .entry)) (now (records .entry))
+        (λ room st. onEnd (now (text .entry)) room mapping index (st .opens) st) r (now (stack .exit)) (now (records .exit)) ⌝ }
 {
     let nodes = c.nodes;
     let depth = c.depth;
@@ -151,7 +149,7 @@ fn on_alias(
 ) -> Move
     requires { ⌜ Given (now text) ascii ⌝ }
     requires { ⌜ ReadyBut (now text) c (now stack) (now records) ⌝ }
-    ensures { λ r. ⌜ FollowsBut (now (text .entry)) c (now (stack .entry)) (now (records .entry)) (λ room st. aliased (now (text .entry)) room index st) r (now (stack .exit)) (now (records .exit)) ⌝ }
+    ensures { λ r. ⌜ FollowsBut (now (text .entry)) c (now (stack .entry)) (now (records .entry)) (λ room st. onAlias (now (text .entry)) room index st) r (now (stack .exit)) (now (records .exit)) ⌝ }
 {
     if root_done(c) {
         return Move::Stop(5);
@@ -183,43 +181,31 @@ fn on_alias(
     Move::Go(push_complete(stack, records, moved, x))
 }
 
-// The scalar `x` is walked into the free part of the pieces, and is complete.
-fn keep_scalar(
-    text: &[u8],
-    stack: &mut [u32],
-    records: &mut [u32],
-    pieces: &mut [u32],
-    c: Counts,
-    x: Node,
-    value: &[u8],
-    style: u8,
-    column: u32,
-) -> Move
-    requires { ⌜ Ready (now text) c (now stack) (now records) (now pieces) ⌝ }
-    requires { ⌜ c .nodes < length (now records) / 12 ⌝ }
-    requires { ⌜ (length (now text) ≤ 1048576) × (length (now value) ≤ 1048576) ⌝ }
-    requires { ⌜ Boundary (now text) (x .extent .start) ⌝ }
-    requires { ⌜ (x .extent .start ≤ x .extent .end) × (x .extent .end ≤ length (now text)) ⌝ }
-    ensures { λ r. ⌜ Follows (now (text .entry)) c (now (stack .entry)) (now (records .entry)) (now (pieces .entry)) (λ room pieceRoom st. keeping pieceRoom x (listAt (now (text .entry)) (x .extent .start) (x .extent .end - x .extent .start) (now (value .entry)) style column) st) r (now (stack .exit)) (now (records .exit)) (now (pieces .exit)) ⌝ }
+// The scalar `x`, whose pieces its walk has left in the free part of their buffer, is complete, or has no room.
+fn keep_scalar(stack: &mut [u32], records: &mut [u32], c: Counts, x: Entry) -> Move
+    requires { ⌜ Pushable c (now stack) (now records) ⌝ }
+    requires { ⌜ Counted (c .used) (x .walked) ⌝ }
+    ensures { λ r. ⌜ Keeps c x (now (stack .entry)) (now (records .entry)) r (now (stack .exit)) (now (records .exit)) ⌝ }
 {
-    let nodes = c.nodes;
-    let depth = c.depth;
-    let used = c.used;
-    let cursor = c.cursor;
-    let start = x.extent.start as usize;
-    let len = x.extent.end as usize - start;
-    let free = PIECE_WIDTH * used;
-    match walk_scalar(text, start, len, value, style, column, &mut pieces[free..]) {
+    let walked = x.walked;
+    match walked {
         Walked::NoRoom => Move::Stop(8),
-        Walked::NoList => Move::Go(push_complete(stack, records, c, x)),
+        Walked::NoList => Move::Go(push_complete(stack, records, c, x.node)),
         Walked::Listed(n) => {
+            let used = c.used;
+            let cursor = c.cursor;
             let kept = Counts {
-                nodes,
-                depth,
+                nodes: c.nodes,
+                depth: c.depth,
                 used: used + n,
                 cursor,
             };
-            Move::Go(push_complete(stack, records, kept, with_list(x, used as u32, n as u32)))
+            Move::Go(push_complete(
+                stack,
+                records,
+                kept,
+                with_list(x.node, used as u32, n as u32),
+            ))
         }
     }
 }
@@ -233,18 +219,13 @@ fn on_scalar(
     records: &mut [u32],
     pieces: &mut [u32],
     c: Counts,
-    index: u32,
-    column: u32,
-    style: u8,
-    empty: bool,
-    tag: YamlTag,
-    value: Part,
+    e: ScalarEvent,
 ) -> Move
     requires { ⌜ Given (now text) ascii ⌝ }
     requires { ⌜ Ready (now text) c (now stack) (now records) (now pieces) ⌝ }
-    requires { ⌜ ReadTag (now events) tag ⌝ }
-    requires { ⌜ ReadValue (now events) value ⌝ }
-    ensures { λ r. ⌜ Follows (now (text .entry)) c (now (stack .entry)) (now (records .entry)) (now (pieces .entry)) (λ room pieceRoom st. scalared (now (text .entry)) (now (events .entry)) room pieceRoom index column style empty tag value st) r (now (stack .exit)) (now (records .exit)) (now (pieces .exit)) ⌝ }
+    requires { ⌜ EventFits (now events) e ⌝ }
+    ensures { λ r. ⌜ Follows (now (text .entry)) c (now (stack .entry)) (now (records .entry)) (now (pieces .entry))
+        (λ room pieceRoom st. onScalar (now (text .entry)) (now (events .entry)) room pieceRoom e st) r (now (stack .exit)) (now (records .exit)) (now (pieces .exit)) ⌝ }
 {
     if root_done(c) {
         return Move::Stop(5);
@@ -254,41 +235,17 @@ fn on_scalar(
     if records.len() / RECORD_WIDTH <= nodes {
         return Move::Stop(7);
     }
-    let cursor = byte_offset_of_char(text, ascii, c.cursor, index as usize);
-    let at = value.at;
-    let end = at + value.len;
+    let cursor = byte_offset_of_char(text, ascii, c.cursor, e.mark.index as usize);
     let awaited = expecting_value(stack, depth);
-    let start = scalar_start(text, cursor.offset, &events[at..end], style, awaited);
-    let info = tag_info(text, start, suffix_of(tag));
-    let resolved = resolve(events, &events[at..end], style, tag);
-    let x = scalar_node(
-        text,
-        start,
-        &events[at..end],
-        at as u32,
-        style,
-        empty,
-        column,
-        info,
-        resolved,
-    );
+    let free = PIECE_WIDTH * c.used;
+    let x = event_scalar(text, events, cursor.offset, awaited, e, &mut pieces[free..]);
     let moved = Counts {
         nodes,
         depth,
         used: c.used,
         cursor,
     };
-    keep_scalar(
-        text,
-        stack,
-        records,
-        pieces,
-        moved,
-        x,
-        &events[at..end],
-        style,
-        column,
-    )
+    keep_scalar(stack, records, moved, x)
 }
 
 // One event: the next counts, or the number of the row that refuses it.
@@ -305,7 +262,8 @@ pub fn on_event(
     requires { ⌜ Given (now text) ascii ⌝ }
     requires { ⌜ Ready (now text) c (now stack) (now records) (now pieces) ⌝ }
     requires { ⌜ Read (now events) e ⌝ }
-    ensures { λ r. ⌜ Follows (now (text .entry)) c (now (stack .entry)) (now (records .entry)) (now (pieces .entry)) (λ room pieceRoom st. step (now (text .entry)) (now (events .entry)) room pieceRoom e st) r (now (stack .exit)) (now (records .exit)) (now (pieces .exit)) ⌝ }
+    ensures { λ r. ⌜ Follows (now (text .entry)) c (now (stack .entry)) (now (records .entry)) (now (pieces .entry))
+        (λ room pieceRoom st. onEvent (now (text .entry)) (now (events .entry)) room pieceRoom e st) r (now (stack .exit)) (now (records .exit)) (now (pieces .exit)) ⌝ }
 {
     match e {
         Event::SequenceStart {
@@ -337,6 +295,12 @@ pub fn on_event(
             value,
             next: _,
         } => {
+            let mark = ScalarMark {
+                index,
+                column,
+                style,
+                empty: empty_span,
+            };
             on_scalar(
                 text,
                 ascii,
@@ -345,12 +309,7 @@ pub fn on_event(
                 records,
                 pieces,
                 c,
-                index,
-                column,
-                style,
-                empty_span,
-                tag,
-                value,
+                ScalarEvent { mark, tag, value },
             )
         }
         Event::Alias { index, next: _ } => on_alias(text, ascii, stack, records, c, index),

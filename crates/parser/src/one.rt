@@ -1,27 +1,31 @@
 // The call on one scalar. (01: the table's last lines; RS, RZ, B1.)
 ghost use mathlib.Core.Path.{_≡_};
 ghost use Prim.Native.Nat.{_≤_};
-ghost use lib.ListN.{length, replicate};
-ghost use Rattle.text.specs.Offset.{isAscii};
-ghost use Rattle.text.specs.AdmissionLaws.{Sound};
-ghost use Rattle.parser.specs.Record.{zeroNode};
-ghost use Rattle.parser.specs.Call.{oneScalar, readingScalar, PromisedScalar};
+ghost use lib.ListN.{length};
+ghost use Rattle.text.specs.AdmissionLaws.{AdmittedText};
+ghost use Rattle.provenance.specs.Layout.{zeros};
+ghost use Rattle.records.specs.Record.{zeroNode};
+ghost use Rattle.records.specs.Layout.{piecesLimit};
+ghost use Rattle.spans.specs.Scalar.{mark};
+ghost use Rattle.parser.specs.Call.{oneScalar, DeliveredScalar, PromisedScalar};
+ghost use Rattle.parser.specs.Held.{Given, Counted, aloneAnswer};
 ghost use Rattle.parser.specs.declared.answer.Answer.the-variants.{Refused};
 use crate::answer::Answer;
-use crate::buffer::clear;
-use crate::buffer::usable;
-use crate::record::Extent;
-use crate::record::NO_TAG;
-use crate::record::Node;
-use crate::record::PieceList;
-use crate::record::TagInfo;
-use crate::record::with_list;
-use crate::scalar::scalar_node;
-use crate::scalar::walk_scalar;
 use measure::scalar::FOLDED;
 use provenance::walk::Walked;
+use provenance::write::clear;
+use records::buffer::usable;
+use records::record::Extent;
+use records::record::NO_TAG;
+use records::record::Node;
+use records::record::PieceList;
+use records::record::TagInfo;
+use records::record::with_list;
 use schema::record::Payload;
 use schema::tag::resolve_scalar;
+use spans::scalar::Entry;
+use spans::scalar::ScalarMark;
+use spans::scalar::walk_scalar;
 use text::admission::Admission;
 use text::admission::admit_text_and_value;
 use text::offset::START;
@@ -59,62 +63,54 @@ fn refused(number: u32) -> ScalarAnswer
     }
 }
 
-// One scalar of an admitted text, its value admitted too, into a buffer that is zero.
-fn one_scalar(
-    text: &[u8],
-    ascii: bool,
-    index: u32,
-    column: u32,
-    style: u8,
-    empty: bool,
-    value: &[u8],
-    pieces: &mut [u32],
-) -> ScalarAnswer
-    requires { ⌜ Sound (now text) ⌝ }
-    requires { ⌜ Sound (now value) ⌝ }
-    requires { ⌜ ascii ≡ isAscii (now text) ⌝ }
-    requires { ⌜ (now pieces ≡ replicate (length (now pieces)) 0) × (length (now pieces) ≤ 17179869176) ⌝ }
-    ensures { λ r. ⌜ PromisedScalar (length (now (pieces .entry))) (oneScalar (now (text .entry)) index column style empty (now (value .entry)) (length (now (pieces .entry)))) r (now (pieces .exit)) ⌝ }
+// What the call on the scalar `x` answers, by its walk.
+fn alone(x: Entry) -> ScalarAnswer
+    requires { ⌜ Counted 0 (x .walked) ⌝ }
+    ensures { λ r. ⌜ r ≡ aloneAnswer x ⌝ }
 {
-    if FOLDED < style {
-        return refused(3);
-    }
-    let cursor = byte_offset_of_char(text, ascii, START, index as usize);
-    let start = cursor.offset;
-    let resolved = resolve_scalar(value, style, false, b"", b"");
-    let x = scalar_node(
-        text,
-        start,
-        value,
-        0,
-        style,
-        empty,
-        column,
-        NO_TAG,
-        resolved,
-    );
-    let len = x.extent.end as usize - start;
-    match walk_scalar(text, start, len, value, style, column, pieces) {
+    let node = x.node;
+    let walked = x.walked;
+    match walked {
         Walked::NoRoom => refused(8),
         Walked::NoList => ScalarAnswer {
             answer: Answer::Built {
                 nodes: 1,
                 pieces: 0,
             },
-            node: x,
+            node,
         },
         Walked::Listed(n) => ScalarAnswer {
             answer: Answer::Built {
                 nodes: 1,
                 pieces: n,
             },
-            node: with_list(x, 0, n as u32),
+            node: with_list(node, 0, n as u32),
         },
     }
 }
 
+// One scalar of an admitted text, its value admitted too, into a buffer that is zero.
+fn one_scalar(
+    text: &[u8],
+    ascii: bool,
+    m: ScalarMark,
+    value: &[u8],
+    pieces: &mut [u32],
+) -> ScalarAnswer
+    requires { ⌜ Given (now text) ascii × AdmittedText (now value) ⌝ }
+    requires { ⌜ (now pieces ≡ zeros (length (now pieces))) × (length (now pieces) ≤ piecesLimit) ⌝ }
+    ensures { λ r. ⌜ DeliveredScalar (length (now (pieces .entry))) (oneScalar (now (text .entry)) m (now (value .entry)) (length (now (pieces .entry)))) r (now (pieces .exit)) ⌝ }
+{
+    if FOLDED < m.style {
+        return refused(3);
+    }
+    let cursor = byte_offset_of_char(text, ascii, START, m.index as usize);
+    let resolved = resolve_scalar(value, m.style, false, b"", b"");
+    alone(walk_scalar(text, cursor.offset, m, value, 0, NO_TAG, resolved, pieces))
+}
+
 // One scalar, given as its event would give it: it awaits nothing, has no tag, and its value has the place 0. What it answers, the record
-// and every number of the buffer afterwards is `readingScalar`; on a refusal they are all zero.
+// and every number of the buffer afterwards is `scalarCall`; on a refusal they are all zero.
 pub fn scalar(
     text: &[u8],
     index: u32,
@@ -124,7 +120,7 @@ pub fn scalar(
     value: &[u8],
     pieces: &mut [u32],
 ) -> ScalarAnswer
-    ensures { λ r. ⌜ PromisedScalar (length (now (pieces .entry))) (readingScalar (now (text .entry)) index column style empty (now (value .entry)) (length (now (pieces .entry)))) r (now (pieces .exit)) ⌝ }
+    ensures { λ r. ⌜ PromisedScalar (now (text .entry)) (mark index column style empty) (now (value .entry)) (now (pieces .entry)) r (now (pieces .exit)) ⌝ }
 {
     clear(pieces);
     match admit_text_and_value(text, value) {
@@ -132,16 +128,13 @@ pub fn scalar(
         Admission::NotUtf8 => refused(2),
         Admission::Admitted { ascii } => {
             let n = usable(pieces.len());
-            one_scalar(
-                text,
-                ascii,
+            let m = ScalarMark {
                 index,
                 column,
                 style,
                 empty,
-                value,
-                &mut pieces[..n],
-            )
+            };
+            one_scalar(text, ascii, m, value, &mut pieces[..n])
         }
     }
 }

@@ -5,10 +5,12 @@ ghost use Prim.Native.Nat.{_+_, _-_, _*_, _≤_, _<_};
 ghost use lib.Dec.{eqb};
 ghost use lib.ListN.{length};
 ghost use lib.Seq.{sets};
-ghost use Rattle.parser.specs.Collection.{withChild, awaitsValue};
-ghost use Rattle.parser.specs.Held.{suffixAt, suffixPlace, suffixLen, frame, frameNumbers, openOf, Countable};
-use crate::buffer::put;
-use crate::record::ABSENT;
+ghost use Rattle.spans.specs.Collection.{withChild, awaitsValue};
+ghost use Rattle.parser.specs.Held.{frameWidth, suffixAt, suffixPlace, suffixLen, frame, frameNumbers, openOf, Countable};
+use records::buffer::put;
+use records::record::ABSENT;
+use spans::open::Open;
+use spans::open::Suffix;
 
 // How many collections may be open.
 pub const DEPTH_LIMIT: usize = 64;
@@ -17,26 +19,6 @@ pub const DEPTH_LIMIT: usize = 64;
 const FRAME_WIDTH: usize = 7;
 
 pub const STACK_SIZE: usize = 448;
-
-// The suffix of a collection's tag: its place in the event bytes and its length.
-pub enum Suffix {
-    Absent,
-    At { place: u32, len: u32 },
-}
-
-// An open collection.
-pub struct Open {
-    pub mapping: bool,
-    // The offset of its start's marker.
-    pub start: u32,
-    pub suffix: Suffix,
-    // Nodes completed directly under it.
-    pub children: u32,
-    // Where the first of them starts.
-    pub first: u32,
-    // Nodes completed before it was opened.
-    pub before: u32,
-}
 
 fn suffix_at(place: u32, len: u32) -> Suffix
     ensures { λ r. ⌜ r ≡ suffixAt place len ⌝ }
@@ -68,8 +50,8 @@ fn suffix_len(suffix: Suffix) -> u32
 // The innermost of `depth` open collections.
 pub fn innermost(stack: &[u32], depth: usize) -> Open
     requires { ⌜ 0 < depth ⌝ }
-    requires { ⌜ 7 * depth ≤ length (now stack) ⌝ }
-    ensures { λ r. ⌜ r ≡ frame (now (stack .entry)) (7 * (depth - 1)) ⌝ }
+    requires { ⌜ frameWidth * depth ≤ length (now stack) ⌝ }
+    ensures { λ r. ⌜ r ≡ frame (now (stack .entry)) (frameWidth * (depth - 1)) ⌝ }
 {
     let k = FRAME_WIDTH * (depth - 1);
     Open {
@@ -84,8 +66,8 @@ pub fn innermost(stack: &[u32], depth: usize) -> Open
 
 // `o` is opened inside `depth` others.
 pub fn push_open(stack: &mut [u32], depth: usize, o: Open)
-    requires { ⌜ 7 * depth + 7 ≤ length (now stack) ⌝ }
-    ensures { λ _. ⌜ now (stack .exit) ≡ sets (now (stack .entry)) (7 * depth) (frameNumbers o) ⌝ }
+    requires { ⌜ frameWidth * depth + frameWidth ≤ length (now stack) ⌝ }
+    ensures { λ _. ⌜ now (stack .exit) ≡ sets (now (stack .entry)) (frameWidth * depth) (frameNumbers o) ⌝ }
 {
     let suffix = o.suffix;
     put(
@@ -105,7 +87,7 @@ pub fn push_open(stack: &mut [u32], depth: usize, o: Open)
 
 // Whether the next node is the value of the innermost mapping's last key.
 pub fn expecting_value(stack: &[u32], depth: usize) -> bool
-    requires { ⌜ 7 * depth ≤ length (now stack) ⌝ }
+    requires { ⌜ frameWidth * depth ≤ length (now stack) ⌝ }
     ensures { λ r. ⌜ r ≡ awaitsValue (openOf depth (now (stack .entry))) ⌝ }
 {
     if depth == 0 {
@@ -130,7 +112,7 @@ fn first_child(children: u32, first: u32, start: u32) -> u32
 
 // The innermost of `depth` open collections, if there is one, has a child more, which starts at `start`.
 pub fn add_child(stack: &mut [u32], depth: usize, start: u32)
-    requires { ⌜ 7 * depth ≤ length (now stack) ⌝ }
+    requires { ⌜ frameWidth * depth ≤ length (now stack) ⌝ }
     requires { ⌜ Countable depth (now stack) ⌝ }
     ensures { λ _. ⌜ openOf depth (now (stack .exit)) ≡ withChild start (openOf depth (now (stack .entry))) ⌝ }
 {

@@ -1,4 +1,4 @@
--- Escapes, as the code tells them. Assumes nothing.
+-- Escapes, as the code tells them.
 use mathlib.Core.Path.{_≡_, refl, ap, _∙_}
 use mathlib.Core.Bool.{true, false}
 use mathlib.Core.List.{List, [], _∷_}
@@ -9,12 +9,13 @@ use native.Mathlib.Omega.{arith}
 use lib.ListN.{length, take, drop, getD, drop-of-length-le}
 use lib.Seq.{drop-cons, getD-drop}
 use borrow.Author.Tests.{eq-eqb, ne-eqb}
-use Rattle.text.specs.Class.{isHexDigit}
+use Rattle.utf8.specs.Class.{isHexDigit}
 use Rattle.measure.specs.Scalar.{singleQuoted, doubleQuoted}
 use Rattle.provenance.specs.declared.escape.Escape.{Escape}
 use Rattle.provenance.specs.declared.escape.Escape.the-variants.{Takes, NoEscape}
-use Rattle.provenance.specs.Run.{newline, carriageReturn, whiteRun}
-use Rattle.provenance.specs.Escape.{quote, backslash, plus, digitValue, digitsFrom, digits, radix16, codeContent, singleQuoteEscapes, isOneOf, oneByteEscapes, backslashEscape, doubleQuoteEscapes, escapesOf}
+use Rattle.provenance.specs.Run.{whiteRun}
+use Rattle.utf8.specs.Ascii.{newline, carriageReturn, singleQuote, backslash}
+use Rattle.provenance.specs.Escape.{plus, hexValue, digitsFrom, digits, radix16, codeContent, singleQuoteEscapes, isOneOf, oneByteEscapes, backslashEscape, doubleQuoteEscapes, escapesOf}
 use Rattle.provenance.specs.EscapeLaws.{digit-small}
 
 -- ---- a search
@@ -33,7 +34,7 @@ one-none l i c h = rw (drop-of-length-le l h)
 
 -- ---- digits
 
-pub digits-more : (l : List ℕ) (i n : ℕ) → i < length l → isHexDigit (getD l i 0) ≡ true → digitsFrom n (drop i l) ≡ digitsFrom (n * 16 + digitValue (getD l i 0)) (drop (i + 1) l)
+pub digits-more : (l : List ℕ) (i n : ℕ) → i < length l → isHexDigit (getD l i 0) ≡ true → digitsFrom n (drop i l) ≡ digitsFrom (n * 16 + hexValue (getD l i 0)) (drop (i + 1) l)
 unfolding digitsFrom
 digits-more l i n h e = rw (add-one i, drop-cons l i 0 h, e)
 
@@ -67,20 +68,20 @@ unfolding radix16 digits
 radix-bare [] e = refl
 radix-bare (b ∷ bs) e = rw (ne-eqb b plus e)
 
-pub value-small : (b n : ℕ) → isHexDigit b ≡ true → n ≡ digitValue b → n < 16
-value-small b n h e = let p : digitValue b < 16 = digit-small b h in omega arith
+pub value-small : (b n : ℕ) → isHexDigit b ≡ true → n ≡ hexValue b → n < 16
+value-small b n h e = let p : hexValue b < 16 = digit-small b h in omega arith
 
 -- ---- in single quotes
 module _ (l : List ℕ) where
-  pub one-quote : (getD l 0 0 ≡ quote → ⊥) → NoEscape ≡ singleQuoteEscapes l
+  pub one-quote : (getD l 0 0 ≡ singleQuote → ⊥) → NoEscape ≡ singleQuoteEscapes l
   unfolding singleQuoteEscapes
   one-quote n = rw (ne-eqb _ _ n)
 
-  pub quote-alone : getD l 0 0 ≡ quote → (getD l 1 0 ≡ quote → ⊥) → NoEscape ≡ singleQuoteEscapes l
+  pub quote-alone : getD l 0 0 ≡ singleQuote → (getD l 1 0 ≡ singleQuote → ⊥) → NoEscape ≡ singleQuoteEscapes l
   unfolding singleQuoteEscapes
   quote-alone e n = rw (eq-eqb _ _ e, ne-eqb _ _ n)
 
-  pub two-quotes : getD l 0 0 ≡ quote → getD l 1 0 ≡ quote → Takes 2 1 ≡ singleQuoteEscapes l
+  pub two-quotes : getD l 0 0 ≡ singleQuote → getD l 1 0 ≡ singleQuote → Takes 2 1 ≡ singleQuoteEscapes l
   unfolding singleQuoteEscapes
   two-quotes e f = rw (eq-eqb _ _ e, eq-eqb _ _ f)
 

@@ -1,6 +1,4 @@
 -- Lemmas that serve several functions, by subject.
--- the parts that are handed on
-pub mod Parts
 -- runs, as the loops go through them
 pub mod Runs
 -- escapes, as the code tells them

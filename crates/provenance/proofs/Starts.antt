@@ -1,11 +1,11 @@
--- Where the walk starts, as the code asks. Assumes nothing.
+-- Where the walk starts, as the code asks.
 use mathlib.Core.Path.{_≡_, sym, ap, _∙_}
 use mathlib.Core.Bool.{Bool, true, false, _&&_, cond}
 use mathlib.Core.List.{List}
 use Prim.Native.Nat.{ℕ, _+_}
 use lib.ListN.{length, drop, getD}
 use mathlib.Core.Option.{Option}
-use Rattle.text.specs.Boundary.{isBoundary}
+use Rattle.utf8.specs.Boundary.{isBoundary}
 use Rattle.provenance.specs.declared.walk.Walked.{Walked}
 use Rattle.provenance.specs.declared.walk.Walked.the-variants.{NoList}
 use Rattle.provenance.specs.Run.{onlyNewlines}

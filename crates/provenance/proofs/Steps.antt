@@ -1,4 +1,4 @@
--- The step that fits, as the code finds it. Assumes nothing.
+-- The step that fits, as the code finds it.
 use mathlib.Core.Path.{_≡_, refl, sym, ap, _∙_, subst}
 use mathlib.Core.Bool.{Bool, true, false, _&&_, _||_, cond}
 use mathlib.Core.List.{List, [], _∷_}
@@ -8,16 +8,18 @@ use lib.Dec.{ltb, eqb}
 use lib.ListN.{length, take, drop, getD, length-take, length-drop}
 use lib.Seq.{drop-drop, getD-drop}
 use borrow.Author.Tests.{lt-ltb, le-ltb, eq-eqb, ne-eqb}
-use Rattle.text.specs.Class.{isWhiteSpaceByte}
+use Rattle.utf8.specs.Ascii.{sameBytes, newline, carriageReturn}
+use Rattle.utf8.specs.Class.{isWhiteSpaceByte}
 use Rattle.provenance.specs.declared.run.Run.{Run}
 use Rattle.provenance.specs.declared.escape.Escape.{Escape}
 use Rattle.provenance.specs.declared.escape.Escape.the-variants.{Takes, NoEscape}
 use Rattle.provenance.specs.declared.step.Step.{Step}
 use Rattle.provenance.specs.declared.step.Step.the-variants.{Verbatim, Replacement, NoStep}
-use Rattle.provenance.specs.Run.{newline, carriageReturn, whiteRun, newlinesIn, throughLast, cut, blankRun, onlyNewlines, noRun, runOf, cutLen}
-use Rattle.provenance.specs.Grammar.{Rules, orElse, sameBytes, breakPair, startsBreak, isBreakByte, opensBreak, breakStep, asStep, escapeStep, equalStep, endStep, step}
+use Rattle.provenance.specs.Run.{whiteRun, newlinesIn, throughLast, cut, blankRun, onlyNewlines}
+use Rattle.provenance.specs.Counted.{noRun, countedRun, cutLen}
+use Rattle.provenance.specs.Grammar.{Rules, orElse, breakPair, startsBreak, isBreakByte, opensBreak, breakStep, asStep, escapeStep, equalStep, endStep, step}
 use Rattle.provenance.specs.Looked.{breakRun, Tells, knownAfter}
-use Rattle.text.specs.Tests.{clash, by-order}
+use Rattle.utf8.specs.Tests.{clash, by-order}
 use Rattle.provenance.specs.Tests.{by-test, by-answer, byte-past, and-no}
 use Rattle.provenance.specs.RunLaws.{run-within, cut-within, cut-numbers, cut-is, blanks-within, blanks-are, front-of, clear-inside}
 use Rattle.provenance.specs.StepLaws.{same-refl, same-true}
@@ -74,17 +76,17 @@ module _ (block : Bool) (src val : List ℕ) (s v known : ℕ) where
   unfolding breakRun
   run-closed h e = rw (le-ltb _ _ h, opens-here false e)
 
-  pub run-opened : known ≤ s → opensBreak block (getD src s 0) (getD val v 0) ≡ true → (run : Run) → run ≡ runOf (drop s src) → run ≡ Looked
+  pub run-opened : known ≤ s → opensBreak block (getD src s 0) (getD val v 0) ≡ true → (run : Run) → run ≡ countedRun (drop s src) → run ≡ Looked
   unfolding breakRun
   run-opened h e run q = rw (le-ltb _ _ h, opens-here true e) q
 
 -- the numbers of a run
-pub numbers-of : (run : Run) (l : List ℕ) → run ≡ runOf l → (run .len ≡ length (whiteRun l)) × (run .newlines ≡ newlinesIn (whiteRun l)) × (run .last ≡ throughLast (whiteRun l))
-unfolding runOf
+pub numbers-of : (run : Run) (l : List ℕ) → run ≡ countedRun l → (run .len ≡ length (whiteRun l)) × (run .newlines ≡ newlinesIn (whiteRun l)) × (run .last ≡ throughLast (whiteRun l))
+unfolding countedRun
 numbers-of run l e = (ap (λ (x : Run). x .len) e, ap (λ (x : Run). x .newlines) e, ap (λ (x : Run). x .last) e)
 
 -- what step 1 looks at is nothing, or the run that stands there
-looks-at : {X : Type 0} (block : Bool) (src val : List ℕ) (run : Run) → run ≡ breakRun block src val → (run ≡ noRun → X) → (opensBreak block (getD src 0 0) (getD val 0 0) ≡ true → run ≡ runOf src → X) → X
+looks-at : {X : Type 0} (block : Bool) (src val : List ℕ) (run : Run) → run ≡ breakRun block src val → (run ≡ noRun → X) → (opensBreak block (getD src 0 0) (getD val 0 0) ≡ true → run ≡ countedRun src → X) → X
 unfolding breakRun
 looks-at block src val run e f g =
     by-answer (opensBreak block (getD src 0 0) (getD val 0 0))
@@ -93,7 +95,7 @@ looks-at block src val run e f g =
 
 -- a run with newlines was found, and stands there
 pub found : (block : Bool) (src val : List ℕ) (run : Run) → run ≡ breakRun block src val → 0 < run .newlines
-    → (opensBreak block (getD src 0 0) (getD val 0 0) ≡ true) × (run ≡ runOf src)
+    → (opensBreak block (getD src 0 0) (getD val 0 0) ≡ true) × (run ≡ countedRun src)
 found block src val run e h =
     looks-at block src val run e
     (λ z. let q : run .newlines ≡ 0 = ap (λ (x : Run). x .newlines) z in absurd (omega arith))
@@ -108,11 +110,11 @@ found-inside block src val s run e h =
 -- ---- step 1
 
 -- how many bytes the two sides have
-pub cut-of : (block : Bool) (column : ℕ) (run : Run) (l : List ℕ) (a : ℕ) → a ≡ cutLen block column run → run ≡ runOf l → a ≡ length (cut block column (whiteRun l))
-unfolding runOf
+pub cut-of : (block : Bool) (column : ℕ) (run : Run) (l : List ℕ) (a : ℕ) → a ≡ cutLen block column run → run ≡ countedRun l → a ≡ length (cut block column (whiteRun l))
+unfolding countedRun
 cut-of block column run l a e q = e ∙ ap (λ (x : Run). cutLen block column x) q ∙ cut-numbers block column (whiteRun l)
 
-pub blanks-of : (run : Run) (l val : List ℕ) (b : ℕ) → b ≡ min (run .newlines) (length (blankRun val)) → run ≡ runOf l → b ≡ length (take (newlinesIn (whiteRun l)) (blankRun val))
+pub blanks-of : (run : Run) (l val : List ℕ) (b : ℕ) → b ≡ min (run .newlines) (length (blankRun val)) → run ≡ countedRun l → b ≡ length (take (newlinesIn (whiteRun l)) (blankRun val))
 blanks-of run l val b e q = e ∙ ap (λ (k : ℕ). min k (length (blankRun val))) (numbers-of run l q .1) ∙ sym (length-take (newlinesIn (whiteRun l)) (blankRun val))
 
 pub cut-inside : (block : Bool) (column : ℕ) (l : List ℕ) → length (cut block column (whiteRun l)) ≤ length l
@@ -165,7 +167,7 @@ module _ (r : Rules) (src val : List ℕ) where
 
   module _ (z : breakRun (r .block) src val .newlines ≡ 0) where
     break-falls : breakStep r src val ≡ NoStep
-    unfolding breakStep breakRun runOf
+    unfolding breakStep breakRun countedRun
     break-falls =
         by-answer (opensBreak (r .block) (getD src 0 0) (getD val 0 0))
         (λ o. let q = rw o at z in let w : newlinesIn (whiteRun src) ≤ 0 = omega arith in rw (o, le-ltb 0 _ w))
@@ -217,7 +219,7 @@ Clear src s known = (i : ℕ) → s ≤ i → i < known → newlinesIn (whiteRun
 module _ (block : Bool) (src val : List ℕ) (s v known : ℕ) (clear : Clear src s known) (run : Run)
     (e : run ≡ cond (ltb s known) noRun (breakRun block (drop s src) (drop v val))) where
   pub tells : Tells run block (drop s src) (drop v val)
-  unfolding breakRun runOf
+  unfolding breakRun countedRun
   tells =
       by-order s known
       (λ lt.
@@ -226,7 +228,7 @@ module _ (block : Bool) (src val : List ℕ) (s v known : ℕ) (clear : Clear sr
       record {
         fits = λ h. absurd (omega arith);
         falls = λ _.
-            by-test (λ (t : Bool). cond t (runOf (drop s src)) noRun .newlines ≡ 0) (opensBreak block (getD (drop s src) 0 0) (getD (drop v val) 0 0))
+            by-test (λ (t : Bool). cond t (countedRun (drop s src)) noRun .newlines ≡ 0) (opensBreak block (getD (drop s src) 0 0) (getD (drop v val) 0 0))
             (clear s (omega arith) lt) refl;
       })
       (λ le.

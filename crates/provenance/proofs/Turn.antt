@@ -1,4 +1,4 @@
--- A turn of the walk's loop, on plain values, over any fair step function. Assumes nothing.
+-- A turn of the walk's loop, on plain values, over any fair step function.
 use mathlib.Core.Bool.{cond}
 use mathlib.Core.Path.{_≡_, refl, sym, ap, _∙_, subst}
 use mathlib.Core.Logic.{⊎-elim}
@@ -12,18 +12,19 @@ use lib.Seq.{set-at, drop-at}
 use borrow.Author.Tests.{lt-ltb, le-ltb}
 use Rattle.provenance.specs.declared.step.Step.{Step}
 use Rattle.provenance.specs.declared.step.Step.the-variants.{Verbatim, Replacement, NoStep}
-use Rattle.provenance.specs.Reading.{Reads, sourceLen, contentLen, Piece, piece, verbatim, replacement}
-use Rattle.provenance.specs.Layout.{pieceSize, room, zeros, numbers, filled}
+use Rattle.provenance.specs.Reading.{IsReading, sourceLen, contentLen, Piece, piece, verbatim, replacement}
+use Rattle.provenance.specs.Layout.{zeros, flat, laidBy, pieceWidth, pieceNumbers, laidPieces, room}
 use Rattle.provenance.specs.Writing.{fourAt, putPiece, putOpen, countOpen, putReplacement, clearedTo, writtenLen}
-use Rattle.text.specs.Tests.{by-order}
-use Rattle.provenance.specs.Escape.{Reach}
+use Rattle.utf8.specs.Tests.{by-order}
+use Rattle.provenance.specs.Escape.{EscapeReach}
 use Rattle.provenance.specs.StepLaws.{Fair}
-use Rattle.provenance.specs.PieceLaws.{closed, laid}
+use Rattle.provenance.specs.PieceLaws.{closedRun, laid}
+use Rattle.provenance.specs.DemandLaws.{no-pieces}
 
 -- ---- the open run
 
 -- the run that is open in the source, closed in the text
-closed-at : (base from s : ℕ) → closed (base + from) (base + s) ≡ cond (ltb from s) (piece verbatim (base + from) (base + s) (s - from) ∷ []) []
+closed-at : (base from s : ℕ) → closedRun (base + from) (base + s) ≡ cond (ltb from s) (piece verbatim (base + from) (base + s) (s - from) ∷ []) []
 closed-at base from s =
     by-order from s
     (λ lt.
@@ -37,34 +38,24 @@ closed-at base from s =
 -- the pieces ps were written into a buffer of m numbers: as many as fit stand at its front, and all behind them is zero
 pub record Kept (m : ℕ) (ps : List Piece) (buf : List ℕ) : Type 0 where
   pub size : length buf ≡ m
-  pub kept : length ps * pieceSize ≤ m → buf ≡ filled m ps
+  pub kept : pieceWidth * length ps ≤ m → buf ≡ laidPieces m ps
   pub behind : drop (writtenLen (length ps) m) buf ≡ zeros (m - writtenLen (length ps) m)
 
-pub numbers-length : (ps : List Piece) → length (numbers ps) ≡ length ps * pieceSize
-unfolding numbers
+pub numbers-length : (ps : List Piece) → length (flat pieceNumbers ps) ≡ pieceWidth * length ps
 numbers-length [] = refl
 numbers-length (p ∷ ps) = let i = numbers-length ps in omega arith
 
-numbers-append : (ps qs : List Piece) → numbers (ps ++ qs) ≡ numbers ps ++ numbers qs
-unfolding numbers
+numbers-append : (ps qs : List Piece) → flat pieceNumbers (ps ++ qs) ≡ flat pieceNumbers ps ++ flat pieceNumbers qs
 numbers-append [] qs = refl
-numbers-append (p ∷ ps) qs = ap (λ (l : List ℕ). p .kind ∷ p .start ∷ p .end ∷ p .content ∷ l) (numbers-append ps qs)
-
-numbers-one : (p : Piece) → numbers (p ∷ []) ≡ p .kind ∷ p .start ∷ p .end ∷ p .content ∷ []
-unfolding numbers
-numbers-one p = refl
-
-numbers-none : numbers [] ≡ []
-unfolding numbers
-numbers-none = refl
+numbers-append (p ∷ ps) qs = ap (λ (l : List ℕ). pieceNumbers p ++ l) (numbers-append ps qs)
 
 -- what fits needs no more numbers than there are, and what does not fit fills the room
-written-fits : (n m : ℕ) → n * pieceSize ≤ m → writtenLen n m ≡ n * pieceSize
+written-fits : (n m : ℕ) → pieceWidth * n ≤ m → writtenLen n m ≡ pieceWidth * n
 unfolding writtenLen
 written-fits n m h =
-    by-order n (room m) (λ lt. rw (lt-ltb _ _ lt)) (λ le. let e : room m ≡ n = omega arith in rw (le-ltb _ _ le) (ap (λ (k : ℕ). k * pieceSize) e))
+    by-order n (room m) (λ lt. rw (lt-ltb _ _ lt)) (λ le. let e : room m ≡ n = omega arith in rw (le-ltb _ _ le) (ap (λ (k : ℕ). pieceWidth * k) e))
 
-written-full : (n m : ℕ) → room m ≤ n → writtenLen n m ≡ room m * pieceSize
+written-full : (n m : ℕ) → room m ≤ n → writtenLen n m ≡ pieceWidth * room m
 unfolding writtenLen
 written-full n m h = rw (le-ltb _ _ h)
 
@@ -75,10 +66,11 @@ written-within n m = by-order n (room m) (λ lt. rw (lt-ltb _ _ lt) (omega arith
 pub within-of : (k n m : ℕ) → k ≡ writtenLen n m → k ≤ m
 within-of k n m e = let w = written-within n m in omega arith
 
-filled-behind : (m : ℕ) (ps : List Piece) (buf : List ℕ) → length ps * pieceSize ≤ m → buf ≡ filled m ps
+filled-behind : (m : ℕ) (ps : List Piece) (buf : List ℕ) → pieceWidth * length ps ≤ m → buf ≡ laidPieces m ps
     → drop (writtenLen (length ps) m) buf ≡ zeros (m - writtenLen (length ps) m)
+unfolding laidBy
 filled-behind m ps buf h e =
-    rw (written-fits (length ps) m h, e) (drop-at (numbers ps) (zeros (m - length ps * pieceSize)) (length ps * pieceSize) (numbers-length ps))
+    rw (written-fits (length ps) m h, e) (drop-at (flat pieceNumbers ps) (zeros (m - pieceWidth * length ps)) (pieceWidth * length ps) (numbers-length ps))
 
 set-after : (xs pre : List ℕ) (y : ℕ) (ys : List ℕ) (a n : ℕ) → length xs + length pre ≡ n → set (xs ++ (pre ++ y ∷ ys)) n a ≡ xs ++ (pre ++ a ∷ ys)
 set-after xs pre y ys a n h =
@@ -98,17 +90,17 @@ four-after xs zs i p h =
 zeros-four : (r : ℕ) → zeros (4 + r) ≡ 0 ∷ 0 ∷ 0 ∷ 0 ∷ zeros r
 zeros-four r = let e : 4 + r ≡ suc (suc (suc (suc r))) = omega arith in ap (λ (k : ℕ). zeros k) e
 
-put-fits : (m : ℕ) (ps : List Piece) (buf : List ℕ) (p : Piece) → length ps * 4 + 4 ≤ m → buf ≡ filled m ps → fourAt buf (length ps * pieceSize) p ≡ filled m (ps ++ (p ∷ []))
+put-fits : (m : ℕ) (ps : List Piece) (buf : List ℕ) (p : Piece) → 4 * length ps + 4 ≤ m → buf ≡ laidPieces m ps → fourAt buf (pieceWidth * length ps) p ≡ laidPieces m (ps ++ (p ∷ []))
+unfolding laidBy
 put-fits m ps buf p fits h =
-    let r : ℕ = m - (length ps * 4 + 4) in
-    let e : m - length ps * pieceSize ≡ 4 + r = omega arith in
-    let e′ : m - length (ps ++ (p ∷ [])) * pieceSize ≡ r = (let q = length-append ps (p ∷ []) in omega arith) in
-    ap (λ (l : List ℕ). fourAt l (length ps * pieceSize) p) (h ∙ ap (λ (k : ℕ). numbers ps ++ zeros k) e ∙ ap (λ (l : List ℕ). numbers ps ++ l) (zeros-four r))
-    ∙ four-after (numbers ps) (zeros r) (length ps * pieceSize) p (numbers-length ps)
-    ∙ sym (append-assoc (numbers ps) (p .kind ∷ p .start ∷ p .end ∷ p .content ∷ []) (zeros r))
-    ∙ ap (λ (l : List ℕ). (numbers ps ++ l) ++ zeros r) (sym (numbers-one p))
+    let r : ℕ = m - (4 * length ps + 4) in
+    let e : m - pieceWidth * length ps ≡ 4 + r = omega arith in
+    let e′ : m - pieceWidth * length (ps ++ (p ∷ [])) ≡ r = (let q = length-append ps (p ∷ []) in omega arith) in
+    ap (λ (l : List ℕ). fourAt l (pieceWidth * length ps) p) (h ∙ ap (λ (k : ℕ). flat pieceNumbers ps ++ zeros k) e ∙ ap (λ (l : List ℕ). flat pieceNumbers ps ++ l) (zeros-four r))
+    ∙ four-after (flat pieceNumbers ps) (zeros r) (pieceWidth * length ps) p (numbers-length ps)
+    ∙ sym (append-assoc (flat pieceNumbers ps) (p .kind ∷ p .start ∷ p .end ∷ p .content ∷ []) (zeros r))
     ∙ ap (λ (l : List ℕ). l ++ zeros r) (sym (numbers-append ps (p ∷ [])))
-    ∙ ap (λ (k : ℕ). numbers (ps ++ (p ∷ [])) ++ zeros k) (sym e′)
+    ∙ ap (λ (k : ℕ). flat pieceNumbers (ps ++ (p ∷ [])) ++ zeros k) (sym e′)
 
 pub put-kept : (m : ℕ) (ps : List Piece) (buf : List ℕ) (p : Piece) → Kept m ps buf → Kept m (ps ++ (p ∷ [])) (putPiece buf (length ps) p)
 unfolding putPiece
@@ -117,8 +109,8 @@ put-kept m ps buf p h =
     let more = length-append ps (p ∷ []) in
     by-order (length ps) (room (length buf))
     (λ lt.
-    let fits : length ps * 4 + 4 ≤ m = omega arith in
-    let is : fourAt buf (length ps * pieceSize) p ≡ filled m (ps ++ (p ∷ [])) = put-fits m ps buf p fits (h .kept (omega arith)) in
+    let fits : 4 * length ps + 4 ≤ m = omega arith in
+    let is : fourAt buf (pieceWidth * length ps) p ≡ laidPieces m (ps ++ (p ∷ [])) = put-fits m ps buf p fits (h .kept (omega arith)) in
     rw (lt-ltb _ _ lt)
     (record {
       size = simp length-set (h .size);
@@ -135,7 +127,7 @@ put-kept m ps buf p h =
     }))
 
 open-kept : (m : ℕ) (ps : List Piece) (buf : List ℕ) (base from s : ℕ) → Kept m ps buf
-    → Kept m (ps ++ closed (base + from) (base + s)) (putOpen buf (length ps) base from s)
+    → Kept m (ps ++ closedRun (base + from) (base + s)) (putOpen buf (length ps) base from s)
 unfolding putOpen
 open-kept m ps buf base from s h =
     rw (closed-at base from s)
@@ -143,7 +135,7 @@ open-kept m ps buf base from s h =
     (λ lt. rw (lt-ltb _ _ lt) (put-kept m ps buf (piece verbatim (base + from) (base + s) (s - from)) h))
     (λ le. rw (le-ltb _ _ le) (rw append-nil h)))
 
-open-count : (ps : List Piece) (base from s : ℕ) → length (ps ++ closed (base + from) (base + s)) ≡ countOpen (length ps) from s
+open-count : (ps : List Piece) (base from s : ℕ) → length (ps ++ closedRun (base + from) (base + s)) ≡ countOpen (length ps) from s
 open-count ps base from s =
     rw (closed-at base from s)
     (by-order from s (λ lt. rw (lt-ltb _ _ lt) (length-append ps _)) (λ le. rw (le-ltb _ _ le) (rw append-nil)))
@@ -168,14 +160,14 @@ clear-all m ps buf k h e =
 
 -- ---- the walk
 
-module _ (reach : Reach) (at : ℕ → ℕ → Step) (L len base m : ℕ) where
+module _ (reach : EscapeReach) (at : ℕ → ℕ → Step) (L len base m : ℕ) where
   -- a reading from here on gives one from the start, and the other way round; its pieces are those written and those of the rest
   pub record Going (buf : List ℕ) (s v from n : ℕ) : Type 0 where
     pub written : List Piece
     pub count : length written ≡ n
     pub held : Kept m written buf
-    pub on : (ts : List Step) → Reads at len s v ts → (us : List Step) × Reads at len 0 0 us × (laid base base us ≡ written ++ laid (base + from) (base + s) ts)
-    pub back : (us : List Step) → Reads at len 0 0 us → (ts : List Step) × Reads at len s v ts × (laid base base us ≡ written ++ laid (base + from) (base + s) ts)
+    pub on : (ts : List Step) → IsReading at len s v ts → (us : List Step) × IsReading at len 0 0 us × (laid base base us ≡ written ++ laid (base + from) (base + s) ts)
+    pub back : (us : List Step) → IsReading at len 0 0 us → (ts : List Step) × IsReading at len s v ts × (laid base base us ≡ written ++ laid (base + from) (base + s) ts)
     pub in-run : from ≤ s
     pub in-source : s ≤ L + reach .past
     pub in-value : v ≤ len + (reach .content - 1)
@@ -184,9 +176,8 @@ module _ (reach : Reach) (at : ℕ → ℕ → Step) (L len base m : ℕ) where
 
   pub begins : (buf : List ℕ) → length buf ≡ m → buf ≡ zeros m → Going buf 0 0 0 0
   begins buf z e =
-      let q : m - 0 ≡ m = omega arith in
       let b : base + 0 ≡ base = omega arith in
-      let all : buf ≡ filled m [] = e ∙ sym (ap (λ (l : List ℕ). l ++ zeros (m - 0)) numbers-none ∙ ap (λ (k : ℕ). zeros k) q) in
+      let all : buf ≡ laidPieces m [] = e ∙ no-pieces m in
       record {
         written = [];
         count = refl;
@@ -201,18 +192,18 @@ module _ (reach : Reach) (at : ℕ → ℕ → Step) (L len base m : ℕ) where
       }
 
   -- a reading goes on by the step that stands there
-  next : (s v : ℕ) (t : Step) (ts : List Step) → v < len → at s v ≡ t → Reads at len s v ts
-      → (us : List Step) × (ts ≡ t ∷ us) × Reads at len (s + sourceLen t) (v + contentLen t) us
-  unfolding Reads
+  next : (s v : ℕ) (t : Step) (ts : List Step) → v < len → at s v ≡ t → IsReading at len s v ts
+      → (us : List Step) × (ts ≡ t ∷ us) × IsReading at len (s + sourceLen t) (v + contentLen t) us
+  unfolding IsReading
   next s v t [] h e r = absurd (omega arith)
   next s v t (u ∷ us) h e r =
       let q : u ≡ t = sym (r .1) ∙ e in
-      (us, ap (λ (x : Step). x ∷ us) q, subst (λ (x : Step). Reads at len (s + sourceLen x) (v + contentLen x) us) q (r .3))
+      (us, ap (λ (x : Step). x ∷ us) q, subst (λ (x : Step). IsReading at len (s + sourceLen x) (v + contentLen x) us) q (r .3))
 
   module _ (fair : Fair reach at L len) (buf : List ℕ) (s v from n : ℕ) (h : Going buf s v from n) where
     -- with the open run written
     abbrev W : List Piece
-    W = h .written ++ closed (base + from) (base + s)
+    W = h .written ++ closedRun (base + from) (base + s)
 
     count-W : countOpen n from s ≡ length W
     count-W = ap (λ (k : ℕ). countOpen k from s) (sym (h .count)) ∙ sym (open-count (h .written) base from s)
@@ -222,7 +213,7 @@ module _ (reach : Reach) (at : ℕ → ℕ → Step) (L len base m : ℕ) where
 
     module _ (more : v < len) where
       pub on-verbatim : (k : ℕ) → at s v ≡ Verbatim k → Going buf (s + k) (v + k) from n
-      unfolding Reads laid
+      unfolding IsReading laid
       on-verbatim k e =
           let b = fair .same s v k more e in
           let q : base + (s + k) ≡ base + s + k = omega arith in
@@ -247,7 +238,7 @@ module _ (reach : Reach) (at : ℕ → ℕ → Step) (L len base m : ℕ) where
 
       pub on-replacement : (a b : ℕ) (e : at s v ≡ Replacement a b) (n′ : ℕ) (buf′ : List ℕ)
           → n′ ≡ countOpen n from s + 1 → buf′ ≡ putReplacement buf n base from s a b → Going buf′ (s + a) (v + b) (s + a) n′
-      unfolding Reads laid putReplacement
+      unfolding IsReading laid putReplacement
       on-replacement a b e n′ buf′ en eb =
           let p : Piece = piece replacement (base + s) (base + s + a) b in
           let q : base + (s + a) ≡ base + s + a = omega arith in
@@ -263,11 +254,11 @@ module _ (reach : Reach) (at : ℕ → ℕ → Step) (L len base m : ℕ) where
                 (put-kept m W (putOpen buf n base from s) p kept-W);
             on = λ ts r.
                 let g = h .on (Replacement a b ∷ ts) (more, e, tt, r) in
-                (g .0, g .1, rw q (g .2 ∙ regroup (h .written) (closed (base + from) (base + s)) p (laid (base + s + a) (base + s + a) ts)));
+                (g .0, g .1, rw q (g .2 ∙ regroup (h .written) (closedRun (base + from) (base + s)) p (laid (base + s + a) (base + s + a) ts)));
             back = λ us r.
                 let g = h .back us r in
                 let x = next s v (Replacement a b) (g .0) more e (g .1) in
-                (x .0, x .2, rw q (g .2 ∙ ap (λ (l : List Step). h .written ++ laid (base + from) (base + s) l) (x .1) ∙ regroup (h .written) (closed (base + from) (base + s)) p (laid (base + s + a) (base + s + a) (x .0))));
+                (x .0, x .2, rw q (g .2 ∙ ap (λ (l : List Step). h .written ++ laid (base + from) (base + s) l) (x .1) ∙ regroup (h .written) (closedRun (base + from) (base + s)) p (laid (base + s + a) (base + s + a) (x .0))));
             in-run = omega arith;
             in-source = ⊎-elim (λ w. omega arith) (λ w. let i = h .in-source in omega arith) (bounds .1);
             in-value = bounds .0;
@@ -276,17 +267,17 @@ module _ (reach : Reach) (at : ℕ → ℕ → Step) (L len base m : ℕ) where
           }
 
       -- stuck short of the value's end: no reading at all
-      pub on-none : at s v ≡ NoStep → (us : List Step) → Reads at len 0 0 us → ⊥
-      unfolding Reads
+      pub on-none : at s v ≡ NoStep → (us : List Step) → IsReading at len 0 0 us → ⊥
+      unfolding IsReading
       on-none e us r =
           let g = h .back us r in
           let x = next s v NoStep (g .0) more e (g .1) in
-          subst (λ (l : List Step). Reads at len s v l) (x .1) (g .1) .2
+          subst (λ (l : List Step). IsReading at len s v l) (x .1) (g .1) .2
 
     -- at the value's end: the reading, and all its pieces
     module _ (end : len ≤ v) where
-      pub at-end : (us : List Step) × Reads at len 0 0 us × (laid base base us ≡ W)
-      unfolding Reads laid
+      pub at-end : (us : List Step) × IsReading at len 0 0 us × (laid base base us ≡ W)
+      unfolding IsReading laid
       at-end = h .on [] end
 
       pub end-count : length (laid base base (at-end .0)) ≡ countOpen n from s

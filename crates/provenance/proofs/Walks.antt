@@ -1,4 +1,4 @@
--- What the walk answers and leaves, where it ends: at the value's end with room or without, or stuck before it. Assumes nothing.
+-- What the walk answers and leaves, where it ends: at the value's end with room or without, or stuck before it.
 use mathlib.Core.Path.{_≡_, sym, ap, _∙_, subst}
 use mathlib.Core.List.{List}
 use mathlib.Core.Option.{Option, none, some}
@@ -10,9 +10,10 @@ use Rattle.provenance.specs.declared.step.Step.{Step}
 use Rattle.provenance.specs.declared.step.Step.the-variants.{NoStep}
 use Rattle.provenance.specs.declared.walk.Walked.{Walked}
 use Rattle.provenance.specs.declared.walk.Walked.the-variants.{Listed, NoRoom, NoList}
-use Rattle.provenance.specs.Escape.{Reach, FairTable}
+use Rattle.provenance.specs.Escape.{EscapeReach}
+use Rattle.provenance.specs.EscapeLaws.{FairTable}
 use Rattle.provenance.specs.Grammar.{Rules, stepAt}
-use Rattle.provenance.specs.Reading.{Reads, readingOf, Piece}
+use Rattle.provenance.specs.Reading.{IsReading, readingOf, Piece}
 use Rattle.provenance.specs.Layout.{room, zeros, answerOf, bufferOf, piecesIf}
 use Rattle.provenance.specs.Writing.{putOpen, countOpen, clearedTo, writtenLen}
 use Rattle.provenance.specs.StepLaws.{Fair, grammar-fair}
@@ -20,7 +21,7 @@ use Rattle.provenance.specs.ReadingLaws.{reading-is-found, no-reading-fo
 use Rattle.provenance.specs.PieceLaws.{laid, laid-is}
 use Rattle.provenance.proofs.Turn.{Kept, Going, on-none, at-end, end-count, end-kept, clear-all}
 
-module _ (r : Rules) {reach : Reach} (fair : FairTable (r .escapes) reach) (src val : List ℕ) (base m : ℕ) where
+module _ (r : Rules) {reach : EscapeReach} (fair : FairTable (r .escapes) reach) (src val : List ℕ) (base m : ℕ) where
   abbrev at : ℕ → ℕ → Step
   at = stepAt r src val
 
@@ -46,7 +47,7 @@ module _ (r : Rules) {reach : Reach} (fair : FairTable (r .escapes) reach) (src 
       abbrev ts : List Step
       ts = at-end reach at (length src) (length val) base m walk-fair buf s v from n h end .0
 
-      reads : Reads at (length val) 0 0 ts
+      reads : IsReading at (length val) 0 0 ts
       reads = at-end reach at (length src) (length val) base m walk-fair buf s v from n h end .1
 
       is-found : result ≡ some (laid base base ts)

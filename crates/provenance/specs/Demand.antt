@@ -7,12 +7,12 @@ use mathlib.Core.Path.{_≡_}
 use mathlib.Core.Logic.{_⊎_}
 use mathlib.Core.List.{List, [], _∷_}
 use lib.ListN.{length, take, drop}
-use Rattle.text.specs.Boundary.{Boundary}
+use Rattle.utf8.specs.Boundary.{Boundary}
 use Rattle.provenance.specs.declared.step.Step.{Step}
 use Rattle.provenance.specs.declared.step.Step.the-variants.{NoStep}
 use Rattle.provenance.specs.declared.walk.Walked.{Walked}
 use Rattle.provenance.specs.declared.walk.Walked.the-variants.{Listed, NoRoom, NoList}
-use Rattle.provenance.specs.Escape.{Reach}
+use Rattle.provenance.specs.Escape.{EscapeReach}
 use Rattle.provenance.specs.Grammar.{Rules, breakStep, escapeStep}
 use Rattle.provenance.specs.Reading.{Reading, sourceLen, contentLen, Piece, verbatim, piecesOf}
 use Rattle.provenance.specs.Layout.{walkedNumber}
@@ -61,7 +61,7 @@ EscapeLast r src val s v (t ∷ []) = (breakStep r (drop s src) (drop v val) ≡
 EscapeLast r src val s v (t ∷ u ∷ ts) = EscapeLast r src val (s + sourceLen t) (v + contentLen t) (u ∷ ts)
 
 -- a reading of the value in the file bytes from `first` on, and all that holds of its pieces ps
-pub record ReadingPieces (r : Rules) (reach : Reach) (text : List ℕ) (first : ℕ) (value : List ℕ) (ps : List Piece) : Type 0 where
+pub record ReadingPieces (r : Rules) (reach : EscapeReach) (text : List ℕ) (first : ℕ) (value : List ℕ) (ps : List Piece) : Type 0 where
   pub steps : List Step
   pub reading : Reading r (drop first text) value steps
   pub pieces : ps ≡ piecesOf first steps
@@ -77,7 +77,7 @@ pub record ReadingPieces (r : Rules) (reach : Reach) (text : List ℕ) (first : 
       (contents ps ≡ length value)
       ⊎ (EscapeLast r (drop first text) value 0 0 steps × (length value < contents ps) × (contents ps < length value + reach .content))
 
-pub record Demand3 (r : Rules) (reach : Reach) (text : List ℕ) (first : ℕ) (value : List ℕ) (room : ℕ) (answer : Walked) (left : List Piece) : Type 0 where
+pub record Demand3 (r : Rules) (reach : EscapeReach) (text : List ℕ) (first : ℕ) (value : List ℕ) (room : ℕ) (answer : Walked) (left : List Piece) : Type 0 where
   -- any two readings are the same
   pub unique : (ts us : List Step) → Reading r (drop first text) value ts → Reading r (drop first text) value us → ts ≡ us
   -- the walk accepts exactly when it starts at a boundary of the text and a reading exists

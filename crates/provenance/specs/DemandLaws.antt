@@ -9,21 +9,21 @@ use Prim.Native.Nat.{ℕ, _+_, _-_, _*_, _≤_, _<_}
 use native.Mathlib.Omega.{arith}
 use lib.ListN.{length, take, drop, length-drop}
 use borrow.Author.Tests.{le-leb, lt-leb}
-use Rattle.text.specs.Boundary.{Boundary, isBoundary}
-use Rattle.text.specs.Utf8Laws.{is-boundary, boundary-is}
+use Rattle.utf8.specs.Boundary.{Boundary, isBoundary}
+use Rattle.utf8.specs.Utf8Laws.{is-boundary, boundary-is}
 use Rattle.provenance.specs.declared.step.Step.{Step}
 use Rattle.provenance.specs.declared.step.Step.the-variants.{Verbatim, Replacement, NoStep}
 use Rattle.provenance.specs.declared.walk.Walked.{Walked}
 use Rattle.provenance.specs.declared.walk.Walked.the-variants.{Listed, NoRoom, NoList}
-use Rattle.provenance.specs.Escape.{Reach, FairTable, escapesReach}
+use Rattle.provenance.specs.Escape.{EscapeReach, escapesReach}
 use Rattle.provenance.specs.Grammar.{Rules, stepAt, rulesOf}
-use Rattle.provenance.specs.Reading.{Reads, Reading, sourceLen, contentLen, readingOf, Piece, piecesOf}
-use Rattle.provenance.specs.Layout.{room, zeros, numbers, filled, walkedNumber, answerOf, leftOf, bufferOf, piecesIf}
+use Rattle.provenance.specs.Reading.{IsReading, Reading, sourceLen, contentLen, readingOf, Piece, piecesOf}
+use Rattle.provenance.specs.Layout.{zeros, laidBy, laidPieces, walkedNumber, answerOf, leftOf, piecesIf}
 use Rattle.provenance.specs.Start.{walkStart, listFrom, scalarList}
 use Rattle.provenance.specs.Demand.{Accepts, StartsAt, Follow, EndBy, AllCopied, contents, EscapeLast, ReadingPieces, Demand3}
-use Rattle.text.specs.Tests.{by-order}
+use Rattle.utf8.specs.Tests.{by-order}
 use Rattle.provenance.specs.Tests.{by-answer}
-use Rattle.provenance.specs.EscapeLaws.{style-fair}
+use Rattle.provenance.specs.EscapeLaws.{style-fair, FairTable}
 use Rattle.provenance.specs.StepLaws.{Fair, grammar-fair, step-same, step-past}
 use Rattle.provenance.specs.ReadingLaws.{reading-unique, found-is-reading, reading-is-found}
 use Rattle.provenance.specs.PieceLaws.{laid, laid-is, first-starts, others-follow, all-ended, contents-are, valueEnd, value-end, all-copied}
@@ -78,7 +78,7 @@ nothing-listed most (some ps) h =
 
 -- ---- a walk's list is its reading's pieces
 
-module _ (r : Rules) {reach : Reach} (fair : FairTable (r .escapes) reach) (text : List ℕ) (first : ℕ) (value : List ℕ) where
+module _ (r : Rules) {reach : EscapeReach} (fair : FairTable (r .escapes) reach) (text : List ℕ) (first : ℕ) (value : List ℕ) where
   abbrev src : List ℕ
   src = drop first text
 
@@ -104,8 +104,8 @@ module _ (r : Rules) {reach : Reach} (fair : FairTable (r .escapes) reach) (text
   walk-fair = grammar-fair r fair src value
 
   -- past the value's end only by an escape at last
-  escape-last : (s v : ℕ) (ts : List Step) → Reads at (length value) s v ts → v ≤ length value → length value < valueEnd v ts → EscapeLast r src value s v ts
-  unfolding Reads valueEnd EscapeLast
+  escape-last : (s v : ℕ) (ts : List Step) → IsReading at (length value) s v ts → v ≤ length value → length value < valueEnd v ts → EscapeLast r src value s v ts
+  unfolding IsReading valueEnd EscapeLast
   escape-last s v [] h m k = absurd (omega arith)
   escape-last s v (Verbatim n ∷ []) h m k = let b = walk-fair .same s v n (h .0) (h .1) in absurd (omega arith)
   escape-last s v (Replacement a b ∷ []) h m k =
@@ -194,22 +194,13 @@ pub demand3-of-scalars : (text : List ℕ) (start len : ℕ) (value : List ℕ) 
 unfolding scalarList
 demand3-of-scalars text start len value style column most = demand3 (rulesOf style column) (style-fair style) text (walkStart text start len value style) value most
 
-no-pieces : (size : ℕ) → zeros size ≡ filled size []
-unfolding numbers
-no-pieces size = let e : size - 0 * 4 ≡ size = omega arith in rw e refl
-
--- the numbers that a walk leaves are those of the pieces that it leaves, and zeros
-pub buffer-left : (size : ℕ) (o : Option (List Piece)) → bufferOf size o ≡ filled size (leftOf (room size) o)
-unfolding bufferOf leftOf numbers
-buffer-left size none = no-pieces size
-buffer-left size (some ps) =
-    by-order (room size) (length ps)
-    (λ lt. rw (lt-leb _ _ lt) (no-pieces size))
-    (λ le. rw (le-leb _ _ le))
+pub no-pieces : (size : ℕ) → zeros size ≡ laidPieces size []
+unfolding laidBy
+no-pieces size = let e : size - 4 * 0 ≡ size = omega arith in rw e refl
 
 -- ---- what a reader of the pieces that are left may conclude, whatever the answer is
 
-module _ (r : Rules) (reach : Reach) (text : List ℕ) (first : ℕ) (value : List ℕ) (most : ℕ) (left : List Piece) where
+module _ (r : Rules) (reach : EscapeReach) (text : List ℕ) (first : ℕ) (value : List ℕ) (most : ℕ) (left : List Piece) where
   -- the file bytes of a verbatim piece are its content
   pub verbatim-is-content : (answer : Walked) → Demand3 r reach text first value most answer left → AllCopied text value 0 left
   unfolding AllCopied

@@ -5,65 +5,48 @@
 --
 -- `\u` counts 1 where its bytes cannot be read as digits. Bytes that end inside a character are among these, since a byte of 128 or
 -- more is no digit: `EscapeLaws` has it as a law. There the Rust panics.
-use Prim.Native.Nat.{ℕ, _+_, _-_, _*_, _≤_, _<_}
-use mathlib.Core.Path.{_≡_}
+use Prim.Native.Nat.{ℕ, _+_, _-_, _*_}
 use mathlib.Core.Bool.{Bool, false, _&&_, _||_, cond}
 use mathlib.Core.List.{List, [], _∷_}
 use mathlib.Core.Option.{Option, none, some}
 use lib.Dec.{leb, eqb}
 use lib.ListN.{length, take, drop, getD}
-use Rattle.text.specs.Class.{inside, isHexDigit}
-use Rattle.text.specs.Utf8.{encode}
+use Rattle.utf8.specs.Class.{inside, isHexDigit}
+use Rattle.utf8.specs.Utf8.{encode}
 use Rattle.measure.specs.Scalar.{singleQuoted, doubleQuoted}
 use Rattle.provenance.specs.declared.escape.Escape.{Escape}
 use Rattle.provenance.specs.declared.escape.Escape.the-variants.{Takes, NoEscape}
-use Rattle.provenance.specs.Run.{newline, carriageReturn, whiteRun}
+use Rattle.provenance.specs.Run.{whiteRun}
+use Rattle.utf8.specs.Ascii.{newline, carriageReturn, singleQuote, backslash}
 
 abbrev pub EscapeTable : Type 0
 EscapeTable = List ℕ → Escape
 
 -- how far the escapes of a table reach: two numbers that belong to it
-pub record Reach : Type 0 where
+pub record EscapeReach : Type 0 where
   -- how many bytes an escape may claim past the source's end
   pub past : ℕ
   -- how many content bytes it may stand for
   pub content : ℕ
 
--- what demand 3 asks of a table
-pub record FairTable (escapes : EscapeTable) (reach : Reach) : Type 0 where
-  -- no escape stands at the source's end: only step 4 fits there
-  pub some-source : (src : List ℕ) (a b : ℕ) → escapes src ≡ Takes a b → 0 < length src
-  -- an escape takes a byte: so every reading ends
-  pub some-taken : (src : List ℕ) (a b : ℕ) → escapes src ≡ Takes a b → 0 < a
-  -- so far past the text may a piece end
-  pub few-past : (src : List ℕ) (a b : ℕ) → escapes src ≡ Takes a b → a ≤ length src + reach .past
-  -- by less than this may the contents pass the value's length
-  pub few-content : (src : List ℕ) (a b : ℕ) → escapes src ≡ Takes a b → b ≤ reach .content
-
-abbrev pub quote : ℕ
-quote = 39
-
-abbrev pub backslash : ℕ
-backslash = 92
-
-abbrev pub plus : ℕ
-plus = 43
-
 -- ---- the digits of \u, as `from_str_radix` reads them
 
 -- the number of a hexadecimal digit
-abbrev pub digitValue : ℕ → ℕ
-digitValue b = cond (leb b 57) (b - 48) (cond (leb b 70) (b - 55) (b - 87))
+abbrev pub hexValue : ℕ → ℕ
+hexValue b = cond (leb b 57) (b - 48) (cond (leb b 70) (b - 55) (b - 87))
 
 -- the number that digits have behind the number n; none where one is no digit
 unfoldable pub digitsFrom : ℕ → List ℕ → Option ℕ
 digitsFrom n [] = some n
-digitsFrom n (b ∷ bs) = cond (isHexDigit b) (digitsFrom (n * 16 + digitValue b) bs) none
+digitsFrom n (b ∷ bs) = cond (isHexDigit b) (digitsFrom (n * 16 + hexValue b) bs) none
 
 -- at least one digit
 unfoldable pub digits : List ℕ → Option ℕ
 digits [] = none
 digits (b ∷ bs) = digitsFrom 0 (b ∷ bs)
+
+abbrev pub plus : ℕ
+plus = 43
 
 -- a plus may stand before them
 unfoldable pub radix16 : List ℕ → Option ℕ
@@ -79,7 +62,7 @@ codeContent (some c) = cond (inside 0xd800 0xdfff c) 1 (length (encode c))
 
 -- two quotes
 unfoldable pub singleQuoteEscapes : EscapeTable
-singleQuoteEscapes src = cond (eqb (getD src 0 0) quote && eqb (getD src 1 0) quote) (Takes 2 1) NoEscape
+singleQuoteEscapes src = cond (eqb (getD src 0 0) singleQuote && eqb (getD src 1 0) singleQuote) (Takes 2 1) NoEscape
 
 unfoldable pub isOneOf : List ℕ → ℕ → Bool
 isOneOf [] c = false
@@ -89,7 +72,7 @@ isOneOf (b ∷ bs) c = eqb c b || isOneOf bs c
 unfoldable pub oneByteEscapes : List ℕ
 oneByteEscapes = 110 ∷ 116 ∷ 114 ∷ 48 ∷ 97 ∷ 98 ∷ 34 ∷ 92 ∷ 47 ∷ []
 
--- by the bytes after the backslash, of which c is the first
+-- by the bytes after the backslash, of which c is the first: one of those, x, u, or a line break
 unfoldable pub backslashEscape : ℕ → List ℕ → Escape
 backslashEscape c after =
     cond (isOneOf oneByteEscapes c) (Takes 2 1)
@@ -101,7 +84,7 @@ unfoldable pub doubleQuoteEscapes : EscapeTable
 doubleQuoteEscapes src = cond (eqb (getD src 0 0) backslash) (backslashEscape (getD src 1 0) (drop 1 src)) NoEscape
 
 -- the three reach alike: `\u` with nothing after it claims 6 bytes where 2 are left, and a code has at most 3 bytes
-abbrev pub escapesReach : Reach
+abbrev pub escapesReach : EscapeReach
 escapesReach = record { past = 4; content = 3 }
 
 -- by style; plain and block scalars have none

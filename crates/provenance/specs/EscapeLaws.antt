@@ -1,4 +1,4 @@
--- The laws of escapes: today's tables are fair, and what `\u` counts where its bytes end inside a character (P7). Assumes nothing.
+-- The laws of escapes: today's tables are fair, and what `\u` counts where its bytes end inside a character (P7).
 use mathlib.Core.Path.{_≡_, refl, sym, ap, _∙_}
 use mathlib.Core.Bool.{Bool, true, false, _&&_, _||_, cond}
 use mathlib.Core.List.{List, [], _∷_}
@@ -11,19 +11,32 @@ use lib.Dec.{leb, eqb}
 use lib.ListN.{length, take, drop, getD, length-take, length-drop}
 use lib.Seq.{drop-cons}
 use borrow.Author.Tests.{lt-ltb, le-ltb, le-leb, lt-leb, leb-true, eqb-true}
-use Rattle.text.specs.Class.{inside, isHexDigit}
-use Rattle.text.specs.Utf8.{Utf8, encode, firstChar}
-use Rattle.text.specs.Boundary.{Boundary, isBoundary}
-use Rattle.text.specs.Utf8Laws.{first-char-ascii, boundary-is, char-at}
-use Rattle.text.specs.declared.utf8.Char.{Char}
+use Rattle.utf8.specs.Class.{inside, isHexDigit}
+use Rattle.utf8.specs.Utf8.{Utf8, encode}
+use Rattle.utf8.specs.Characters.{firstChar}
+use Rattle.utf8.specs.Boundary.{Boundary, isBoundary}
+use Rattle.utf8.specs.Utf8Laws.{first-char-ascii, boundary-is, char-at}
+use Rattle.utf8.specs.declared.utf8.Char.{Char}
 use Rattle.measure.specs.Scalar.{singleQuoted, doubleQuoted}
 use Rattle.provenance.specs.declared.escape.Escape.{Escape}
 use Rattle.provenance.specs.declared.escape.Escape.the-variants.{Takes, NoEscape}
-use Rattle.provenance.specs.Run.{newline, carriageReturn, whiteRun}
-use Rattle.provenance.specs.Escape.{FairTable, quote, backslash, plus, digitValue, digitsFrom, digits, radix16, codeContent, singleQuoteEscapes, isOneOf, oneByteEscapes, backslashEscape, doubleQuoteEscapes, escapesReach, escapesOf}
-use Rattle.text.specs.Tests.{clash, by-order, and-both}
-use Rattle.provenance.specs.Tests.{by-test, by-answer, picked, either, byte-past, byte-inside}
+use Rattle.provenance.specs.Run.{whiteRun}
+use Rattle.utf8.specs.Ascii.{newline, carriageReturn, singleQuote, backslash}
+use Rattle.provenance.specs.Escape.{plus, EscapeTable, EscapeReach, hexValue, digitsFrom, digits, radix16, codeContent, singleQuoteEscapes, isOneOf, oneByteEscapes, backslashEscape, doubleQuoteEscapes, escapesReach, escapesOf}
+use Rattle.utf8.specs.Tests.{clash, by-order, and-both}
+use Rattle.provenance.specs.Tests.{by-test, by-answer, cond-taken, by-cond, byte-past, byte-inside}
 use Rattle.provenance.specs.RunLaws.{run-within}
+
+-- what demand 3 asks of a table
+pub record FairTable (escapes : EscapeTable) (reach : EscapeReach) : Type 0 where
+  -- no escape stands at the source's end: only step 4 fits there
+  pub some-source : (src : List ℕ) (a b : ℕ) → escapes src ≡ Takes a b → 0 < length src
+  -- an escape takes a byte: so every reading ends
+  pub some-taken : (src : List ℕ) (a b : ℕ) → escapes src ≡ Takes a b → 0 < a
+  -- so far past the text may a piece end
+  pub few-past : (src : List ℕ) (a b : ℕ) → escapes src ≡ Takes a b → a ≤ length src + reach .past
+  -- by less than this may the contents pass the value's length
+  pub few-content : (src : List ℕ) (a b : ℕ) → escapes src ≡ Takes a b → b ≤ reach .content
 
 -- ---- digits
 
@@ -40,8 +53,8 @@ pub record Digit (b : ℕ) : Type 0 where
   pub small : 70 < b → 97 ≤ b
   pub high : b ≤ 102
 
-pub digit : (b : ℕ) → isHexDigit b ≡ true → Digit b
-digit b h =
+pub hex-digit : (b : ℕ) → isHexDigit b ≡ true → Digit b
+hex-digit b h =
     or-cases (inside 48 57 b) _ h
     (λ e. let p = inside-is 48 57 b e in record { low = p .0; letter = λ q. absurd (omega arith); small = λ q. absurd (omega arith); high = omega arith })
     (λ h₂.
@@ -49,9 +62,9 @@ digit b h =
     (λ e. let p = inside-is 65 70 b e in record { low = omega arith; letter = λ q. p .0; small = λ q. absurd (omega arith); high = omega arith })
     (λ e. let p = inside-is 97 102 b e in record { low = omega arith; letter = λ q. omega arith; small = λ q. p .0; high = p .1 }))
 
-pub digit-small : (b : ℕ) → isHexDigit b ≡ true → digitValue b < 16
+pub digit-small : (b : ℕ) → isHexDigit b ≡ true → hexValue b < 16
 digit-small b h =
-    let d = digit b h in
+    let d = hex-digit b h in
     by-order 57 b
     (λ p.
     by-order 70 b
@@ -112,7 +125,7 @@ unfolding digitsFrom
 from-three [] i n h k = content-three n (let q = sixteens-four i (omega arith) in omega arith)
 from-three (b ∷ bs) i n h k =
     by-answer (isHexDigit b)
-    (λ e. rw e (from-three bs (i + 1) (n * 16 + digitValue b) (omega arith) (sixteens-more i n (digitValue b) k (digit-small b e))))
+    (λ e. rw e (from-three bs (i + 1) (n * 16 + hexValue b) (omega arith) (sixteens-more i n (hexValue b) k (digit-small b e))))
     (λ e. rw e none-three)
 
 digits-three : (l : List ℕ) → length l ≤ 4 → codeContent (digits l) ≤ 3
@@ -132,9 +145,9 @@ four-few l = let e = length-take 4 l in omega arith
 single-modest : (l : List ℕ) (a b : ℕ) → singleQuoteEscapes l ≡ Takes a b → Modest (length l) a b
 unfolding singleQuoteEscapes
 single-modest l a b h =
-    let p = picked (eqb (getD l 0 0) quote && eqb (getD l 1 0) quote) (Takes 2 1) NoEscape (Takes a b) (no-takes a b) h in
-    let q = and-both (eqb (getD l 0 0) quote) (eqb (getD l 1 0) quote) (p .0) in
-    let i : 0 < length l = byte-inside l 0 quote (eqb-true _ _ (q .0)) (omega arith) in
+    let p = cond-taken (eqb (getD l 0 0) singleQuote && eqb (getD l 1 0) singleQuote) (Takes 2 1) NoEscape (Takes a b) (no-takes a b) h in
+    let q = and-both (eqb (getD l 0 0) singleQuote) (eqb (getD l 1 0) singleQuote) (p .0) in
+    let i : 0 < length l = byte-inside l 0 singleQuote (eqb-true _ _ (q .0)) (omega arith) in
     modest-as (length l) 2 1 a b (omega arith, omega arith, omega arith, omega arith) (p .1)
 
 slash-modest : (c : ℕ) (l : List ℕ) (n a b : ℕ) → length l < n → backslashEscape c l ≡ Takes a b → (c ≡ 0 → ⊥) → 1 < n → Modest n a b
@@ -142,11 +155,11 @@ unfolding backslashEscape
 slash-modest c l n a b k h z i =
     let w = run-within l in
     let u : codeContent (radix16 (take 4 (drop 1 l))) ≤ 3 = radix-three (take 4 (drop 1 l)) (four-few (drop 1 l)) in
-    either (isOneOf oneByteEscapes c) (Takes 2 1) _ (Takes a b) h (modest-as n 2 1 a b (omega arith, omega arith, omega arith, omega arith)) (λ h₁.
-    either (eqb c 120) (Takes 4 1) _ (Takes a b) h₁ (modest-as n 4 1 a b (omega arith, omega arith, omega arith, omega arith)) (λ h₂.
-    either (eqb c 117) (Takes 6 (codeContent (radix16 (take 4 (drop 1 l))))) _ (Takes a b) h₂
+    by-cond (isOneOf oneByteEscapes c) (Takes 2 1) _ (Takes a b) h (modest-as n 2 1 a b (omega arith, omega arith, omega arith, omega arith)) (λ h₁.
+    by-cond (eqb c 120) (Takes 4 1) _ (Takes a b) h₁ (modest-as n 4 1 a b (omega arith, omega arith, omega arith, omega arith)) (λ h₂.
+    by-cond (eqb c 117) (Takes 6 (codeContent (radix16 (take 4 (drop 1 l))))) _ (Takes a b) h₂
     (modest-as n 6 (codeContent (radix16 (take 4 (drop 1 l)))) a b (omega arith, omega arith, omega arith, u)) (λ h₃.
-    either (eqb c newline || eqb c carriageReturn) (Takes (1 + length (whiteRun l)) 0) NoEscape (Takes a b) h₃
+    by-cond (eqb c newline || eqb c carriageReturn) (Takes (1 + length (whiteRun l)) 0) NoEscape (Takes a b) h₃
     (modest-as n (1 + length (whiteRun l)) 0 a b (omega arith, omega arith, omega arith, omega arith)) (λ h₄. absurd (no-takes a b h₄)))))
 
 -- nothing stands behind a backslash at the end
@@ -157,7 +170,7 @@ slash-end l = refl
 double-modest : (l : List ℕ) (a b : ℕ) → doubleQuoteEscapes l ≡ Takes a b → Modest (length l) a b
 unfolding doubleQuoteEscapes
 double-modest l a b h =
-    let p = picked (eqb (getD l 0 0) backslash) (backslashEscape (getD l 1 0) (drop 1 l)) NoEscape (Takes a b) (no-takes a b) h in
+    let p = cond-taken (eqb (getD l 0 0) backslash) (backslashEscape (getD l 1 0) (drop 1 l)) NoEscape (Takes a b) (no-takes a b) h in
     let i : 0 < length l = byte-inside l 0 backslash (eqb-true _ _ (p .0)) (omega arith) in
     let d = length-drop 1 l in
     let z : getD l 1 0 ≡ 0 → ⊥ = (λ e. no-takes a b (sym (slash-end (drop 1 l)) ∙ ap (λ (c : ℕ). backslashEscape c (drop 1 l)) (sym e) ∙ p .1)) in
@@ -167,8 +180,8 @@ double-modest l a b h =
 style-modest : (style : ℕ) (l : List ℕ) (a b : ℕ) → escapesOf style l ≡ Takes a b → Modest (length l) a b
 unfolding escapesOf
 style-modest style l a b h =
-    either (eqb style singleQuoted) (singleQuoteEscapes l) _ (Takes a b) h (single-modest l a b) (λ h₂.
-    either (eqb style doubleQuoted) (doubleQuoteEscapes l) NoEscape (Takes a b) h₂ (double-modest l a b) (λ h₃. absurd (no-takes a b h₃)))
+    by-cond (eqb style singleQuoted) (singleQuoteEscapes l) _ (Takes a b) h (single-modest l a b) (λ h₂.
+    by-cond (eqb style doubleQuoted) (doubleQuoteEscapes l) NoEscape (Takes a b) h₂ (double-modest l a b) (λ h₃. absurd (no-takes a b h₃)))
 
 pub style-fair : (style : ℕ) → FairTable (escapesOf style) escapesReach
 style-fair style =
@@ -197,9 +210,9 @@ from-ascii : (l : List ℕ) (n c : ℕ) → digitsFrom n l ≡ some c → Ascii 
 unfolding digitsFrom Ascii
 from-ascii [] n c h = tt
 from-ascii (b ∷ bs) n c h =
-    let p = picked (isHexDigit b) (digitsFrom (n * 16 + digitValue b) bs) none (some c) (Option·none-ne-some c) h in
-    let d : b ≤ 102 = digit b (p .0) .high in
-    (omega arith, from-ascii bs (n * 16 + digitValue b) c (p .1))
+    let p = cond-taken (isHexDigit b) (digitsFrom (n * 16 + hexValue b) bs) none (some c) (Option·none-ne-some c) h in
+    let d : b ≤ 102 = hex-digit b (p .0) .high in
+    (omega arith, from-ascii bs (n * 16 + hexValue b) c (p .1))
 
 digits-ascii : (l : List ℕ) (c : ℕ) → digits l ≡ some c → Ascii l
 unfolding digits

@@ -2,91 +2,74 @@
 use mathlib.Core.Path.{_≡_, refl}
 use mathlib.Core.List.{[], _∷_}
 use mathlib.Core.Option.{none, some}
-use Rattle.text.specs.Boundary.{isBoundary}
-use Rattle.text.specs.Utf8.{encode}
+use Rattle.utf8.specs.Ascii.{sameBytes}
+use Rattle.utf8.specs.Boundary.{isBoundary}
+use Rattle.utf8.specs.Utf8.{encode}
+use Rattle.measure.specs.Plain.{isFold}
 use Rattle.measure.specs.Scalar.{plain, singleQuoted, doubleQuoted, literal, folded}
 use Rattle.provenance.specs.declared.escape.Escape.the-variants.{Takes}
 use Rattle.provenance.specs.declared.walk.Walked.the-variants.{NoRoom}
 use Rattle.provenance.specs.Run.{whiteRun, newlinesIn, throughLast, cut, blankRun, onlyNewlines}
 use Rattle.provenance.specs.Escape.{digitsFrom, digits, radix16, codeContent, singleQuoteEscapes, isOneOf, oneByteEscapes, backslashEscape, doubleQuoteEscapes, escapesOf}
-use Rattle.provenance.specs.Grammar.{sameBytes, breakPair, opensBreak, breakStep, equalStep, endStep, step}
+use Rattle.provenance.specs.Grammar.{breakPair, opensBreak, breakStep, equalStep, endStep, step}
 use Rattle.provenance.specs.Reading.{readBy, readingOf, piece, verbatim, replacement, stepPieces, joined, piecesOf}
-use Rattle.provenance.specs.Layout.{numbers, answerOf, bufferOf, piecesIf}
+use Rattle.provenance.specs.Layout.{laidBy, answerOf, bufferOf, piecesIf}
 use Rattle.provenance.specs.Start.{atEmptyBlockHeader, beforeNewline, headerEnd, walkStart, listFrom, scalarList}
 
--- K7: `a`, blank, newline, two blanks, `b`; value `a b`
-pub k7 : scalarList (97 ∷ 32 ∷ 10 ∷ 32 ∷ 32 ∷ 98 ∷ []) 0 6 (97 ∷ 32 ∷ 98 ∷ []) plain 0
-    ≡ some (piece verbatim 0 1 1 ∷ piece replacement 1 5 1 ∷ piece verbatim 5 6 1 ∷ [])
-unfolding scalarList listFrom walkStart headerEnd beforeNewline atEmptyBlockHeader isBoundary numbers answerOf bufferOf piecesIf piecesOf joined stepPieces readingOf readBy step endStep equalStep breakStep opensBreak breakPair sameBytes escapesOf doubleQuoteEscapes backslashEscape oneByteEscapes isOneOf singleQuoteEscapes codeContent radix16 digits digitsFrom encode onlyNewlines blankRun cut throughLast newlinesIn whiteRun
-k7 = refl
+pub record Worked : Type 0 where
+  -- K7: `a`, blank, newline, two blanks, `b`; value `a b`
+  pub k7 : scalarList (97 ∷ 32 ∷ 10 ∷ 32 ∷ 32 ∷ 98 ∷ []) 0 6 (97 ∷ 32 ∷ 98 ∷ []) plain 0
+      ≡ some (piece verbatim 0 1 1 ∷ piece replacement 1 5 1 ∷ piece verbatim 5 6 1 ∷ [])
+  -- K8: `a`, three newlines, `b`; value `a`, two newlines, `b`: the pieces reach 5
+  pub k8 : scalarList (97 ∷ 10 ∷ 10 ∷ 10 ∷ 98 ∷ []) 0 4 (97 ∷ 10 ∷ 10 ∷ 98 ∷ []) plain 0
+      ≡ some (piece verbatim 0 1 1 ∷ piece replacement 1 4 2 ∷ piece verbatim 4 5 1 ∷ [])
+  -- K9: `'it''s'`; value `it's`
+  pub k9 : scalarList (39 ∷ 105 ∷ 116 ∷ 39 ∷ 39 ∷ 115 ∷ 39 ∷ []) 0 7 (105 ∷ 116 ∷ 39 ∷ 115 ∷ []) singleQuoted 0
+      ≡ some (piece verbatim 1 3 2 ∷ piece replacement 3 5 1 ∷ piece verbatim 5 6 1 ∷ [])
+  -- K10: `"\u20AC"`; value `A`: two past the value
+  pub k10 : scalarList (34 ∷ 92 ∷ 117 ∷ 50 ∷ 48 ∷ 65 ∷ 67 ∷ 34 ∷ []) 0 8 (65 ∷ []) doubleQuoted 0
+      ≡ some (piece replacement 1 7 3 ∷ [])
+  -- K11: `a: |`, newline, two blanks, `b`; value `b`, newline; at 7, column 2
+  pub k11 : scalarList (97 ∷ 58 ∷ 32 ∷ 124 ∷ 10 ∷ 32 ∷ 32 ∷ 98 ∷ []) 7 1 (98 ∷ 10 ∷ []) literal 2
+      ≡ some (piece verbatim 7 8 1 ∷ piece replacement 8 8 1 ∷ [])
+  -- an empty value has a list of no pieces, if its walk can start (N1); past the text it cannot
+  pub empty-value : scalarList (97 ∷ []) 0 0 [] plain 0 ≡ some []
+  pub quote-at-the-end : scalarList (97 ∷ []) 1 0 [] singleQuoted 0 ≡ none
+  -- a block header with only newlines as value starts at its line's newline, or at the span's end
+  pub header-line : walkStart (124 ∷ 45 ∷ 10 ∷ []) 0 1 [] literal ≡ 2
+  pub header-alone : walkStart (62 ∷ 45 ∷ []) 0 1 (10 ∷ []) folded ≡ 1
+  -- the value at a tab takes no content of a break, and the tab is then met by nothing
+  pub tab-takes-nothing : scalarList (10 ∷ 9 ∷ []) 0 0 (9 ∷ []) plain 0 ≡ none
+  -- the column cuts the run after its newlines are counted: two newlines, one blank of indent, then a blank that is content
+  pub cut-after-count : scalarList (10 ∷ 10 ∷ 32 ∷ 32 ∷ 97 ∷ []) 0 0 (10 ∷ 10 ∷ 32 ∷ 97 ∷ []) literal 1
+      ≡ some (piece replacement 0 3 2 ∷ piece verbatim 3 5 2 ∷ [])
+  -- `\u+041` has the code 41; digits that cannot be read count 1; a cut-off escape claims its six bytes
+  pub plus-sign : doubleQuoteEscapes (92 ∷ 117 ∷ 43 ∷ 48 ∷ 52 ∷ 49 ∷ []) ≡ Takes 6 1
+  pub cut-off : scalarList (34 ∷ 92 ∷ 117 ∷ []) 0 3 (97 ∷ []) doubleQuoted 0 ≡ some (piece replacement 1 7 1 ∷ [])
+  -- the pieces of K10 in a buffer with room for one, and with room for none
+  pub k10-left : bufferOf 5 (some (piece replacement 1 7 3 ∷ [])) ≡ 2 ∷ 1 ∷ 7 ∷ 3 ∷ 0 ∷ []
+  pub k10-no-room : answerOf 0 (some (piece replacement 1 7 3 ∷ [])) ≡ NoRoom
 
--- K8: `a`, three newlines, `b`; value `a`, two newlines, `b`: the pieces reach 5
-pub k8 : scalarList (97 ∷ 10 ∷ 10 ∷ 10 ∷ 98 ∷ []) 0 4 (97 ∷ 10 ∷ 10 ∷ 98 ∷ []) plain 0
-    ≡ some (piece verbatim 0 1 1 ∷ piece replacement 1 4 2 ∷ piece verbatim 4 5 1 ∷ [])
-unfolding scalarList listFrom walkStart headerEnd beforeNewline atEmptyBlockHeader isBoundary numbers answerOf bufferOf piecesIf piecesOf joined stepPieces readingOf readBy step endStep equalStep breakStep opensBreak breakPair sameBytes escapesOf doubleQuoteEscapes backslashEscape oneByteEscapes isOneOf singleQuoteEscapes codeContent radix16 digits digitsFrom encode onlyNewlines blankRun cut throughLast newlinesIn whiteRun
-k8 = refl
-
--- K9: `'it''s'`; value `it's`
-pub k9 : scalarList (39 ∷ 105 ∷ 116 ∷ 39 ∷ 39 ∷ 115 ∷ 39 ∷ []) 0 7 (105 ∷ 116 ∷ 39 ∷ 115 ∷ []) singleQuoted 0
-    ≡ some (piece verbatim 1 3 2 ∷ piece replacement 3 5 1 ∷ piece verbatim 5 6 1 ∷ [])
-unfolding scalarList listFrom walkStart headerEnd beforeNewline atEmptyBlockHeader isBoundary numbers answerOf bufferOf piecesIf piecesOf joined stepPieces readingOf readBy step endStep equalStep breakStep opensBreak breakPair sameBytes escapesOf doubleQuoteEscapes backslashEscape oneByteEscapes isOneOf singleQuoteEscapes codeContent radix16 digits digitsFrom encode onlyNewlines blankRun cut throughLast newlinesIn whiteRun
-k9 = refl
-
--- K10: `"\u20AC"`; value `A`: two past the value
-pub k10 : scalarList (34 ∷ 92 ∷ 117 ∷ 50 ∷ 48 ∷ 65 ∷ 67 ∷ 34 ∷ []) 0 8 (65 ∷ []) doubleQuoted 0
-    ≡ some (piece replacement 1 7 3 ∷ [])
-unfolding scalarList listFrom walkStart headerEnd beforeNewline atEmptyBlockHeader isBoundary numbers answerOf bufferOf piecesIf piecesOf joined stepPieces readingOf readBy step endStep equalStep breakStep opensBreak breakPair sameBytes escapesOf doubleQuoteEscapes backslashEscape oneByteEscapes isOneOf singleQuoteEscapes codeContent radix16 digits digitsFrom encode onlyNewlines blankRun cut throughLast newlinesIn whiteRun
-k10 = refl
-
--- K11: `a: |`, newline, two blanks, `b`; value `b`, newline; at 7, column 2
-pub k11 : scalarList (97 ∷ 58 ∷ 32 ∷ 124 ∷ 10 ∷ 32 ∷ 32 ∷ 98 ∷ []) 7 1 (98 ∷ 10 ∷ []) literal 2
-    ≡ some (piece verbatim 7 8 1 ∷ piece replacement 8 8 1 ∷ [])
-unfolding scalarList listFrom walkStart headerEnd beforeNewline atEmptyBlockHeader isBoundary numbers answerOf bufferOf piecesIf piecesOf joined stepPieces readingOf readBy step endStep equalStep breakStep opensBreak breakPair sameBytes escapesOf doubleQuoteEscapes backslashEscape oneByteEscapes isOneOf singleQuoteEscapes codeContent radix16 digits digitsFrom encode onlyNewlines blankRun cut throughLast newlinesIn whiteRun
-k11 = refl
-
--- an empty value has a list of no pieces, if its walk can start (N1); past the text it cannot
-empty-value : scalarList (97 ∷ []) 0 0 [] plain 0 ≡ some []
-unfolding scalarList listFrom walkStart headerEnd beforeNewline atEmptyBlockHeader isBoundary numbers answerOf bufferOf piecesIf piecesOf joined stepPieces readingOf readBy step endStep equalStep breakStep opensBreak breakPair sameBytes escapesOf doubleQuoteEscapes backslashEscape oneByteEscapes isOneOf singleQuoteEscapes codeContent radix16 digits digitsFrom encode onlyNewlines blankRun cut throughLast newlinesIn whiteRun
-empty-value = refl
-
-quote-at-the-end : scalarList (97 ∷ []) 1 0 [] singleQuoted 0 ≡ none
-unfolding scalarList listFrom walkStart headerEnd beforeNewline atEmptyBlockHeader isBoundary numbers answerOf bufferOf piecesIf piecesOf joined stepPieces readingOf readBy step endStep equalStep breakStep opensBreak breakPair sameBytes escapesOf doubleQuoteEscapes backslashEscape oneByteEscapes isOneOf singleQuoteEscapes codeContent radix16 digits digitsFrom encode onlyNewlines blankRun cut throughLast newlinesIn whiteRun
-quote-at-the-end = refl
-
--- a block header with only newlines as value starts at its line's newline, or at the span's end
-header-line : walkStart (124 ∷ 45 ∷ 10 ∷ []) 0 1 [] literal ≡ 2
-unfolding scalarList listFrom walkStart headerEnd beforeNewline atEmptyBlockHeader isBoundary numbers answerOf bufferOf piecesIf piecesOf joined stepPieces readingOf readBy step endStep equalStep breakStep opensBreak breakPair sameBytes escapesOf doubleQuoteEscapes backslashEscape oneByteEscapes isOneOf singleQuoteEscapes codeContent radix16 digits digitsFrom encode onlyNewlines blankRun cut throughLast newlinesIn whiteRun
-header-line = refl
-
-header-alone : walkStart (62 ∷ 45 ∷ []) 0 1 (10 ∷ []) folded ≡ 1
-unfolding scalarList listFrom walkStart headerEnd beforeNewline atEmptyBlockHeader isBoundary numbers answerOf bufferOf piecesIf piecesOf joined stepPieces readingOf readBy step endStep equalStep breakStep opensBreak breakPair sameBytes escapesOf doubleQuoteEscapes backslashEscape oneByteEscapes isOneOf singleQuoteEscapes codeContent radix16 digits digitsFrom encode onlyNewlines blankRun cut throughLast newlinesIn whiteRun
-header-alone = refl
-
--- the value at a tab takes no content of a break, and the tab is then met by nothing
-tab-takes-nothing : scalarList (10 ∷ 9 ∷ []) 0 0 (9 ∷ []) plain 0 ≡ none
-unfolding scalarList listFrom walkStart headerEnd beforeNewline atEmptyBlockHeader isBoundary numbers answerOf bufferOf piecesIf piecesOf joined stepPieces readingOf readBy step endStep equalStep breakStep opensBreak breakPair sameBytes escapesOf doubleQuoteEscapes backslashEscape oneByteEscapes isOneOf singleQuoteEscapes codeContent radix16 digits digitsFrom encode onlyNewlines blankRun cut throughLast newlinesIn whiteRun
-tab-takes-nothing = refl
-
--- the column cuts the run after its newlines are counted: two newlines, one blank of indent, then a blank that is content
-cut-after-count : scalarList (10 ∷ 10 ∷ 32 ∷ 32 ∷ 97 ∷ []) 0 0 (10 ∷ 10 ∷ 32 ∷ 97 ∷ []) literal 1
-    ≡ some (piece replacement 0 3 2 ∷ piece verbatim 3 5 2 ∷ [])
-unfolding scalarList listFrom walkStart headerEnd beforeNewline atEmptyBlockHeader isBoundary numbers answerOf bufferOf piecesIf piecesOf joined stepPieces readingOf readBy step endStep equalStep breakStep opensBreak breakPair sameBytes escapesOf doubleQuoteEscapes backslashEscape oneByteEscapes isOneOf singleQuoteEscapes codeContent radix16 digits digitsFrom encode onlyNewlines blankRun cut throughLast newlinesIn whiteRun
-cut-after-count = refl
-
--- `\u+041` has the code 41; digits that cannot be read count 1; a cut-off escape claims its six bytes
-plus-sign : doubleQuoteEscapes (92 ∷ 117 ∷ 43 ∷ 48 ∷ 52 ∷ 49 ∷ []) ≡ Takes 6 1
-unfolding scalarList listFrom walkStart headerEnd beforeNewline atEmptyBlockHeader isBoundary numbers answerOf bufferOf piecesIf piecesOf joined stepPieces readingOf readBy step endStep equalStep breakStep opensBreak breakPair sameBytes escapesOf doubleQuoteEscapes backslashEscape oneByteEscapes isOneOf singleQuoteEscapes codeContent radix16 digits digitsFrom encode onlyNewlines blankRun cut throughLast newlinesIn whiteRun
-plus-sign = refl
-
-cut-off : scalarList (34 ∷ 92 ∷ 117 ∷ []) 0 3 (97 ∷ []) doubleQuoted 0 ≡ some (piece replacement 1 7 1 ∷ [])
-unfolding scalarList listFrom walkStart headerEnd beforeNewline atEmptyBlockHeader isBoundary numbers answerOf bufferOf piecesIf piecesOf joined stepPieces readingOf readBy step endStep equalStep breakStep opensBreak breakPair sameBytes escapesOf doubleQuoteEscapes backslashEscape oneByteEscapes isOneOf singleQuoteEscapes codeContent radix16 digits digitsFrom encode onlyNewlines blankRun cut throughLast newlinesIn whiteRun
-cut-off = refl
-
--- the pieces of K10 in a buffer with room for one, and with room for none
-k10-left : bufferOf 5 (some (piece replacement 1 7 3 ∷ [])) ≡ 2 ∷ 1 ∷ 7 ∷ 3 ∷ 0 ∷ []
-unfolding scalarList listFrom walkStart headerEnd beforeNewline atEmptyBlockHeader isBoundary numbers answerOf bufferOf piecesIf piecesOf joined stepPieces readingOf readBy step endStep equalStep breakStep opensBreak breakPair sameBytes escapesOf doubleQuoteEscapes backslashEscape oneByteEscapes isOneOf singleQuoteEscapes codeContent radix16 digits digitsFrom encode onlyNewlines blankRun cut throughLast newlinesIn whiteRun
-k10-left = refl
-
-k10-no-room : answerOf 0 (some (piece replacement 1 7 3 ∷ [])) ≡ NoRoom
-unfolding scalarList listFrom walkStart headerEnd beforeNewline atEmptyBlockHeader isBoundary numbers answerOf bufferOf piecesIf piecesOf joined stepPieces readingOf readBy step endStep equalStep breakStep opensBreak breakPair sameBytes escapesOf doubleQuoteEscapes backslashEscape oneByteEscapes isOneOf singleQuoteEscapes codeContent radix16 digits digitsFrom encode onlyNewlines blankRun cut throughLast newlinesIn whiteRun
-k10-no-room = refl
+pub worked : Worked
+unfolding scalarList listFrom walkStart headerEnd beforeNewline atEmptyBlockHeader isBoundary laidBy answerOf bufferOf piecesIf piecesOf
+    joined stepPieces readingOf readBy step endStep equalStep breakStep opensBreak breakPair sameBytes escapesOf doubleQuoteEscapes
+    backslashEscape oneByteEscapes isOneOf singleQuoteEscapes codeContent radix16 digits digitsFrom encode onlyNewlines blankRun cut
+    throughLast newlinesIn whiteRun isFold
+worked =
+    record {
+      k7 = refl;
+      k8 = refl;
+      k9 = refl;
+      k10 = refl;
+      k11 = refl;
+      empty-value = refl;
+      quote-at-the-end = refl;
+      header-line = refl;
+      header-alone = refl;
+      tab-takes-nothing = refl;
+      cut-after-count = refl;
+      plus-sign = refl;
+      cut-off = refl;
+      k10-left = refl;
+      k10-no-room = refl;
+    }

@@ -6,15 +6,17 @@
 use Prim.Native.Nat.{ℕ}
 use mathlib.Core.Bool.{Bool, true, false, _&&_, _||_, cond}
 use mathlib.Core.List.{List, [], _∷_}
-use lib.Dec.{ltb, eqb}
+use lib.Dec.{ltb, leb, eqb}
 use lib.ListN.{length, take, drop, getD}
-use Rattle.text.specs.Class.{isWhiteSpaceByte}
-use Rattle.measure.specs.Scalar.{doubleQuoted}
+use Rattle.utf8.specs.Ascii.{sameBytes, tab, newline, carriageReturn}
+use Rattle.utf8.specs.Class.{isWhiteSpaceByte}
+use Rattle.measure.specs.Scalar.{literal}
 use Rattle.provenance.specs.declared.escape.Escape.{Escape}
 use Rattle.provenance.specs.declared.escape.Escape.the-variants.{Takes, NoEscape}
 use Rattle.provenance.specs.declared.step.Step.{Step}
 use Rattle.provenance.specs.declared.step.Step.the-variants.{Verbatim, Replacement, NoStep}
-use Rattle.provenance.specs.Run.{tab, newline, carriageReturn, whiteRun, newlinesIn, cut, isBlank, blankRun, onlyNewlines}
+use Rattle.provenance.specs.Run.{whiteRun, newlinesIn, cut, blankRun, onlyNewlines}
+use Rattle.measure.specs.Plain.{isFold}
 use Rattle.provenance.specs.Escape.{EscapeTable, escapesOf}
 
 -- what a style decides: its escapes, whether it is a block, and the column, which only blocks look at
@@ -30,12 +32,6 @@ orElse (Replacement a b) t = Replacement a b
 orElse NoStep t = t
 
 -- ---- step 1, a break
-
-unfoldable pub sameBytes : List ℕ → List ℕ → Bool
-sameBytes [] [] = true
-sameBytes [] (y ∷ ys) = false
-sameBytes (x ∷ xs) [] = false
-sameBytes (x ∷ xs) (y ∷ ys) = eqb x y && sameBytes xs ys
 
 -- source bytes and content: verbatim if they are equal, else a replacement
 abbrev pub paired : List ℕ → List ℕ → Step
@@ -54,7 +50,7 @@ startsBreak block b = cond block (eqb b newline || eqb b carriageReturn) (isWhit
 
 -- with the value's byte: blank, newline or tab
 abbrev pub isBreakByte : ℕ → Bool
-isBreakByte c = isBlank c || eqb c tab
+isBreakByte c = isFold c || eqb c tab
 
 unfoldable pub opensBreak : Bool → ℕ → ℕ → Bool
 opensBreak block b c = isBreakByte c && startsBreak block b
@@ -94,10 +90,10 @@ step r src val = orElse (breakStep r src val) (orElse (escapeStep r src) (orElse
 abbrev pub stepAt : Rules → List ℕ → List ℕ → ℕ → ℕ → Step
 stepAt r src val s v = step r (drop s src) (drop v val)
 
--- ---- the rules of a style, which is a number as in `measure`: what is none of the first three is a block
+-- ---- the rules of a style, which is a number as in `measure`: the literal one and what comes after it is a block
 
 abbrev pub isBlock : ℕ → Bool
-isBlock style = ltb doubleQuoted style
+isBlock style = leb literal style
 
 abbrev pub rulesOf : ℕ → ℕ → Rules
 rulesOf style column = record { escapes = escapesOf style; block = isBlock style; column = column }

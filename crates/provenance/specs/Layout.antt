@@ -12,23 +12,31 @@ use Rattle.provenance.specs.declared.walk.Walked.the-variants.{Listed, N
 use Rattle.provenance.specs.declared.step.Step.{Step}
 use Rattle.provenance.specs.Reading.{Piece, piecesOf}
 
-abbrev pub pieceSize : ℕ
-pieceSize = 4
-
--- how many pieces a buffer has room for
-abbrev pub room : ℕ → ℕ
-room size = size / pieceSize
-
 abbrev pub zeros : ℕ → List ℕ
 zeros n = replicate n 0
 
--- the four numbers of each piece
-unfoldable pub numbers : List Piece → List ℕ
-numbers [] = []
-numbers (p ∷ ps) = p .kind ∷ p .start ∷ p .end ∷ p .content ∷ numbers ps
+-- the numbers of every entry, in order
+abbrev pub flat : {A : Type 0} → (A → List ℕ) → List A → List ℕ
+flat f [] = []
+flat f (x ∷ xs) = f x ++ flat f xs
 
-abbrev pub filled : ℕ → List Piece → List ℕ
-filled size ps = numbers ps ++ zeros (size - length ps * pieceSize)
+-- entries of w numbers from the front of a buffer of `size` numbers, and zeros past them
+unfoldable pub laidBy : {A : Type 0} → ℕ → (A → List ℕ) → ℕ → List A → List ℕ
+laidBy w f size xs = flat f xs ++ zeros (size - w * length xs)
+
+-- the four numbers of a piece
+abbrev pub pieceWidth : ℕ
+pieceWidth = 4
+
+abbrev pub pieceNumbers : Piece → List ℕ
+pieceNumbers p = p .kind ∷ p .start ∷ p .end ∷ p .content ∷ []
+
+abbrev pub laidPieces : ℕ → List Piece → List ℕ
+laidPieces = laidBy pieceWidth pieceNumbers
+
+-- how many pieces a buffer has room for
+abbrev pub room : ℕ → ℕ
+room size = size / pieceWidth
 
 -- document 01's number for each answer of a walk
 abbrev pub walkedNumber : Walked → ℕ
@@ -48,7 +56,7 @@ leftOf most (some ps) = cond (leb (length ps) most) ps []
 
 unfoldable pub bufferOf : ℕ → Option (List Piece) → List ℕ
 bufferOf size none = zeros size
-bufferOf size (some ps) = cond (leb (length ps) (room size)) (filled size ps) (zeros size)
+bufferOf size (some ps) = cond (leb (length ps) (room size)) (laidPieces size ps) (zeros size)
 
 -- the pieces of a reading, if there is one
 unfoldable pub piecesIf : ℕ → Option (List Step) → Option (List Piece)

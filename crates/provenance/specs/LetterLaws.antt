@@ -1,4 +1,4 @@
--- At a letter the grammar's step is one equal byte, whatever the style (S11). Assumes nothing.
+-- At a letter the grammar's step is one equal byte, whatever the style (S11).
 use mathlib.Core.Path.{_≡_, refl, sym, ap, _∙_}
 use mathlib.Core.Bool.{Bool, true, false, _&&_, _||_, cond}
 use mathlib.Core.Logic.{⊎-elim}
@@ -9,15 +9,16 @@ use borrow.Author.Tests.{lt-leb, eq-eqb, ne-eqb}
 use lib.Dec.{leb, eqb}
 use lib.ListN.{drop, getD}
 use lib.Seq.{drop-cons, drop-drop, getD-drop}
-use Rattle.text.specs.Class.{isWhiteSpaceByte}
+use Rattle.utf8.specs.Class.{isWhiteSpaceByte}
+use Rattle.measure.specs.Plain.{isFold}
 use Rattle.measure.specs.Scalar.{singleQuoted, doubleQuoted}
 use Rattle.provenance.specs.declared.escape.Escape.the-variants.{NoEscape}
 use Rattle.provenance.specs.declared.step.Step.the-variants.{Verbatim, NoStep}
 use Rattle.provenance.specs.Run.{whiteRun, newlinesIn}
 use Rattle.provenance.specs.Escape.{singleQuoteEscapes, doubleQuoteEscapes, escapesOf}
 use Rattle.provenance.specs.Grammar.{Rules, opensBreak, breakStep, equalStep, step, stepAt, rulesOf}
-use Rattle.measure.specs.Letters.{WordByte, LetterByte, Letters}
-use Rattle.text.specs.Tests.{by-order}
+use Rattle.letters.specs.Letters.{WordByte, LetterByte, Letters}
+use Rattle.utf8.specs.Tests.{by-order}
 
 -- ---- no break
 
@@ -45,7 +46,7 @@ no-newline a src e h = rw (e, run-ends src h)
 
 -- no break begins with a byte above a blank
 no-opening : (block : Bool) (a : ℕ) → 32 < a → opensBreak block a a ≡ false
-unfolding opensBreak
+unfolding opensBreak isFold
 no-opening block a h = rw (ne-eqb a 32 (λ e. omega arith), ne-eqb a 10 (λ e. omega arith), ne-eqb a 9 (λ e. omega arith))
 
 no-break : (r : Rules) (a : ℕ) (src val : List ℕ) → LetterByte a (getD src 0 0) (getD src 1 0) → breakStep r (a ∷ src) (a ∷ val) ≡ NoStep

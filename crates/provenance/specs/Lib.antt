@@ -1,4 +1,6 @@
 -- The definitions that the contracts of `provenance` cite, in reading order, and demand 3.
+
+-- What it means: what contracts and theorems cite, from document 01 and the standards. To be believed.
 -- white-space runs by bytes, and the blanks of a value
 pub mod Run
 -- escapes: the tables, and what an escape stands for
@@ -11,27 +13,32 @@ pub mod Reading
 pub mod Layout
 -- where a walk starts, and the pieces of a scalar
 pub mod Start
+-- Statements: theorems and laws that a caller may use, and worked cases. Proved; nothing here is to be believed.
+-- demand 3
+pub mod Demand
+-- demand 3, proved
+pub mod DemandLaws
+-- a reading is the only one, and is found just if there is one; the equations of the function that finds it
+pub mod ReadingLaws
+-- what a table of escapes is asked for, and that those of the styles are so
+pub mod EscapeLaws
+-- worked cases, K7 to K11 among them
+pub mod Examples
+-- For speed only: how fast paths are told. Nothing of 01 rests on them.
+-- what the code counts of a run in one pass
+pub mod Counted
 -- runs, as the walk looks at them
 pub mod Looked
 -- at a letter the step is one equal byte
 pub mod LetterLaws
 -- pieces, written one after the other
 pub mod Writing
--- demand 3
-pub mod Demand
--- laws of tests and choices
+-- Arguments: the lemmas behind the statements.
+-- tests and choices
 pub mod Tests
--- the laws of runs
+-- runs
 pub mod RunLaws
--- the laws of escapes
-pub mod EscapeLaws
--- the laws of steps
+-- steps
 pub mod StepLaws
--- the laws of readings
-pub mod ReadingLaws
--- the laws of pieces
+-- pieces
 pub mod PieceLaws
--- demand 3, proved
-pub mod DemandLaws
--- worked cases, K7 to K11 among them
-pub mod Examples

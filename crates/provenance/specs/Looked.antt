@@ -7,12 +7,12 @@ use mathlib.Core.List.{List}
 use lib.Dec.{ltb, eqb}
 use lib.ListN.{getD}
 use Rattle.provenance.specs.declared.run.Run.{Run}
-use Rattle.provenance.specs.Run.{noRun, runOf}
+use Rattle.provenance.specs.Counted.{noRun, countedRun}
 use Rattle.provenance.specs.Grammar.{opensBreak}
 
 -- the run that step 1 looks at, in numbers; none where the two bytes do not let it begin
 unfoldable pub breakRun : Bool → List ℕ → List ℕ → Run
-breakRun block src val = cond (opensBreak block (getD src 0 0) (getD val 0 0)) (runOf src) noRun
+breakRun block src val = cond (opensBreak block (getD src 0 0) (getD val 0 0)) (countedRun src) noRun
 
 -- `run` says of these places what step 1 needs: the run, or that there is no newline to be met
 pub record Tells (run : Run) (block : Bool) (src val : List ℕ) : Type 0 where

@@ -1,6 +1,6 @@
 -- The laws of a reading's pieces: they lie one after the other, copy what they say, and add up to the value. Over any fair step function.
 -- The pieces are laid as a walk writes them: a verbatim run stays open until a replacement or the value's end closes it. That these are
--- the joined pieces of the steps is `laid-is`. Assumes nothing.
+-- the joined pieces of the steps is `laid-is`.
 use mathlib.Core.Bool.{cond}
 use mathlib.Core.Path.{_≡_, refl, sym, ap, _∙_, subst}
 use mathlib.Core.Logic.{⊎-elim}
@@ -14,24 +14,24 @@ use lib.Seq.{take-add, drop-drop}
 use borrow.Author.Tests.{lt-ltb, le-ltb}
 use Rattle.provenance.specs.declared.step.Step.{Step}
 use Rattle.provenance.specs.declared.step.Step.the-variants.{Verbatim, Replacement, NoStep}
-use Rattle.provenance.specs.Escape.{Reach}
-use Rattle.provenance.specs.Reading.{Reads, contentLen, Piece, piece, verbatim, replacement, stepPieces, joinOn, joined, piecesOf}
+use Rattle.provenance.specs.Escape.{EscapeReach}
+use Rattle.provenance.specs.Reading.{IsReading, contentLen, Piece, piece, verbatim, replacement, stepPieces, joinOn, joined, piecesOf}
 use Rattle.provenance.specs.Demand.{StartsAt, Follow, EndBy, Copied, AllCopied, contents}
-use Rattle.text.specs.Tests.{by-order}
+use Rattle.utf8.specs.Tests.{by-order}
 use Rattle.provenance.specs.Tests.{by-answer}
 use Rattle.provenance.specs.StepLaws.{Fair}
 
 -- ---- the pieces as they are laid
 
 -- the verbatim run from..s of the text, if it is not empty
-abbrev pub closed : ℕ → ℕ → List Piece
-closed from s = cond (ltb from s) (piece verbatim from s (s - from) ∷ []) []
+abbrev pub closedRun : ℕ → ℕ → List Piece
+closedRun from s = cond (ltb from s) (piece verbatim from s (s - from) ∷ []) []
 
 -- the pieces of steps whose first stands at s, with the verbatim run from..s open
 unfoldable pub laid : ℕ → ℕ → List Step → List Piece
-laid from s [] = closed from s
+laid from s [] = closedRun from s
 laid from s (Verbatim n ∷ ts) = laid from (s + n) ts
-laid from s (Replacement a b ∷ ts) = closed from s ++ (piece replacement s (s + a) b ∷ laid (s + a) (s + a) ts)
+laid from s (Replacement a b ∷ ts) = closedRun from s ++ (piece replacement s (s + a) b ∷ laid (s + a) (s + a) ts)
 laid from s (NoStep ∷ ts) = []
 
 -- ---- one piece a step, neighbouring verbatim ones joined
@@ -68,15 +68,15 @@ unfoldable pub valueEnd : ℕ → List Step → ℕ
 valueEnd v [] = v
 valueEnd v (t ∷ ts) = valueEnd (v + contentLen t) ts
 
-module _ {reach : Reach} (at : ℕ → ℕ → Step) (L len : ℕ) (fair : Fair reach at L len) where
+module _ {reach : EscapeReach} (at : ℕ → ℕ → Step) (L len : ℕ) (fair : Fair reach at L len) where
   -- with no run open, and with one
   abbrev AsJoined : ℕ → List Step → Type 0
   AsJoined p ts =
       (laid p p ts ≡ joined (stepPieces p ts))
       × ((from : ℕ) → from < p → laid from p ts ≡ joinOn (piece verbatim from p (p - from)) (joined (stepPieces p ts)))
 
-  as-joined : (s v : ℕ) (ts : List Step) → Reads at len s v ts → (p : ℕ) → AsJoined p ts
-  unfolding laid stepPieces joined Reads
+  as-joined : (s v : ℕ) (ts : List Step) → IsReading at len s v ts → (p : ℕ) → AsJoined p ts
+  unfolding laid stepPieces joined IsReading
   as-joined s v [] r p = (let h : p ≤ p = omega arith in rw (le-ltb _ _ h), λ from h. rw (lt-ltb _ _ h))
   as-joined s v (Verbatim n ∷ ts) r p =
       let b = fair .same s v n (r .0) (r .1) in
@@ -98,14 +98,14 @@ module _ {reach : Reach} (at : ℕ → ℕ → Step) (L len : ℕ) (fair : Fair 
       )
   as-joined s v (NoStep ∷ ts) r p = absurd (r .2)
 
-  pub laid-is : (base : ℕ) (ts : List Step) → Reads at len 0 0 ts → laid base base ts ≡ piecesOf base ts
+  pub laid-is : (base : ℕ) (ts : List Step) → IsReading at len 0 0 ts → laid base base ts ≡ piecesOf base ts
   unfolding piecesOf
   laid-is base ts r = as-joined 0 0 ts r base .0
 
   -- ---- one after the other
 
-  chained : (s v : ℕ) (ts : List Step) → Reads at len s v ts → (from p : ℕ) → from ≤ p → Chain from (laid from p ts)
-  unfolding laid Reads Chain
+  chained : (s v : ℕ) (ts : List Step) → IsReading at len s v ts → (from p : ℕ) → from ≤ p → Chain from (laid from p ts)
+  unfolding laid IsReading Chain
   chained s v [] r from p h = by-order from p (λ lt. rw (lt-ltb _ _ lt) (refl, tt)) (λ le. rw (le-ltb _ _ le) tt)
   chained s v (Verbatim n ∷ ts) r from p h = chained (s + n) (v + n) ts (r .3) from (p + n) (omega arith)
   chained s v (Replacement x y ∷ ts) r from p h =
@@ -113,16 +113,16 @@ module _ {reach : Reach} (at : ℕ → ℕ → Step) (L len : ℕ) (fair : Fair 
       by-order from p (λ lt. rw (lt-ltb _ _ lt) (refl, (refl, i))) (λ le. rw (le-ltb _ _ le) (omega arith, i))
   chained s v (NoStep ∷ ts) r from p h = absurd (r .2)
 
-  pub first-starts : (base : ℕ) (ts : List Step) → Reads at len 0 0 ts → StartsAt base (laid base base ts)
+  pub first-starts : (base : ℕ) (ts : List Step) → IsReading at len 0 0 ts → StartsAt base (laid base base ts)
   first-starts base ts r = chain-starts base _ (chained 0 0 ts r base base (omega arith))
 
-  pub others-follow : (base : ℕ) (ts : List Step) → Reads at len 0 0 ts → Follow (laid base base ts)
+  pub others-follow : (base : ℕ) (ts : List Step) → IsReading at len 0 0 ts → Follow (laid base base ts)
   others-follow base ts r = chain-follows base _ (chained 0 0 ts r base base (omega arith))
 
   -- ---- none ends further past the source than an escape reaches
 
-  ended : (base s v : ℕ) (ts : List Step) → Reads at len s v ts → (from p : ℕ) → p ≡ base + s → s ≤ L + reach .past → EndBy (base + (L + reach .past)) (laid from p ts)
-  unfolding laid Reads EndBy
+  ended : (base s v : ℕ) (ts : List Step) → IsReading at len s v ts → (from p : ℕ) → p ≡ base + s → s ≤ L + reach .past → EndBy (base + (L + reach .past)) (laid from p ts)
+  unfolding laid IsReading EndBy
   ended base s v [] r from p e h = by-order from p (λ lt. rw (lt-ltb _ _ lt) (omega arith, tt)) (λ le. rw (le-ltb _ _ le) tt)
   ended base s v (Verbatim n ∷ ts) r from p e h = let b = fair .same s v n (r .0) (r .1) in ended base (s + n) (v + n) ts (r .3) from (p + n) (omega arith) (omega arith)
   ended base s v (Replacement x y ∷ ts) r from p e h =
@@ -132,13 +132,13 @@ module _ {reach : Reach} (at : ℕ → ℕ → Step) (L len : ℕ) (fair : Fair 
       by-order from p (λ lt. rw (lt-ltb _ _ lt) (omega arith, (omega arith, i))) (λ le. rw (le-ltb _ _ le) (omega arith, i))
   ended base s v (NoStep ∷ ts) r from p e h = absurd (r .2)
 
-  pub all-ended : (base : ℕ) (ts : List Step) → Reads at len 0 0 ts → EndBy (base + (L + reach .past)) (laid base base ts)
+  pub all-ended : (base : ℕ) (ts : List Step) → IsReading at len 0 0 ts → EndBy (base + (L + reach .past)) (laid base base ts)
   all-ended base ts r = ended base 0 0 ts r base base (omega arith) (omega arith)
 
   -- ---- their contents add up to what the steps take of the value
 
-  content-sum : (s v : ℕ) (ts : List Step) → Reads at len s v ts → (from p : ℕ) → from ≤ p → v + contents (laid from p ts) ≡ valueEnd v ts + (p - from)
-  unfolding laid Reads contents valueEnd
+  content-sum : (s v : ℕ) (ts : List Step) → IsReading at len s v ts → (from p : ℕ) → from ≤ p → v + contents (laid from p ts) ≡ valueEnd v ts + (p - from)
+  unfolding laid IsReading contents valueEnd
   content-sum s v [] r from p h = by-order from p (λ lt. rw (lt-ltb _ _ lt) (omega arith)) (λ le. rw (le-ltb _ _ le) (omega arith))
   content-sum s v (Verbatim n ∷ ts) r from p h = let i = content-sum (s + n) (v + n) ts (r .3) from (p + n) (omega arith) in omega arith
   content-sum s v (Replacement x y ∷ ts) r from p h =
@@ -146,12 +146,12 @@ module _ {reach : Reach} (at : ℕ → ℕ → Step) (L len : ℕ) (fair : Fair 
       by-order from p (λ lt. rw (lt-ltb _ _ lt) (omega arith)) (λ le. rw (le-ltb _ _ le) (omega arith))
   content-sum s v (NoStep ∷ ts) r from p h = absurd (r .2)
 
-  pub contents-are : (base : ℕ) (ts : List Step) → Reads at len 0 0 ts → contents (laid base base ts) ≡ valueEnd 0 ts
+  pub contents-are : (base : ℕ) (ts : List Step) → IsReading at len 0 0 ts → contents (laid base base ts) ≡ valueEnd 0 ts
   contents-are base ts r = let q = content-sum 0 0 ts r base base (omega arith) in omega arith
 
   -- a reading ends at the value's end, or past it by less than an escape's content
-  pub value-end : (s v : ℕ) (ts : List Step) → v ≤ len + (reach .content - 1) → Reads at len s v ts → (len ≤ valueEnd v ts) × (valueEnd v ts ≤ len + (reach .content - 1))
-  unfolding Reads valueEnd
+  pub value-end : (s v : ℕ) (ts : List Step) → v ≤ len + (reach .content - 1) → IsReading at len s v ts → (len ≤ valueEnd v ts) × (valueEnd v ts ≤ len + (reach .content - 1))
+  unfolding IsReading valueEnd
   value-end s v [] h r = (r, h)
   value-end s v (Verbatim n ∷ ts) h r = let b = fair .same s v n (r .0) (r .1) in value-end (s + n) (v + n) ts (omega arith) (r .3)
   value-end s v (Replacement x y ∷ ts) h r = value-end (s + x) (v + y) ts (fair .other s v x y (r .0) (r .1) .0) (r .3)
@@ -162,18 +162,18 @@ module _ {reach : Reach} (at : ℕ → ℕ → Step) (L len : ℕ) (fair : Fair 
   module _ (text val : List ℕ) (base : ℕ) (eL : L ≡ length (drop base text)) (eLen : len ≡ length val)
       (equal : (s v n : ℕ) → v < len → at s v ≡ Verbatim n → take n (drop s (drop base text)) ≡ take n (drop v val)) where
     -- the run from..s is open, its bytes are those of the value from c on
-    pub record Open (from s v c : ℕ) : Type 0 where
+    pub record OpenRun (from s v c : ℕ) : Type 0 where
       pub in-order : from ≤ s
       pub place : c + (s - from) ≡ v
       pub inside : from < s → (s ≤ L) × (v ≤ len)
       pub bytes : take (s - from) (drop from (drop base text)) ≡ take (s - from) (drop c val)
 
-    open-none : (s v : ℕ) → Open s s v v
+    open-none : (s v : ℕ) → OpenRun s s v v
     open-none s v =
         let z : s - s ≡ 0 = omega arith in
         record { in-order = omega arith; place = omega arith; inside = λ h. absurd (omega arith); bytes = rw z refl }
 
-    open-more : (from s v c n : ℕ) → v < len → at s v ≡ Verbatim n → Open from s v c → Open from (s + n) (v + n) c
+    open-more : (from s v c n : ℕ) → v < len → at s v ≡ Verbatim n → OpenRun from s v c → OpenRun from (s + n) (v + n) c
     open-more from s v c n more e o =
         let h = o .in-order in
         let ec = o .place in
@@ -190,7 +190,7 @@ module _ {reach : Reach} (at : ℕ → ℕ → Step) (L len : ℕ) (fair : Fair 
         record { in-order = omega arith; place = omega arith; inside = λ _. (b .1, b .2); bytes = rw q w }
 
     -- closed, it is a piece that copies
-    open-copied : (from s v c : ℕ) → from < s → Open from s v c → Copied text val c (piece verbatim (base + from) (base + s) (base + s - (base + from)))
+    open-copied : (from s v c : ℕ) → from < s → OpenRun from s v c → Copied text val c (piece verbatim (base + from) (base + s) (base + s - (base + from)))
     open-copied from s v c lt o =
         let q : base + s - (base + from) ≡ s - from = omega arith in
         let i = o .inside lt in
@@ -203,8 +203,8 @@ module _ {reach : Reach} (at : ℕ → ℕ → Step) (L len : ℕ) (fair : Fair 
           bytes = rw q (ap (λ (l : List ℕ). take (s - from) l) (sym (drop-drop from base text)) ∙ o .bytes);
         }
 
-    copied : (s v : ℕ) (ts : List Step) → Reads at len s v ts → (from c : ℕ) → Open from s v c → AllCopied text val c (laid (base + from) (base + s) ts)
-    unfolding laid Reads AllCopied
+    copied : (s v : ℕ) (ts : List Step) → IsReading at len s v ts → (from c : ℕ) → OpenRun from s v c → AllCopied text val c (laid (base + from) (base + s) ts)
+    unfolding laid IsReading AllCopied
     copied s v [] r from c o =
         by-order from s
         (λ lt. let h : base + from < base + s = omega arith in rw (lt-ltb _ _ h) ((λ _. open-copied from s v c lt o), tt))
@@ -228,5 +228,5 @@ module _ {reach : Reach} (at : ℕ → ℕ → Step) (L len : ℕ) (fair : Fair 
         rw (le-ltb _ _ h) ((λ k. absurd (no k)), subst (λ (k : ℕ). AllCopied text val k (laid (base + s + x) (base + s + x) ts)) (sym e) i))
     copied s v (NoStep ∷ ts) r from c o = absurd (r .2)
 
-    pub all-copied : (ts : List Step) → Reads at len 0 0 ts → AllCopied text val 0 (laid base base ts)
+    pub all-copied : (ts : List Step) → IsReading at len 0 0 ts → AllCopied text val 0 (laid base base ts)
     all-copied ts r = let q : base + 0 ≡ base = omega arith in rw q at (copied 0 0 ts r 0 0 (open-none 0 0))

@@ -1,6 +1,6 @@
 -- Readings (S12), over any function that gives the step at a source place and a value place. A list of steps is a reading from two
 -- places if each is the step that stands where those before it end, and the value place is at or past the value's end after the last.
--- `Reads` says so; `readingOf` computes the reading, if there is one. Its number of steps is bounded only so that it ends: that it finds
+-- `IsReading` says so; `readingOf` computes the reading, if there is one. Its number of steps is bounded only so that it ends: that it finds
 -- exactly the readings, and the equations a reader expects of it, are in `ReadingLaws`. Nothing else looks at the bound.
 use Prim.{Unit}
 use Prim.Native.Nat.{ℕ, zero, suc, _+_, _≤_, _<_}
@@ -31,13 +31,13 @@ Fits (Replacement a b) = Unit {0}
 Fits NoStep = ⊥
 
 -- the steps are a reading of a value of `len` bytes from the source place s and the value place v on
-unfoldable pub Reads : (ℕ → ℕ → Step) → ℕ → ℕ → ℕ → List Step → Type 0
-Reads at len s v [] = len ≤ v
-Reads at len s v (t ∷ ts) = (v < len) × (at s v ≡ t) × Fits t × Reads at len (s + sourceLen t) (v + contentLen t) ts
+unfoldable pub IsReading : (ℕ → ℕ → Step) → ℕ → ℕ → ℕ → List Step → Type 0
+IsReading at len s v [] = len ≤ v
+IsReading at len s v (t ∷ ts) = (v < len) × (at s v ≡ t) × Fits t × IsReading at len (s + sourceLen t) (v + contentLen t) ts
 
 -- a reading of a value in its source, by the grammar
 abbrev pub Reading : Rules → List ℕ → List ℕ → List Step → Type 0
-Reading r src val ts = Reads (stepAt r src val) (length val) 0 0 ts
+Reading r src val ts = IsReading (stepAt r src val) (length val) 0 0 ts
 
 -- ---- the same as a function
 

@@ -1,4 +1,4 @@
--- The laws of runs: a run is bytes that stand there, and no more of them than there are. Assumes nothing.
+-- The laws of runs: a run is bytes that stand there, and no more of them than there are.
 use mathlib.Core.Path.{_≡_, refl, sym, ap, _∙_}
 use mathlib.Core.Bool.{Bool, _&&_, cond}
 use mathlib.Core.List.{List, [], _∷_}
@@ -8,10 +8,13 @@ use lib.Dec.{ltb, eqb}
 use lib.ListN.{length, take, drop, length-take}
 use lib.Seq.{take-all, take-take, length-take-le}
 use borrow.Author.Tests.{eqb-true, lt-ltb, le-ltb, ne-eqb}
-use Rattle.text.specs.Class.{isWhiteSpaceByte}
-use Rattle.provenance.specs.Run.{newline, whiteRun, newlinesIn, throughLast, cut, isBlank, blankRun, inNumbers, cutLen}
+use Rattle.utf8.specs.Class.{isWhiteSpaceByte}
+use Rattle.provenance.specs.Run.{whiteRun, newlinesIn, throughLast, cut, blankRun}
+use Rattle.measure.specs.Plain.{isFold}
+use Rattle.utf8.specs.Ascii.{newline}
+use Rattle.provenance.specs.Counted.{runNumbers, cutLen}
 use Rattle.provenance.specs.Start.{beforeNewline, headerEnd}
-use Rattle.text.specs.Tests.{by-order}
+use Rattle.utf8.specs.Tests.{by-order}
 use Rattle.provenance.specs.Tests.{by-test, by-answer}
 
 -- ---- bounds
@@ -24,7 +27,7 @@ run-within (b ∷ bs) = by-test (λ (t : Bool). length (cond t (b ∷ whiteRun b
 pub blanks-within : (l : List ℕ) → length (blankRun l) ≤ length l
 unfolding blankRun
 blanks-within [] = omega arith
-blanks-within (b ∷ bs) = by-test (λ (t : Bool). length (cond t (b ∷ blankRun bs) []) ≤ suc (length bs)) (isBlank b) (let i = blanks-within bs in omega arith) (omega arith)
+blanks-within (b ∷ bs) = by-test (λ (t : Bool). length (cond t (b ∷ blankRun bs) []) ≤ suc (length bs)) (isFold b) (let i = blanks-within bs in omega arith) (omega arith)
 
 pub last-within : (l : List ℕ) → throughLast l ≤ length l
 unfolding throughLast
@@ -87,7 +90,7 @@ cut-keeps-newlines block column l =
     refl
 
 -- the numbers of a cut run
-pub cut-numbers : (block : Bool) (column : ℕ) (l : List ℕ) → cutLen block column (inNumbers l) ≡ length (cut block column l)
+pub cut-numbers : (block : Bool) (column : ℕ) (l : List ℕ) → cutLen block column (runNumbers l) ≡ length (cut block column l)
 unfolding cut cutLen
 cut-numbers block column l =
     by-test (λ (t : Bool). cond t (min (throughLast l + column) (length l)) (length l) ≡ length (cond t (take (throughLast l + column) l) l)) (block && ltb 0 column)
@@ -108,7 +111,7 @@ pub blanks-are : (l : List ℕ) → blankRun l ≡ take (length (blankRun l)) l
 unfolding blankRun
 blanks-are [] = refl
 blanks-are (b ∷ bs) =
-    by-test (λ (t : Bool). cond t (b ∷ blankRun bs) [] ≡ take (length (cond t (b ∷ blankRun bs) [])) (b ∷ bs)) (isBlank b)
+    by-test (λ (t : Bool). cond t (b ∷ blankRun bs) [] ≡ take (length (cond t (b ∷ blankRun bs) [])) (b ∷ bs)) (isFold b)
     (ap (λ (x : List ℕ). b ∷ x) (blanks-are bs))
     refl
 

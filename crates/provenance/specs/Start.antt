@@ -6,9 +6,10 @@ use mathlib.Core.List.{List, [], _∷_}
 use mathlib.Core.Option.{Option, none}
 use lib.Dec.{ltb, eqb}
 use lib.ListN.{length, drop, getD}
-use Rattle.text.specs.Boundary.{isBoundary}
+use Rattle.utf8.specs.Boundary.{isBoundary}
 use Rattle.measure.specs.Scalar.{singleQuoted, doubleQuoted}
-use Rattle.provenance.specs.Run.{newline, onlyNewlines}
+use Rattle.provenance.specs.Run.{onlyNewlines}
+use Rattle.utf8.specs.Ascii.{newline}
 use Rattle.provenance.specs.Grammar.{Rules, isBlock, rulesOf}
 use Rattle.provenance.specs.Reading.{Piece, readingOf}
 use Rattle.provenance.specs.Layout.{piecesIf}

@@ -1,5 +1,5 @@
 -- What a step takes: at least a byte of the source or the rest of the value, and no more than there is, but for escapes. Over any table
--- of escapes that is fair. Assumes nothing.
+-- of escapes that is fair.
 use mathlib.Core.Path.{_≡_, refl, sym, ap, _∙_, subst}
 use mathlib.Core.Bool.{true}
 use mathlib.Core.Logic.{_⊎_, inl, inr, ⊎-elim}
@@ -9,15 +9,17 @@ use native.Mathlib.Omega.{arith}
 use lib.Dec.{ltb, eqb}
 use lib.ListN.{length, take, drop, getD, length-take, length-drop}
 use borrow.Author.Tests.{ltb-true, eqb-true, eq-eqb}
+use Rattle.utf8.specs.Ascii.{sameBytes}
 use Rattle.provenance.specs.declared.escape.Escape.{Escape}
 use Rattle.provenance.specs.declared.escape.Escape.the-variants.{Takes, NoEscape}
 use Rattle.provenance.specs.declared.step.Step.{Step}
 use Rattle.provenance.specs.declared.step.Step.the-variants.{Verbatim, Replacement, NoStep}
 use Rattle.provenance.specs.Run.{whiteRun, newlinesIn, cut, blankRun, onlyNewlines}
-use Rattle.provenance.specs.Escape.{Reach, FairTable}
-use Rattle.provenance.specs.Grammar.{Rules, orElse, sameBytes, paired, breakPair, opensBreak, breakStep, asStep, escapeStep, equalStep, endStep, step, stepAt}
-use Rattle.text.specs.Tests.{clash, and-both}
-use Rattle.provenance.specs.Tests.{picked, passed}
+use Rattle.provenance.specs.Escape.{EscapeReach}
+use Rattle.provenance.specs.EscapeLaws.{FairTable}
+use Rattle.provenance.specs.Grammar.{Rules, orElse, paired, breakPair, opensBreak, breakStep, asStep, escapeStep, equalStep, endStep, step, stepAt}
+use Rattle.utf8.specs.Tests.{clash, and-both}
+use Rattle.provenance.specs.Tests.{cond-taken, cond-other}
 use Rattle.provenance.specs.RunLaws.{run-within, blanks-within, cut-within, cut-some, cut-is, blanks-are, front-of}
 
 -- ---- equal bytes
@@ -58,7 +60,7 @@ abbrev pub TakesSame : List ℕ → List ℕ → ℕ → Type 0
 TakesSame src val k = (0 < k) × (k ≤ length src) × (k ≤ length val) × (take k src ≡ take k val)
 
 -- an escape stands where at least a byte of the value is left, so its content passes the value by less than it has
-abbrev pub TakesOther : Reach → List ℕ → List ℕ → ℕ → ℕ → Type 0
+abbrev pub TakesOther : EscapeReach → List ℕ → List ℕ → ℕ → ℕ → Type 0
 TakesOther reach src val a b =
     (b ≤ length val + (reach .content - 1)) × (((0 < a) × (0 < length src) × (a ≤ length src + reach .past)) ⊎ ((a ≡ 0) × (b ≡ length val)))
 
@@ -73,8 +75,8 @@ module _ (r : Rules) (src val : List ℕ) where
   break-fits : (t : Step) → (NoStep ≡ t → ⊥) → breakStep r src val ≡ t → (0 < newlinesIn (whiteRun src)) × (paired X Y ≡ t)
   unfolding breakStep breakPair
   break-fits t n h =
-      let p = picked (opensBreak (r .block) (getD src 0 0) (getD val 0 0)) _ NoStep t n h in
-      let q = picked (ltb 0 (newlinesIn (whiteRun src))) (paired X Y) NoStep t n (p .1) in
+      let p = cond-taken (opensBreak (r .block) (getD src 0 0) (getD val 0 0)) _ NoStep t n h in
+      let q = cond-taken (ltb 0 (newlinesIn (whiteRun src))) (paired X Y) NoStep t n (p .1) in
       (ltb-true 0 _ (q .0), q .1)
 
   break-bounds : 0 < newlinesIn (whiteRun src) → (0 < length X) × (length X ≤ length src) × (length Y ≤ length val)
@@ -89,7 +91,7 @@ module _ (r : Rules) (src val : List ℕ) where
   break-same : (k : ℕ) → breakStep r src val ≡ Verbatim k → TakesSame src val k
   break-same k h =
       let p = break-fits (Verbatim k) (none-verbatim k) h in
-      let q = picked (sameBytes X Y) (Verbatim (length X)) (Replacement (length X) (length Y)) (Verbatim k) (replacement-verbatim k (length X) (length Y)) (p .1) in
+      let q = cond-taken (sameBytes X Y) (Verbatim (length X)) (Replacement (length X) (length Y)) (Verbatim k) (replacement-verbatim k (length X) (length Y)) (p .1) in
       let e : Verbatim (length X) ≡ Verbatim k = q .1 in
       let ek : length X ≡ k = cc in
       let xy : X ≡ Y = same-true X Y (q .0) in
@@ -102,7 +104,7 @@ module _ (r : Rules) (src val : List ℕ) where
   break-other : (a b : ℕ) → breakStep r src val ≡ Replacement a b → (0 < a) × (a ≤ length src) × (b ≤ length val)
   break-other a b h =
       let p = break-fits (Replacement a b) (none-replacement a b) h in
-      let q = passed (sameBytes X Y) (Verbatim (length X)) (Replacement (length X) (length Y)) (Replacement a b) (verbatim-replacement (length X) a b) (p .1) in
+      let q = cond-other (sameBytes X Y) (Verbatim (length X)) (Replacement (length X) (length Y)) (Replacement a b) (verbatim-replacement (length X) a b) (p .1) in
       let e : Replacement (length X) (length Y) ≡ Replacement a b = q .1 in
       let ea : length X ≡ a = cc in
       let eb : length Y ≡ b = cc in
@@ -114,16 +116,16 @@ unfolding equalStep
 equal-is [] val t n h = absurd (n h)
 equal-is (x ∷ xs) [] t n h = absurd (n h)
 equal-is (x ∷ xs) (y ∷ ys) t n h =
-    let p = picked (eqb x y) (Verbatim 1) NoStep t n h in
+    let p = cond-taken (eqb x y) (Verbatim 1) NoStep t n h in
     (p .1, (omega arith, omega arith, omega arith, ap (λ (z : ℕ). z ∷ []) (eqb-true x y (p .0))))
 
 end-is : (src val : List ℕ) (t : Step) → (NoStep ≡ t → ⊥) → endStep src val ≡ t → Replacement 0 (length val) ≡ t
 unfolding endStep
-end-is [] val t n h = picked (onlyNewlines val) (Replacement 0 (length val)) NoStep t n h .1
+end-is [] val t n h = cond-taken (onlyNewlines val) (Replacement 0 (length val)) NoStep t n h .1
 end-is (x ∷ xs) val t n h = absurd (n h)
 
 -- ---- by what each of the four says
-module _ (r : Rules) {reach : Reach} (fair : FairTable (r .escapes) reach) (src val : List ℕ) where
+module _ (r : Rules) {reach : EscapeReach} (fair : FairTable (r .escapes) reach) (src val : List ℕ) where
   same-of : (k : ℕ) (B : Step) (E : Escape) (S : Step) → breakStep r src val ≡ B → r .escapes src ≡ E → equalStep src val ≡ S
       → orElse B (orElse (asStep E) (orElse S (endStep src val))) ≡ Verbatim k → TakesSame src val k
   same-of k (Verbatim n) E S o p q h = break-same r src val k (o ∙ h)
@@ -177,11 +179,11 @@ module _ (r : Rules) {reach : Reach} (fair : FairTable (r .escapes) reach) (src 
 
 -- ---- a step function of two places: what it takes of L source bytes and len value bytes
 
-pub record Fair (reach : Reach) (at : ℕ → ℕ → Step) (L len : ℕ) : Type 0 where
+pub record Fair (reach : EscapeReach) (at : ℕ → ℕ → Step) (L len : ℕ) : Type 0 where
   pub same : (s v k : ℕ) → v < len → at s v ≡ Verbatim k → (0 < k) × (s + k ≤ L) × (v + k ≤ len)
   pub other : (s v a b : ℕ) → v < len → at s v ≡ Replacement a b → (v + b ≤ len + (reach .content - 1)) × (((0 < a) × (s < L) × (s + a ≤ L + reach .past)) ⊎ ((a ≡ 0) × (v + b ≡ len)))
 
-pub grammar-fair : (r : Rules) {reach : Reach} → FairTable (r .escapes) reach → (src val : List ℕ) → Fair reach (stepAt r src val) (length src) (length val)
+pub grammar-fair : (r : Rules) {reach : EscapeReach} → FairTable (r .escapes) reach → (src val : List ℕ) → Fair reach (stepAt r src val) (length src) (length val)
 grammar-fair r fair src val =
     record {
       same = λ s v k more h.

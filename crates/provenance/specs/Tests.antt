@@ -1,11 +1,11 @@
--- Laws of tests and choices, and of the bytes of a list. Assumes nothing.
+-- Laws of tests and choices, and of the bytes of a list.
 use mathlib.Core.Path.{_≡_, refl}
 use mathlib.Core.Bool.{Bool, true, false, _&&_, cond}
 use mathlib.Core.List.{List, [], _∷_}
 use Prim.Native.Nat.{ℕ, zero, suc, _≤_, _<_}
 use native.Mathlib.Omega.{arith}
 use lib.ListN.{length, getD}
-use Rattle.text.specs.Tests.{by-order}
+use Rattle.utf8.specs.Tests.{by-order}
 
 pub by-test : (P : Bool → Type 0) (t : Bool) → P true → P false → P t
 by-test P true f g = f
@@ -20,17 +20,17 @@ and-no true = refl
 and-no false = refl
 
 -- what a choice that came out as t says of the question
-pub picked : {A : Type 0} (t : Bool) (x y w : A) → (y ≡ w → ⊥) → cond t x y ≡ w → (t ≡ true) × (x ≡ w)
-picked true x y w n h = (refl, h)
-picked false x y w n h = absurd (n h)
+pub cond-taken : {A : Type 0} (t : Bool) (x y w : A) → (y ≡ w → ⊥) → cond t x y ≡ w → (t ≡ true) × (x ≡ w)
+cond-taken true x y w n h = (refl, h)
+cond-taken false x y w n h = absurd (n h)
 
-pub passed : {A : Type 0} (t : Bool) (x y w : A) → (x ≡ w → ⊥) → cond t x y ≡ w → (t ≡ false) × (y ≡ w)
-passed true x y w n h = absurd (n h)
-passed false x y w n h = (refl, h)
+pub cond-other : {A : Type 0} (t : Bool) (x y w : A) → (x ≡ w → ⊥) → cond t x y ≡ w → (t ≡ false) × (y ≡ w)
+cond-other true x y w n h = absurd (n h)
+cond-other false x y w n h = (refl, h)
 
-pub either : {A X : Type 0} (t : Bool) (x y w : A) → cond t x y ≡ w → (x ≡ w → X) → (y ≡ w → X) → X
-either true x y w h f g = f h
-either false x y w h f g = g h
+pub by-cond : {A X : Type 0} (t : Bool) (x y w : A) → cond t x y ≡ w → (x ≡ w → X) → (y ≡ w → X) → X
+by-cond true x y w h f g = f h
+by-cond false x y w h f g = g h
 
 -- the byte past the end is 0
 pub byte-past : (l : List ℕ) (i : ℕ) → length l ≤ i → getD l i 0 ≡ 0

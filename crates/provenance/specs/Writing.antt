@@ -6,14 +6,14 @@ use mathlib.Core.List.{List, _++_}
 use lib.Dec.{ltb}
 use lib.ListN.{length, drop, set}
 use Rattle.provenance.specs.Reading.{Piece, piece, verbatim, replacement}
-use Rattle.provenance.specs.Layout.{pieceSize, room, zeros}
+use Rattle.provenance.specs.Layout.{pieceWidth, room, zeros}
 
 abbrev pub fourAt : List ℕ → ℕ → Piece → List ℕ
 fourAt buf i p = set (set (set (set buf i (p .kind)) (i + 1) (p .start)) (i + 2) (p .end)) (i + 3) (p .content)
 
 -- piece number n, where there is room for it
 unfoldable pub putPiece : List ℕ → ℕ → Piece → List ℕ
-putPiece buf n p = cond (ltb n (room (length buf))) (fourAt buf (n * pieceSize) p) buf
+putPiece buf n p = cond (ltb n (room (length buf))) (fourAt buf (pieceWidth * n) p) buf
 
 -- the verbatim bytes from..s of the source, if there are any
 unfoldable pub putOpen : List ℕ → ℕ → ℕ → ℕ → ℕ → List ℕ
@@ -34,4 +34,4 @@ clearedTo n buf = zeros n ++ drop n buf
 
 -- how many numbers n pieces took
 unfoldable pub writtenLen : ℕ → ℕ → ℕ
-writtenLen n size = cond (ltb n (room size)) (n * pieceSize) (room size * pieceSize)
+writtenLen n size = cond (ltb n (room size)) (pieceWidth * n) (pieceWidth * room size)

@@ -4,28 +4,27 @@ ghost use Prim.Native.Nat.{_+_, _≤_, _<_};
 ghost use mathlib.Core.Bool.{true};
 ghost use mathlib.Core.Option.{some};
 ghost use lib.ListN.{length, take, drop, getD};
-ghost use Rattle.text.specs.Class.{isHexDigit};
-ghost use Rattle.text.specs.Utf8.{encode};
+ghost use Rattle.text.specs.Admission.{textLimit};
+ghost use Rattle.utf8.specs.Class.{isHexDigit};
+ghost use Rattle.utf8.specs.Utf8.{encode};
 ghost use Rattle.provenance.specs.Run.{whiteRun};
 ghost use Rattle.provenance.specs.declared.escape.Escape.the-variants.{Takes};
-ghost use Rattle.provenance.specs.Escape.{digitValue, digitsFrom, digits, radix16, codeContent, isOneOf, oneByteEscapes, singleQuoteEscapes, backslashEscape, doubleQuoteEscapes, escapesOf};
+ghost use Rattle.provenance.specs.Escape.{hexValue, digits, radix16, codeContent, isOneOf, oneByteEscapes, singleQuoteEscapes, backslashEscape, doubleQuoteEscapes, escapesOf};
 use crate::run::CARRIAGE_RETURN;
 use crate::run::NEWLINE;
-use crate::run::white_space_run;
+use crate::run::white_run;
+use measure::quoted::BACKSLASH;
+use measure::quoted::SINGLE_QUOTE;
 use measure::scalar::DOUBLE_QUOTED;
 use measure::scalar::SINGLE_QUOTED;
-use text::class::is_hex_digit;
-use text::utf8::byte_at;
+use utf8::class::is_hex_digit;
+use utf8::utf8::byte_at;
 
 // An escape takes so many source bytes and stands for so many content bytes. It is never compared with the value. (W2.)
 pub enum Escape {
     Takes(usize, usize),
     NoEscape,
 }
-
-const QUOTE: u8 = 39;
-
-const BACKSLASH: u8 = 92;
 
 const PLUS: u8 = 43;
 
@@ -54,7 +53,7 @@ fn is_one_byte_escape(c: u8) -> bool
 // The number of a hexadecimal digit.
 fn digit_value(b: u8) -> u32
     requires { ⌜ isHexDigit b ≡ true ⌝ }
-    ensures { λ r. ⌜ r ≡ digitValue b ⌝ }
+    ensures { λ r. ⌜ r ≡ hexValue b ⌝ }
 {
     if b <= 57 {
         return (b - 48) as u32;
@@ -139,16 +138,16 @@ fn unicode_content_at(tail: &[u8], from: usize) -> usize
 
 // An escaped line break: `after` begins behind the backslash.
 fn line_escape(after: &[u8]) -> Escape
-    requires { ⌜ length (now after) ≤ 1048576 ⌝ }
+    requires { ⌜ length (now after) ≤ textLimit ⌝ }
     ensures { λ r. ⌜ r ≡ Takes (1 + length (whiteRun (now (after .entry)))) 0 ⌝ }
 {
-    let run = white_space_run(after);
+    let run = white_run(after);
     Escape::Takes(1 + run.len, 0)
 }
 
 // An escape in double quotes: `after` begins behind the backslash.
 fn backslash_escape(after: &[u8]) -> Escape
-    requires { ⌜ length (now after) ≤ 1048576 ⌝ }
+    requires { ⌜ length (now after) ≤ textLimit ⌝ }
     ensures { λ r. ⌜ r ≡ backslashEscape (getD (now (after .entry)) 0 0) (now (after .entry)) ⌝ }
 {
     let c = byte_at(after, 0);
@@ -174,10 +173,10 @@ fn backslash_escape(after: &[u8]) -> Escape
 fn single_quote_escape(tail: &[u8]) -> Escape
     ensures { λ r. ⌜ r ≡ singleQuoteEscapes (now (tail .entry)) ⌝ }
 {
-    if byte_at(tail, 0) != QUOTE {
+    if byte_at(tail, 0) != SINGLE_QUOTE {
         return Escape::NoEscape;
     }
-    if byte_at(tail, 1) != QUOTE {
+    if byte_at(tail, 1) != SINGLE_QUOTE {
         return Escape::NoEscape;
     }
     Escape::Takes(2, 1)
@@ -185,7 +184,7 @@ fn single_quote_escape(tail: &[u8]) -> Escape
 
 // An escape in double quotes.
 fn double_quote_escape(tail: &[u8]) -> Escape
-    requires { ⌜ length (now tail) ≤ 1048576 ⌝ }
+    requires { ⌜ length (now tail) ≤ textLimit ⌝ }
     ensures { λ r. ⌜ r ≡ doubleQuoteEscapes (now (tail .entry)) ⌝ }
 {
     if byte_at(tail, 0) != BACKSLASH {
@@ -196,7 +195,7 @@ fn double_quote_escape(tail: &[u8]) -> Escape
 
 // The escape that a source of this style begins with.
 pub fn escape_len(tail: &[u8], style: u8) -> Escape
-    requires { ⌜ length (now tail) ≤ 1048576 ⌝ }
+    requires { ⌜ length (now tail) ≤ textLimit ⌝ }
     ensures { λ r. ⌜ r ≡ escapesOf style (now (tail .entry)) ⌝ }
 {
     if style == SINGLE_QUOTED {

@@ -1,9 +1,13 @@
 // Runs of white-space bytes in the source, and of blanks in the value. (01: Piece grammar, step 1; S11, W1.)
 ghost use mathlib.Core.Path.{_≡_};
-ghost use Prim.Native.Nat.{_^_, _<_, _≤_, min};
+ghost use Prim.Native.Nat.{_^_, _<_, min};
 ghost use lib.ListN.{length};
-ghost use Rattle.provenance.specs.Run.{isBlank, blankRun, onlyNewlines, cutLen, runOf};
-use text::class::is_white_space_byte;
+ghost use Rattle.provenance.specs.Run.{blankRun, onlyNewlines};
+ghost use Rattle.measure.specs.Plain.{isFold};
+ghost use Rattle.provenance.specs.Counted.{cutLen, countedRun};
+use utf8::class::is_white_space_byte;
+
+pub const TAB: u8 = 9;
 
 pub const NEWLINE: u8 = 10;
 
@@ -19,8 +23,8 @@ pub struct Run {
     pub last: usize,
 }
 
-pub fn white_space_run(tail: &[u8]) -> Run
-    ensures { λ r. ⌜ r ≡ runOf (now (tail .entry)) ⌝ }
+pub fn white_run(tail: &[u8]) -> Run
+    ensures { λ r. ⌜ r ≡ countedRun (now (tail .entry)) ⌝ }
 {
     let mut len = 0;
     let mut newlines = 0;
@@ -67,7 +71,7 @@ pub fn cut_len(run: Run, block: bool, column: usize) -> usize
 }
 
 pub fn is_blank(b: u8) -> bool
-    ensures { λ r. ⌜ r ≡ isBlank b ⌝ }
+    ensures { λ r. ⌜ r ≡ isFold b ⌝ }
 {
     if b == BLANK {
         return true;

@@ -2,13 +2,14 @@
 ghost use mathlib.Core.Path.{_≡_};
 ghost use Prim.Native.Nat.{_+_, _≤_};
 ghost use lib.ListN.{length};
+ghost use Rattle.text.specs.Admission.{textLimit};
 ghost use Rattle.provenance.specs.Start.{isQuoted, isHeader, atEmptyBlockHeader, headerEnd, walkStart};
 use crate::run::NEWLINE;
 use crate::run::only_newlines;
 use crate::step::is_block;
 use measure::scalar::DOUBLE_QUOTED;
 use measure::scalar::SINGLE_QUOTED;
-use text::utf8::byte_at;
+use utf8::utf8::byte_at;
 
 const LITERAL_HEADER: u8 = 124;
 
@@ -58,7 +59,7 @@ fn header_end(rest: &[u8], len: usize) -> usize
 
 // The first byte of the walk of a scalar that starts at `start` and spans `len` bytes. It may lie past the text or inside a character.
 pub fn walk_start(text: &[u8], start: usize, len: usize, value: &[u8], style: u8) -> usize
-    requires { ⌜ (length (now text) ≤ 1048576) × (start + len ≤ length (now text)) ⌝ }
+    requires { ⌜ (length (now text) ≤ textLimit) × (start + len ≤ length (now text)) ⌝ }
     ensures { λ r. ⌜ r ≡ walkStart (now (text .entry)) start len (now (value .entry)) style ⌝ }
 {
     if is_quoted(style) {

@@ -5,7 +5,9 @@ ghost use Prim.Native.Nat.{_^_, _≤_, _<_};
 ghost use mathlib.Core.List.{[]};
 ghost use lib.Dec.{ltb};
 ghost use lib.ListN.{length, drop};
-ghost use Rattle.provenance.specs.Run.{noRun, whiteRun, runOf, newlinesIn};
+ghost use Rattle.text.specs.Admission.{textLimit};
+ghost use Rattle.provenance.specs.Run.{whiteRun};
+ghost use Rattle.provenance.specs.Counted.{placeLimit, noRun, countedRun};
 ghost use Rattle.provenance.specs.Grammar.{isBlock, rulesOf, isBreakByte, opensBreak, breakPair, endStep, stepAt};
 ghost use Rattle.provenance.specs.Looked.{breakRun, Tells, knownAfter};
 use crate::escape::Escape;
@@ -13,14 +15,15 @@ use crate::escape::escape_len;
 use crate::run::CARRIAGE_RETURN;
 use crate::run::NEWLINE;
 use crate::run::Run;
+use crate::run::TAB;
 use crate::run::blanks;
 use crate::run::cut_len;
 use crate::run::is_blank;
 use crate::run::only_newlines;
-use crate::run::white_space_run;
-use measure::scalar::DOUBLE_QUOTED;
-use text::class::is_white_space_byte;
-use text::utf8::byte_at;
+use crate::run::white_run;
+use measure::scalar::LITERAL;
+use utf8::class::is_white_space_byte;
+use utf8::utf8::byte_at;
 
 // What stands at a source place and a value place.
 pub enum Step {
@@ -31,8 +34,6 @@ pub enum Step {
     NoStep,
 }
 
-const TAB: u8 = 9;
-
 const NO_RUN: Run = Run {
     len: 0,
     newlines: 0,
@@ -42,7 +43,7 @@ const NO_RUN: Run = Run {
 pub fn is_block(style: u8) -> bool
     ensures { λ r. ⌜ r ≡ isBlock style ⌝ }
 {
-    DOUBLE_QUOTED < style
+    LITERAL <= style
 }
 
 // Whether a break may begin at the value's byte `c`: a blank, a newline or a tab.
@@ -81,12 +82,12 @@ pub fn break_run(src: &[u8], value: &[u8], s: usize, v: usize, style: u8, known:
     if !opens_break(is_block(style), byte_at(src, s), byte_at(value, v)) {
         return NO_RUN;
     }
-    white_space_run(&src[s..])
+    white_run(&src[s..])
 }
 
 // How far it is known that no run holds a newline, after the run at `s` was looked at.
 pub fn known_after(known: usize, s: usize, run: Run) -> usize
-    requires { ⌜ (s ≤ 1048580) × (run .len ≤ 1048576) ⌝ }
+    requires { ⌜ (s ≤ placeLimit) × (run .len ≤ textLimit) ⌝ }
     ensures { λ r. ⌜ r ≡ knownAfter known s run ⌝ }
 {
     let len = run.len;
@@ -109,8 +110,8 @@ fn break_step(
     column: usize,
     run: Run,
 ) -> Step
-    requires { ⌜ (length (now src) ≤ 1048576) × (s ≤ length (now src)) × (v ≤ length (now value)) × (column < 2 ^ 32) ⌝ }
-    requires { ⌜ run ≡ runOf (drop s (now src)) ⌝ }
+    requires { ⌜ (length (now src) ≤ textLimit) × (s ≤ length (now src)) × (v ≤ length (now value)) × (column < 2 ^ 32) ⌝ }
+    requires { ⌜ run ≡ countedRun (drop s (now src)) ⌝ }
     ensures { λ r. ⌜ r ≡ breakPair block column (whiteRun (drop s (now (src .entry)))) (drop v (now (value .entry))) ⌝ }
 {
     let a = cut_len(run, block, column);
@@ -143,7 +144,7 @@ pub fn step_at(
     column: usize,
     run: Run,
 ) -> Step
-    requires { ⌜ (length (now src) ≤ 1048576) × (v < length (now value)) × (column < 2 ^ 32) ⌝ }
+    requires { ⌜ (length (now src) ≤ textLimit) × (v < length (now value)) × (column < 2 ^ 32) ⌝ }
     requires { ⌜ Tells run (isBlock style) (drop s (now src)) (drop v (now value)) ⌝ }
     ensures { λ r. ⌜ r ≡ stepAt (rulesOf style column) (now (src .entry)) (now (value .entry)) s v ⌝ }
 {

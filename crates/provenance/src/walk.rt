@@ -2,6 +2,7 @@
 ghost use mathlib.Core.Path.{_≡_};
 ghost use Prim.Native.Nat.{_^_, _≤_, _<_};
 ghost use lib.ListN.{length};
+ghost use Rattle.text.specs.Admission.{textLimit};
 ghost use Rattle.provenance.specs.Grammar.{rulesOf};
 ghost use Rattle.provenance.specs.Reading.{readingOf};
 ghost use Rattle.provenance.specs.Layout.{room, zeros, piecesIf, answerOf, bufferOf};
@@ -9,12 +10,11 @@ use crate::step::Step;
 use crate::step::break_run;
 use crate::step::known_after;
 use crate::step::step_at;
-use crate::write::clear;
+use crate::write::clear_pieces;
 use crate::write::put_open;
 use crate::write::put_replacement;
 use crate::write::room;
-use crate::write::written_len;
-use measure::letter::letters;
+use letters::letter::letters;
 
 // A list of so many pieces; a list that there is no room for; no list.
 pub enum Walked {
@@ -36,7 +36,7 @@ pub fn walk_scalar_provenance(
     base: usize,
     pieces: &mut [u32],
 ) -> Walked
-    requires { ⌜ (length (now src) ≤ 1048576) × (length (now value) ≤ 1048576) × (base ≤ 1048576) × (column < 2 ^ 32) ⌝ }
+    requires { ⌜ (length (now src) ≤ textLimit) × (length (now value) ≤ textLimit) × (base ≤ textLimit) × (column < 2 ^ 32) ⌝ }
     requires { ⌜ now pieces ≡ zeros (length (now pieces)) ⌝ }
     ensures { λ r. ⌜ r ≡ answerOf (room (length (now (pieces .entry)))) (piecesIf base (readingOf (rulesOf style column) (now (src .entry)) (now (value .entry)))) ⌝ }
     ensures { λ r. ⌜ now (pieces .exit) ≡ bufferOf (length (now (pieces .entry))) (piecesIf base (readingOf (rulesOf style column) (now (src .entry)) (now (value .entry)))) ⌝ }
@@ -54,7 +54,7 @@ pub fn walk_scalar_provenance(
             Step::Verbatim(k) => {
                 s += k;
                 v += k;
-                let more = letters(&src[s..], &value[v..]);
+                let more = letters(src, s, value, v);
                 s += more;
                 v += more;
             }
@@ -65,14 +65,14 @@ pub fn walk_scalar_provenance(
                 from = s;
             }
             Step::NoStep => {
-                clear(pieces, written_len(n, pieces.len()));
+                clear_pieces(pieces, n);
                 return Walked::NoList;
             }
         }
     }
     n = put_open(pieces, n, base, from, s);
     if room(pieces.len()) < n {
-        clear(pieces, written_len(n, pieces.len()));
+        clear_pieces(pieces, n);
         return Walked::NoRoom;
     }
     Walked::Listed(n)

@@ -2,12 +2,14 @@
 ghost use mathlib.Core.Path.{_≡_};
 ghost use Prim.Native.Nat.{_+_, _≤_};
 ghost use lib.ListN.{length};
+ghost use Rattle.text.specs.Admission.{textLimit};
+ghost use Rattle.provenance.specs.Counted.{placeLimit};
 ghost use Rattle.provenance.specs.Layout;
 ghost use Rattle.provenance.specs.Reading.{piece};
 ghost use Rattle.provenance.specs.Writing.{putPiece, putOpen, countOpen, putReplacement, clearedTo, writtenLen};
 
 // The numbers of a piece: its kind, start, end, content length.
-const PIECE_SIZE: usize = 4;
+const PIECE_WIDTH: usize = 4;
 
 const VERBATIM: u32 = 1;
 
@@ -17,7 +19,7 @@ const REPLACEMENT: u32 = 2;
 pub fn room(size: usize) -> usize
     ensures { λ r. ⌜ r ≡ Layout.room size ⌝ }
 {
-    size / PIECE_SIZE
+    size / PIECE_WIDTH
 }
 
 // Writes piece number `n`, if there is room for it.
@@ -25,7 +27,7 @@ fn put_piece(pieces: &mut [u32], n: usize, kind: u32, start: u32, end: u32, cont
     ensures { λ r. ⌜ now (pieces .exit) ≡ putPiece (now (pieces .entry)) n (piece kind start end content) ⌝ }
 {
     if n < room(pieces.len()) {
-        let at = n * PIECE_SIZE;
+        let at = PIECE_WIDTH * n;
         pieces[at] = kind;
         pieces[at + 1] = start;
         pieces[at + 2] = end;
@@ -35,7 +37,7 @@ fn put_piece(pieces: &mut [u32], n: usize, kind: u32, start: u32, end: u32, cont
 
 // Writes the verbatim bytes `from..s` as piece number `n`, if there are any, and answers the next number.
 pub fn put_open(pieces: &mut [u32], n: usize, base: usize, from: usize, s: usize) -> usize
-    requires { ⌜ (base ≤ 1048576) × (s ≤ 1048580) × (n ≤ s + 1) ⌝ }
+    requires { ⌜ (base ≤ textLimit) × (s ≤ placeLimit) × (n ≤ s + 1) ⌝ }
     ensures { λ r. ⌜ r ≡ countOpen n from s ⌝ }
     ensures { λ r. ⌜ now (pieces .exit) ≡ putOpen (now (pieces .entry)) n base from s ⌝ }
 {
@@ -63,7 +65,7 @@ pub fn put_replacement(
     a: usize,
     b: usize,
 ) -> usize
-    requires { ⌜ (base ≤ 1048576) × (s ≤ 1048580) × (n ≤ s + 1) × (a ≤ 1048580) × (b ≤ 1048580) ⌝ }
+    requires { ⌜ (base ≤ textLimit) × (s ≤ placeLimit) × (n ≤ s + 1) × (a ≤ placeLimit) × (b ≤ placeLimit) ⌝ }
     ensures { λ r. ⌜ r ≡ countOpen n from s + 1 ⌝ }
     ensures { λ r. ⌜ now (pieces .exit) ≡ putReplacement (now (pieces .entry)) n base from s a b ⌝ }
 {
@@ -80,24 +82,31 @@ pub fn put_replacement(
 }
 
 // How many numbers `n` pieces took of a buffer of `size`.
-pub fn written_len(n: usize, size: usize) -> usize
+fn written_len(n: usize, size: usize) -> usize
     ensures { λ r. ⌜ r ≡ writtenLen n size ⌝ }
 {
     let most = room(size);
     if n < most {
-        return n * PIECE_SIZE;
+        return PIECE_WIDTH * n;
     }
-    most * PIECE_SIZE
+    PIECE_WIDTH * most
 }
 
-// Clears the first `end` numbers.
-pub fn clear(pieces: &mut [u32], end: usize)
-    requires { ⌜ end ≤ length (now pieces) ⌝ }
-    ensures { λ r. ⌜ now (pieces .exit) ≡ clearedTo end (now (pieces .entry)) ⌝ }
+// All numbers are set to zero.
+pub fn clear(buffer: &mut [u32])
+    ensures { λ _. ⌜ now (buffer .exit) ≡ Layout.zeros (length (now (buffer .entry))) ⌝ }
 {
     let mut i = 0;
-    while i < end {
-        pieces[i] = 0;
+    while i < buffer.len() {
+        buffer[i] = 0;
         i += 1;
     }
+}
+
+// Clears what `n` pieces took.
+pub fn clear_pieces(pieces: &mut [u32], n: usize)
+    ensures { λ r. ⌜ now (pieces .exit) ≡ clearedTo (writtenLen n (length (now (pieces .entry)))) (now (pieces .entry)) ⌝ }
+{
+    let end = written_len(n, pieces.len());
+    clear(&mut pieces[0..end]);
 }

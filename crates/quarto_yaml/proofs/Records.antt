@@ -1,5 +1,4 @@
 -- The record numbers that the accessors answer are at most the number that they are asked about, so they fit 32 bits as it does.
--- Assumes nothing.
 use mathlib.Core.Path.{_≡_, sym, subst}
 use Prim.Native.Nat.{ℕ, zero, suc, _-_, _*_, _≤_}
 use mathlib.Core.Bool.{Bool, true, false, _&&_, cond}
@@ -7,7 +6,7 @@ use mathlib.Core.List.{List}
 use mathlib.Core.Option.{Option, none, some}
 use native.Mathlib.Omega.{arith}
 use lib.Dec.{ltb, leb}
-use Rattle.parser.specs.declared.record.Node.{Node}
+use Rattle.records.specs.declared.record.Node.{Node}
 use Rattle.node.specs.Chain.{andThen, when}
 use Rattle.node.specs.Record.{recordAt}
 use Rattle.node.specs.Kind.{lenAt, isArray, isHash, children}
@@ -15,8 +14,8 @@ use Rattle.node.specs.Child.{placeAt, recordBefore, lastChild, lessCount, child
 use Rattle.node.specs.Entry.{entry, pairEnding, hashEntry}
 use Rattle.node.specs.Search.{keyIs, earlier, searchBack, hashValue}
 use Rattle.node.specs.declared.entry.YamlHashEntry.{YamlHashEntry}
-use Rattle.quarto_yaml.specs.None.{Each, AtMost, largest}
-use Rattle.quarto_yaml.specs.Found.{RecordsAtMost}
+use Rattle.quarto_yaml.specs.None.{largest}
+use Rattle.quarto_yaml.specs.Fit.{Each, AtMost}
 
 -- ---- answers that may be missing
 
@@ -37,13 +36,9 @@ module _ {A : Type 0} (P : A → Type 0) where
   each-when true o h = h
   each-when false o h = tt
 
-  each-pick : (t : Bool) (o u : Option A) → Each P o → Each P u → Each P (cond t o u)
-  each-pick true o u h i = h
-  each-pick false o u h i = i
-
-each-wider : {A : Type 0} (P Q : A → Type 0) (o : Option A) → ((a : A) → P a → Q a) → Each P o → Each Q o
-each-wider P Q none g h = tt
-each-wider P Q (some a) g h = g a h
+  each-cond : (t : Bool) (o u : Option A) → Each P o → Each P u → Each P (cond t o u)
+  each-cond true o u h i = h
+  each-cond false o u h i = i
 
 abbrev Upto : ℕ → ℕ → Type 0
 Upto m n = n ≤ m
@@ -51,8 +46,13 @@ Upto m n = n ≤ m
 abbrev PairUpto : ℕ → YamlHashEntry → Type 0
 PairUpto m e = (e .key ≤ m) × (e .value ≤ m)
 
+-- the records of a pair, if there is one, are at most m
+abbrev RecordsAtMost : ℕ → Option YamlHashEntry → Type 0
+RecordsAtMost m = Each (PairUpto m)
+
 wider : (m n : ℕ) (o : Option ℕ) → m ≤ n → AtMost m o → AtMost n o
-wider m n o l h = each-wider (Upto m) (Upto n) o (λ a g. omega arith) h
+wider m n none l h = tt
+wider m n (some a) l h = omega arith
 
 -- ---- the accessors
 
@@ -119,7 +119,7 @@ module _ (b : List ℕ) where
   abbrev entryOf : ℕ → ℕ → Bool → ℕ → Option YamlHashEntry
   entryOf n i t k = when (t && ltb i k) (andThen (childFromLast b n (2 * (k - 1 - i))) (pairEnding b))
 
-  pub entry-at-most : (n i : ℕ) → RecordsAtMost n (hashEntry b n i)
+  entry-at-most : (n i : ℕ) → RecordsAtMost n (hashEntry b n i)
   unfolding hashEntry
   entry-at-most n i =
       each-after (PairUpto n) (λ (x : Node). entryOf n i (isHash x) (x .payload .first)) (recordAt b n)
@@ -129,7 +129,7 @@ module _ (b : List ℕ) where
 
   module _ (events key : List ℕ) (m : ℕ) where
     earlier-at-most : (k v : ℕ) (later : Option ℕ) → v ≤ m → AtMost m later → AtMost m (earlier b events key k v later)
-    earlier-at-most k v later l h = each-pick (Upto m) (keyIs b events key k) (some v) later l h
+    earlier-at-most k v later l h = each-cond (Upto m) (keyIs b events key k) (some v) later l h
 
     -- the p pairs before the pair of k and v
     abbrev before : ℕ → ℕ → Option ℕ → ℕ → Option ℕ
@@ -169,7 +169,6 @@ module _ (b : List ℕ) where
 pub fits : {o p : Option ℕ} (n : ℕ) → n ≤ largest → o ≡ p → AtMost n p → AtMost largest o
 fits {o} {p} n l e h = subst (λ (x : Option ℕ). AtMost largest x) (sym e) (wider n largest p l h)
 
-pub pair-fits : {o p : Option YamlHashEntry} (n : ℕ) → n ≤ largest → o ≡ p → RecordsAtMost n p → RecordsAtMost largest o
-pair-fits {o} {p} n l e h =
-    subst (λ (x : Option YamlHashEntry). RecordsAtMost largest x) (sym e)
-    (each-wider (PairUpto n) (PairUpto largest) p (λ x g. (omega arith, omega arith)) h)
+-- the records of a pair that is found
+pub entry-fits : (b : List ℕ) (n i : ℕ) {x : YamlHashEntry} → n ≤ largest → some x ≡ hashEntry b n i → PairUpto largest x
+entry-fits b n i l e = let h = subst (λ (o : Option YamlHashEntry). RecordsAtMost n o) (sym e) (entry-at-most b n i) in (omega arith, omega arith)

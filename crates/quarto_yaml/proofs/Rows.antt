@@ -1,4 +1,4 @@
--- The numbers of a row of the table fit 32 bits. Assumes nothing.
+-- The numbers of a row of the table fit 32 bits.
 use mathlib.Core.Path.{_≡_, sym, subst}
 use Prim.Native.Nat.{ℕ, _≤_}
 use mathlib.Core.List.{List}
@@ -7,7 +7,7 @@ use Rattle.parser.specs.Machine.{Outcome, built, refused}
 use Rattle.parser.specs.Call.{tableRow}
 use Rattle.parser.specs.Bounds.{Bounded}
 use Rattle.quarto_yaml.specs.None.{largest}
-use Rattle.quarto_yaml.specs.Answer.{Fit}
+use Rattle.quarto_yaml.specs.Fit.{Fit}
 
 row-fits : (n r : ℕ) (o : Outcome) → n ≤ largest → r ≤ largest → Bounded n r o → Fit (tableRow o)
 row-fits n r (built xs ps) l h b = (omega arith, (omega arith, (omega arith, tt)))

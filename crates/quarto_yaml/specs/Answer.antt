@@ -1,12 +1,13 @@
 -- The calls that read a text, in 32-bit numbers: document 01's number and two values, always three, and every lent number afterwards.
 use mathlib.Core.Path.{_≡_}
-use Prim.Native.Nat.{ℕ, _≤_}
+use Prim.Native.Nat.{ℕ}
+use mathlib.Core.Bool.{Bool}
 use mathlib.Core.List.{List, [], _∷_, _++_}
-use lib.ListN.{take}
-use Rattle.parser.specs.Record.{nodeNumbers}
+use lib.ListN.{length, take}
+use Rattle.records.specs.Record.{nodeNumbers}
+use Rattle.spans.specs.Scalar.{mark}
 use Rattle.parser.specs.Machine.{Outcome}
-use Rattle.parser.specs.Call.{tableRow, recordsOf, piecesOf, recordOf}
-use Rattle.quarto_yaml.specs.None.{largest}
+use Rattle.parser.specs.Call.{tableRow, recordsAfter, piecesAfter, recordOf, building, scalarCall}
 use Rattle.quarto_yaml.specs.declared.build.Answered.{Answered}
 use Rattle.quarto_yaml.specs.declared.build.AnsweredScalar.{AnsweredScalar}
 
@@ -14,20 +15,23 @@ use Rattle.quarto_yaml.specs.declared.build.AnsweredScalar.{AnsweredScal
 abbrev pub three : List ℕ → List ℕ
 three row = take 3 (row ++ (0 ∷ []))
 
--- every number of a row is one of 32 bits
-abbrev pub Fit : List ℕ → Type 0
-Fit [] = Unit {0}
-Fit (n ∷ row) = (n ≤ largest) × Fit row
+abbrev pub answerNumbers : Answered → List ℕ
+answerNumbers r = r .code ∷ r .first ∷ r .second ∷ []
 
-abbrev pub numbersIn : Answered → List ℕ
-numbersIn r = r .code ∷ r .first ∷ r .second ∷ []
+-- what `build` comes to in buffers as they are lent
+abbrev pub buildOutcome : List ℕ → List ℕ → List ℕ → List ℕ → Outcome
+buildOutcome text events lentRecords lentPieces = building text events (length lentRecords) (length lentPieces)
 
-pub record Told (size pieceSize : ℕ) (o : Outcome) (r : Answered) (records pieces : List ℕ) : Type 0 where
-  pub answer : numbersIn r ≡ three (tableRow o)
-  pub all-records : records ≡ recordsOf size o
-  pub all-pieces : pieces ≡ piecesOf pieceSize o
+pub record Told (text events lentRecords lentPieces : List ℕ) (r : Answered) (records pieces : List ℕ) : Type 0 where
+  pub answer : answerNumbers r ≡ three (tableRow (buildOutcome text events lentRecords lentPieces))
+  pub all-records : records ≡ recordsAfter (length lentRecords) (buildOutcome text events lentRecords lentPieces)
+  pub all-pieces : pieces ≡ piecesAfter (length lentPieces) (buildOutcome text events lentRecords lentPieces)
 
-pub record ToldScalar (pieceSize : ℕ) (o : Outcome) (r : AnsweredScalar) (pieces : List ℕ) : Type 0 where
-  pub answer : numbersIn (r .answer) ≡ three (tableRow o)
-  pub one-record : r .record ≡ nodeNumbers (recordOf o)
-  pub all-pieces : pieces ≡ piecesOf pieceSize o
+-- what `scalar` comes to
+abbrev pub scalarOutcome : List ℕ → ℕ → ℕ → ℕ → Bool → List ℕ → List ℕ → Outcome
+scalarOutcome text index column style emptySpan value lentPieces = scalarCall text (mark index column style emptySpan) value (length lentPieces)
+
+pub record ToldScalar (text : List ℕ) (index column style : ℕ) (emptySpan : Bool) (value lentPieces : List ℕ) (r : AnsweredScalar) (pieces : List ℕ) : Type 0 where
+  pub answer : answerNumbers (r .answer) ≡ three (tableRow (scalarOutcome text index column style emptySpan value lentPieces))
+  pub one-record : r .record ≡ nodeNumbers (recordOf (scalarOutcome text index column style emptySpan value lentPieces))
+  pub all-pieces : pieces ≡ piecesAfter (length lentPieces) (scalarOutcome text index column style emptySpan value lentPieces)

@@ -1,11 +1,9 @@
 -- Answers of several numbers: a first one that says whether there is an answer, and 0 in all where there is none.
-use Prim.Native.Nat.{ℕ, _≤_}
 use mathlib.Core.Option.{Option, none, some}
-use Rattle.parser.specs.declared.record.Extent.{Extent}
-use Rattle.parser.specs.declared.record.TagInfo.{TagInfo}
-use Rattle.parser.specs.declared.record.PieceList.{PieceList}
+use Rattle.records.specs.declared.record.Extent.{Extent}
+use Rattle.records.specs.declared.record.TagInfo.{TagInfo}
+use Rattle.records.specs.declared.record.PieceList.{PieceList}
 use Rattle.node.specs.declared.entry.YamlHashEntry.{YamlHashEntry}
-use Rattle.quarto_yaml.specs.None.{Each}
 use Rattle.quarto_yaml.specs.declared.source.FoundSpan.{FoundSpan}
 use Rattle.quarto_yaml.specs.declared.source.FoundTag.{FoundTag}
 use Rattle.quarto_yaml.specs.declared.source.FoundPieces.{FoundPieces}
@@ -48,7 +46,3 @@ foundEntry (some e) =
       «entry_start» = e .«entry_span» .start;
       «entry_end» = e .«entry_span» .end;
     }
-
--- the records of a pair, if there is one, are at most m
-abbrev pub RecordsAtMost : ℕ → Option YamlHashEntry → Type 0
-RecordsAtMost m = Each (λ (e : YamlHashEntry). (e .key ≤ m) × (e .value ≤ m))

@@ -1,5 +1,5 @@
 -- An answer of one number, where the largest 32-bit number stands for none.
-use Prim.Native.Nat.{ℕ, _≤_}
+use Prim.Native.Nat.{ℕ}
 use mathlib.Core.Bool.{Bool, true, false}
 use mathlib.Core.Option.{Option, none, some}
 
@@ -15,11 +15,3 @@ abbrev pub flagOrNone : Option Bool → ℕ
 flagOrNone none = largest
 flagOrNone (some true) = 1
 flagOrNone (some false) = 0
-
--- what there is, if anything, has the property
-abbrev pub Each : {A : Type 0} → (A → Type 0) → Option A → Type 0
-Each P none = Unit {0}
-Each P (some a) = P a
-
-abbrev pub AtMost : ℕ → Option ℕ → Type 0
-AtMost m = Each (λ (n : ℕ). n ≤ m)

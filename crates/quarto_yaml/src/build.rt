@@ -1,13 +1,13 @@
 // The calls that read a text. (01: the table; N4.)
 ghost use mathlib.Core.Path.{_≡_};
-ghost use lib.ListN.{length};
-ghost use Rattle.parser.specs.Call.{returned, building, readingScalar};
-ghost use Rattle.node.specs.Marker.{scanError, scanned};
-ghost use Rattle.quarto_yaml.specs.Answer.{three, numbersIn, Fit, Told, ToldScalar};
+ghost use Rattle.parser.specs.Call.{returned};
+ghost use Rattle.node.specs.Marker.{scanError};
+ghost use Rattle.quarto_yaml.specs.Answer.{three, answerNumbers, Told, ToldScalar};
+ghost use Rattle.quarto_yaml.specs.Fit.{Fit};
 use node::marker::Scanned;
 use parser::answer::Answer;
-use parser::record::RECORD_WIDTH;
-use parser::record::record_numbers;
+use records::record::RECORD_WIDTH;
+use records::record::record_numbers;
 
 // 0 and what the call says of the two others; or document 01's number, its place, and 0.
 #[repr(C)]
@@ -27,7 +27,7 @@ pub struct AnsweredScalar {
 // The three numbers of an answer.
 fn of_answer(a: Answer) -> Answered
     requires { ⌜ Fit (returned a) ⌝ }
-    ensures { λ r. ⌜ numbersIn r ≡ three (returned a) ⌝ }
+    ensures { λ r. ⌜ answerNumbers r ≡ three (returned a) ⌝ }
 {
     match a {
         Answer::Built { nodes, pieces } => Answered {
@@ -51,7 +51,7 @@ pub extern "C" fn quarto_yaml_build(
     records: &mut [u32],
     pieces: &mut [u32],
 ) -> Answered
-    ensures { λ r. ⌜ Told (length (now (records .entry))) (length (now (pieces .entry))) (building (now (text .entry)) (now (events .entry)) (length (now (records .entry))) (length (now (pieces .entry)))) r (now (records .exit)) (now (pieces .exit)) ⌝ }
+    ensures { λ r. ⌜ Told (now (text .entry)) (now (events .entry)) (now (records .entry)) (now (pieces .entry)) r (now (records .exit)) (now (pieces .exit)) ⌝ }
 {
     of_answer(parser::build::build(text, events, records, pieces))
 }
@@ -67,7 +67,7 @@ pub extern "C" fn quarto_yaml_scalar(
     value: &[u8],
     pieces: &mut [u32],
 ) -> AnsweredScalar
-    ensures { λ r. ⌜ ToldScalar (length (now (pieces .entry))) (readingScalar (now (text .entry)) index column style «empty_span» (now (value .entry)) (length (now (pieces .entry)))) r (now (pieces .exit)) ⌝ }
+    ensures { λ r. ⌜ ToldScalar (now (text .entry)) index column style «empty_span» (now (value .entry)) (now (pieces .entry)) r (now (pieces .exit)) ⌝ }
 {
     let r = parser::one::scalar(text, index, column, style, empty_span, value, pieces);
     let a = r.answer;
@@ -77,11 +77,12 @@ pub extern "C" fn quarto_yaml_scalar(
     AnsweredScalar { answer, record }
 }
 
-// The three numbers of a span or a refusal.
-fn of_scanned(s: Scanned) -> Answered
-    ensures { λ r. ⌜ numbersIn r ≡ three (scanned s) ⌝ }
+// `scan_error`: 0, start and end.
+#[no_mangle]
+pub extern "C" fn quarto_yaml_scan_error(text: &[u8], index: u32) -> Answered
+    ensures { λ r. ⌜ answerNumbers r ≡ three (scanError (now (text .entry)) index) ⌝ }
 {
-    match s {
+    match node::marker::scan_error(text, index) {
         Scanned::Span(e) => Answered {
             code: 0,
             first: e.start,
@@ -93,12 +94,4 @@ fn of_scanned(s: Scanned) -> Answered
             second: 0,
         },
     }
-}
-
-// `scan_error`: 0, start and end.
-#[no_mangle]
-pub extern "C" fn quarto_yaml_scan_error(text: &[u8], index: u32) -> Answered
-    ensures { λ r. ⌜ numbersIn r ≡ three (scanError (now (text .entry)) index) ⌝ }
-{
-    of_scanned(node::marker::scan_error(text, index))
 }

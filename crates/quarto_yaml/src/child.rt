@@ -2,9 +2,10 @@
 ghost use mathlib.Core.Path.{_≡_};
 ghost use Rattle.node.specs.Child.{placeIn, recordBefore, lastChild, childBefore, arrayItem};
 ghost use Rattle.node.specs.Search.{hashValue};
-ghost use Rattle.quarto_yaml.specs.None.{orNone, AtMost, largest};
+ghost use Rattle.quarto_yaml.specs.Fit.{AtMost};
+ghost use Rattle.quarto_yaml.specs.None.{orNone, largest};
 use node::child::Place;
-use parser::record::ABSENT;
+use records::record::ABSENT;
 
 // The number, or none.
 fn or_none(p: Place) -> u32
@@ -21,7 +22,7 @@ fn or_none(p: Place) -> u32
 pub extern "C" fn quarto_yaml_root(records: &[u32], nodes: u32) -> u32
     ensures { λ r. ⌜ r ≡ orNone (recordBefore (now (records .entry)) nodes) ⌝ }
 {
-    or_none(node::child::root(records, nodes as usize))
+    or_none(node::child::record_before(records, nodes as usize))
 }
 
 #[no_mangle]

@@ -4,7 +4,7 @@ ghost use Rattle.node.specs.Kind.{flagIn, countIn, isScalarAt, isArrayAt, isHas
 ghost use Rattle.quarto_yaml.specs.None.{orNone, flagOrNone};
 use node::kind::Count;
 use node::kind::Flag;
-use parser::record::ABSENT;
+use records::record::ABSENT;
 
 // 1, 0 or none.
 fn flag_or_none(f: Flag) -> u32

@@ -1,9 +1,8 @@
 // Answers of several numbers: `present` is 1, or 0 with all the others. (01: N2, N3.)
 ghost use mathlib.Core.Path.{_≡_};
-ghost use Rattle.node.specs.Source.{spanIn, spanAt, tagIn, tagAt, pieceListIn, pieceListAt};
-ghost use Rattle.node.specs.Entry.{entryIn, hashEntry};
-ghost use Rattle.quarto_yaml.specs.Found.{foundSpan, foundTag, foundPieces, foundEntry, RecordsAtMost};
-ghost use Rattle.quarto_yaml.specs.None.{largest};
+ghost use Rattle.node.specs.Source.{spanAt, tagOf, pieceListAt};
+ghost use Rattle.node.specs.Entry.{hashEntry};
+ghost use Rattle.quarto_yaml.specs.Found.{foundSpan, foundTag, foundPieces, foundEntry};
 use node::entry::Entry;
 use node::source::Pieces;
 use node::source::Span;
@@ -49,6 +48,26 @@ pub struct FoundEntry {
     pub entry_end: u32,
 }
 
+const NO_SPAN: FoundSpan = FoundSpan {
+    present: 0,
+    start: 0,
+    end: 0,
+};
+
+const NO_TAG: FoundTag = FoundTag {
+    present: 0,
+    start: 0,
+    end: 0,
+    suffix: 0,
+    len: 0,
+};
+
+const NO_PIECES: FoundPieces = FoundPieces {
+    present: 0,
+    first: 0,
+    count: 0,
+};
+
 const NO_ENTRY: FoundEntry = FoundEntry {
     present: 0,
     key: 0,
@@ -61,15 +80,12 @@ const NO_ENTRY: FoundEntry = FoundEntry {
     entry_end: 0,
 };
 
-fn of_span(s: Span) -> FoundSpan
-    ensures { λ r. ⌜ r ≡ foundSpan (spanIn s) ⌝ }
+#[no_mangle]
+pub extern "C" fn quarto_yaml_source_info(records: &[u32], n: u32) -> FoundSpan
+    ensures { λ r. ⌜ r ≡ foundSpan (spanAt (now (records .entry)) n) ⌝ }
 {
-    let Span::Of(e) = s else {
-        return FoundSpan {
-            present: 0,
-            start: 0,
-            end: 0,
-        };
+    let Span::Of(e) = node::source::source_info(records, n as usize) else {
+        return NO_SPAN;
     };
     FoundSpan {
         present: 1,
@@ -78,17 +94,12 @@ fn of_span(s: Span) -> FoundSpan
     }
 }
 
-fn of_tagged(t: Tagged) -> FoundTag
-    ensures { λ r. ⌜ r ≡ foundTag (tagIn t) ⌝ }
+#[no_mangle]
+pub extern "C" fn quarto_yaml_tag(records: &[u32], n: u32) -> FoundTag
+    ensures { λ r. ⌜ r ≡ foundTag (tagOf (now (records .entry)) n) ⌝ }
 {
-    let Tagged::With(x) = t else {
-        return FoundTag {
-            present: 0,
-            start: 0,
-            end: 0,
-            suffix: 0,
-            len: 0,
-        };
+    let Tagged::With(x) = node::source::tag(records, n as usize) else {
+        return NO_TAG;
     };
     FoundTag {
         present: 1,
@@ -99,15 +110,12 @@ fn of_tagged(t: Tagged) -> FoundTag
     }
 }
 
-fn of_pieces(p: Pieces) -> FoundPieces
-    ensures { λ r. ⌜ r ≡ foundPieces (pieceListIn p) ⌝ }
+#[no_mangle]
+pub extern "C" fn quarto_yaml_content_source_info(records: &[u32], n: u32) -> FoundPieces
+    ensures { λ r. ⌜ r ≡ foundPieces (pieceListAt (now (records .entry)) n) ⌝ }
 {
-    let Pieces::Listed(l) = p else {
-        return FoundPieces {
-            present: 0,
-            first: 0,
-            count: 0,
-        };
+    let Pieces::Listed(l) = node::source::content_source_info(records, n as usize) else {
+        return NO_PIECES;
     };
     FoundPieces {
         present: 1,
@@ -116,11 +124,11 @@ fn of_pieces(p: Pieces) -> FoundPieces
     }
 }
 
-fn of_entry(e: Entry) -> FoundEntry
-    requires { ⌜ RecordsAtMost largest (entryIn e) ⌝ }
-    ensures { λ r. ⌜ r ≡ foundEntry (entryIn e) ⌝ }
+#[no_mangle]
+pub extern "C" fn quarto_yaml_hash_entry(records: &[u32], n: u32, i: u32) -> FoundEntry
+    ensures { λ r. ⌜ r ≡ foundEntry (hashEntry (now (records .entry)) n i) ⌝ }
 {
-    let Entry::Pair(x) = e else {
+    let Entry::Pair(x) = node::entry::hash_entry(records, n as usize, i as usize) else {
         return NO_ENTRY;
     };
     FoundEntry {
@@ -134,32 +142,4 @@ fn of_entry(e: Entry) -> FoundEntry
         entry_start: x.entry_span.start,
         entry_end: x.entry_span.end,
     }
-}
-
-#[no_mangle]
-pub extern "C" fn quarto_yaml_source_info(records: &[u32], n: u32) -> FoundSpan
-    ensures { λ r. ⌜ r ≡ foundSpan (spanAt (now (records .entry)) n) ⌝ }
-{
-    of_span(node::source::source_info(records, n as usize))
-}
-
-#[no_mangle]
-pub extern "C" fn quarto_yaml_tag(records: &[u32], n: u32) -> FoundTag
-    ensures { λ r. ⌜ r ≡ foundTag (tagAt (now (records .entry)) n) ⌝ }
-{
-    of_tagged(node::source::tag(records, n as usize))
-}
-
-#[no_mangle]
-pub extern "C" fn quarto_yaml_content_source_info(records: &[u32], n: u32) -> FoundPieces
-    ensures { λ r. ⌜ r ≡ foundPieces (pieceListAt (now (records .entry)) n) ⌝ }
-{
-    of_pieces(node::source::content_source_info(records, n as usize))
-}
-
-#[no_mangle]
-pub extern "C" fn quarto_yaml_hash_entry(records: &[u32], n: u32, i: u32) -> FoundEntry
-    ensures { λ r. ⌜ r ≡ foundEntry (hashEntry (now (records .entry)) n i) ⌝ }
-{
-    of_entry(node::entry::hash_entry(records, n as usize, i as usize))
 }

@@ -8,3 +8,10 @@ Fits (Case n) room = n ≤ room
 Fits TooLarge room = Unit {0}
 Fits End room = Unit {0}
 Fits Broken room = Unit {0}
+
+-- how many bytes of the buffer are the case
+abbrev pub caseLen : Next → ℕ
+caseLen (Case n) = n
+caseLen TooLarge = 0
+caseLen End = 0
+caseLen Broken = 0

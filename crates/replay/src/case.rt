@@ -1,8 +1,10 @@
 // The parts of an answered case, as places in its bytes.
 ghost use mathlib.Core.Path.{_≡_};
-ghost use lib.ListN.{length};
+ghost use mathlib.Core.Bool.{_&&_};
+ghost use lib.Dec.{leb, eqb};
+ghost use lib.ListN.{length, take};
 ghost use Rattle.replay.specs.Case.{number, partOf, layout, sameNumbers, furtherOf};
-use text::utf8::byte_at;
+use utf8::utf8::byte_at;
 
 pub struct Part {
     pub at: usize,
@@ -48,12 +50,10 @@ pub fn number_at(s: &[u8], at: usize) -> u32
     high * 65536 + (wide(byte_at(s, at + 2)) * 256 + wide(byte_at(s, at + 3)))
 }
 
-// The bytes of a part; none where the part is not within the bytes.
-pub fn bytes_of(s: &[u8], p: Part) -> &[u8]
-    ensures { λ r. ⌜ now r ≡ partOf (now (s .entry)) (p .at) (p .len) ⌝ }
+// So many bytes from `at` on; none where they are not within.
+pub fn bytes_at(s: &[u8], at: usize, len: usize) -> &[u8]
+    ensures { λ r. ⌜ now r ≡ partOf (now (s .entry)) at len ⌝ }
 {
-    let at = p.at;
-    let len = p.len;
     if s.len() < at {
         return &s[..0];
     }
@@ -62,6 +62,13 @@ pub fn bytes_of(s: &[u8], p: Part) -> &[u8]
     }
     let end = at + len;
     &s[at..end]
+}
+
+// The bytes of a part.
+pub fn bytes_of(s: &[u8], p: Part) -> &[u8]
+    ensures { λ r. ⌜ now r ≡ partOf (now (s .entry)) (p .at) (p .len) ⌝ }
+{
+    bytes_at(s, p.at, p.len)
 }
 
 // Where the parts of an answered case stand. A case that is cut off has parts that are not within it.
@@ -128,9 +135,52 @@ fn further(list: &[u8], at: usize) -> usize
     at
 }
 
+// How many numbers a program has room for, of records and of pieces.
+pub const ROOM: usize = 4096;
+
 // A buffer to lend, none of whose numbers is zero.
-pub fn numbers() -> [u32; 4096]
+pub fn numbers() -> [u32; ROOM]
     ensures { λ r. ⌜ 4096 ≡ length r ⌝ }
 {
-    [7; 4096]
+    [7; ROOM]
+}
+
+// Whether a buffer of `numbers` has room for `n`.
+pub fn has_room(n: usize) -> bool
+    ensures { λ r. ⌜ r ≡ leb n 4096 ⌝ }
+{
+    n <= ROOM
+}
+
+// Whether they have room for a case.
+pub fn fits(case: Case) -> bool
+    ensures { λ r. ⌜ r ≡ (leb (case .rooms .records) 4096 && leb (case .rooms .pieces) 4096) ⌝ }
+{
+    if has_room(case.rooms.records as usize) {
+        return has_room(case.rooms.pieces as usize);
+    }
+    false
+}
+
+// As much of a buffer as it has and is asked for.
+pub fn lent(buffer: &mut [u32], n: usize) -> &mut [u32]
+    ensures { λ r. ⌜ now r ≡ take n (now (buffer .entry)) ⌝ }
+{
+    if buffer.len() < n {
+        return buffer;
+    }
+    &mut buffer[..n]
+}
+
+// Whether this is what the case says is returned.
+pub fn is_returned(case: Case, code: u32, first: usize, second: usize) -> bool
+    ensures { λ r. ⌜ r ≡ (eqb (case .code) code && (eqb (case .first) first && eqb (case .second) second)) ⌝ }
+{
+    if case.code != code {
+        return false;
+    }
+    if case.first as usize != first {
+        return false;
+    }
+    case.second as usize == second
 }

@@ -2,7 +2,9 @@
 ghost use mathlib.Core.Path.{_≡_};
 ghost use Prim.Native.Nat.{_≤_, min};
 ghost use lib.ListN.{length};
-ghost use Rattle.replay.specs.Stream.{Fits};
+ghost use Rattle.replay.specs.Case.{partOf};
+ghost use Rattle.replay.specs.Stream.{Fits, caseLen};
+use crate::case::bytes_at;
 use crate::case::number_at;
 use libc::STDIN_FILENO;
 
@@ -72,4 +74,23 @@ pub fn next_case(buffer: &mut [u8]) -> Next
         return Next::Broken;
     }
     Next::Case(size)
+}
+
+// How many bytes of the buffer are the case that was read into it; 0 where none was.
+fn case_len(next: Next) -> usize
+    ensures { λ r. ⌜ r ≡ caseLen next ⌝ }
+{
+    match next {
+        Next::Case(len) => len,
+        Next::TooLarge => 0,
+        Next::End => 0,
+        Next::Broken => 0,
+    }
+}
+
+// These bytes.
+pub fn read_case(buffer: &[u8], next: Next) -> &[u8]
+    ensures { λ r. ⌜ now r ≡ partOf (now (buffer .entry)) 0 (caseLen next) ⌝ }
+{
+    bytes_at(buffer, 0, case_len(next))
 }

@@ -1,6 +1,10 @@
 // The outcome of a replay, counted and printed.
 ghost use mathlib.Core.Path.{_≡_};
-ghost use Rattle.replay.specs.Tally.{oneMore, countedOf, closedOf};
+ghost use Prim.Native.Nat.{_-_};
+ghost use Rattle.replay.specs.Tally.{oneMore, judgedOf, verdictOf, countedOf, closedOf, afterOf};
+use crate::case::Case;
+use crate::case::PANICKED;
+use crate::stream::Next;
 use libc::STDOUT_FILENO;
 
 // What one case came to.
@@ -19,8 +23,8 @@ pub struct Tally {
     pub different: u64,
     // Cases that the program has no room for.
     pub passed: u64,
-    // More cases may follow.
-    pub going: bool,
+    // How many cases may follow. A loop has to end, and nothing says that a list does, so it counts down from a number that no run uses up.
+    pub left: u64,
     // The list could not be read to its end.
     pub broken: bool,
 }
@@ -30,9 +34,32 @@ pub const START: Tally = Tally {
     panicked: 0,
     different: 0,
     passed: 0,
-    going: true,
+    left: u64::MAX,
     broken: false,
 };
+
+// A case whose answer is the original's, or another.
+pub fn judged(same: bool) -> Verdict
+    ensures { λ r. ⌜ r ≡ judgedOf same ⌝ }
+{
+    if same {
+        return Verdict::Same;
+    }
+    Verdict::Different
+}
+
+// The same of a case that the original may not have answered and the program may have no room for.
+pub fn verdict_of(case: Case, fits: bool, same: bool) -> Verdict
+    ensures { λ r. ⌜ r ≡ verdictOf case fits same ⌝ }
+{
+    if case.code == PANICKED {
+        return Verdict::Panicked;
+    }
+    if fits {
+        return judged(same);
+    }
+    Verdict::TooLarge
+}
 
 // A count stays at its largest value, which no run reaches.
 fn more(n: u64) -> u64
@@ -45,56 +72,57 @@ fn more(n: u64) -> u64
 }
 
 // One more case.
-pub fn counted(t: Tally, v: Verdict) -> Tally
+fn counted(mut t: Tally, v: Verdict) -> Tally
     ensures { λ r. ⌜ r ≡ countedOf t v ⌝ }
 {
     match v {
-        Verdict::Same => Tally {
-            same: more(t.same),
-            panicked: t.panicked,
-            different: t.different,
-            passed: t.passed,
-            going: t.going,
-            broken: t.broken,
-        },
-        Verdict::Panicked => Tally {
-            same: t.same,
-            panicked: more(t.panicked),
-            different: t.different,
-            passed: t.passed,
-            going: t.going,
-            broken: t.broken,
-        },
-        Verdict::TooLarge => Tally {
-            same: t.same,
-            panicked: t.panicked,
-            different: t.different,
-            passed: more(t.passed),
-            going: t.going,
-            broken: t.broken,
-        },
-        Verdict::Different => Tally {
-            same: t.same,
-            panicked: t.panicked,
-            different: more(t.different),
-            passed: t.passed,
-            going: t.going,
-            broken: t.broken,
-        },
+        Verdict::Same => {
+            t.same = more(t.same);
+            t
+        }
+        Verdict::Panicked => {
+            t.panicked = more(t.panicked);
+            t
+        }
+        Verdict::TooLarge => {
+            t.passed = more(t.passed);
+            t
+        }
+        Verdict::Different => {
+            t.different = more(t.different);
+            t
+        }
     }
 }
 
 // No more cases.
-pub fn closed(t: Tally, broken: bool) -> Tally
+fn closed(mut t: Tally, broken: bool) -> Tally
     ensures { λ r. ⌜ r ≡ closedOf t broken ⌝ }
 {
-    Tally {
-        same: t.same,
-        panicked: t.panicked,
-        different: t.different,
-        passed: t.passed,
-        going: false,
-        broken,
+    t.left = 0;
+    t.broken = broken;
+    t
+}
+
+fn less(n: u64) -> u64
+    ensures { λ r. ⌜ r ≡ n - 1 ⌝ }
+{
+    if n == 0 {
+        return 0;
+    }
+    n - 1
+}
+
+// The count after what was read of the list, a case being judged so. One turn fewer is left (`fewer-left`).
+pub fn after(mut t: Tally, next: Next, v: Verdict) -> Tally
+    ensures { λ r. ⌜ r ≡ afterOf t next v ⌝ }
+{
+    t.left = less(t.left);
+    match next {
+        Next::Case(_) => counted(t, v),
+        Next::TooLarge => counted(t, Verdict::TooLarge),
+        Next::End => closed(t, false),
+        Next::Broken => closed(t, true),
     }
 }
 

@@ -1,4 +1,4 @@
--- Numbers matched in turn. Assumes nothing.
+-- Numbers matched in turn.
 use mathlib.Core.Path.{_≡_, refl, sym, ap, _∙_}
 use mathlib.Core.List.{List, [], _∷_, _++_}
 use Prim.Native.Nat.{ℕ, suc, _+_, _<_}

@@ -1,4 +1,5 @@
--- The definitions that the contracts of `replay_accessors` cite.
+-- Nothing of document 01 rests on these crates: they are test programs, and nothing here is to be believed.
+-- Test programs: what they compare.
 -- numbers matched with a list
 pub mod Matched
 -- all questions about a record

@@ -6,11 +6,11 @@ use mathlib.Core.List.{List, [], _∷_}
 use mathlib.Core.Option.{Option, none, some}
 use lib.Dec.{ltb, eqb}
 use lib.ListN.{length}
-use Rattle.parser.specs.Record.{nodeNumbers}
-use Rattle.parser.specs.declared.record.Extent.{Extent}
-use Rattle.parser.specs.declared.record.Node.{Node}
-use Rattle.parser.specs.declared.record.PieceList.{PieceList}
-use Rattle.parser.specs.declared.record.TagInfo.{TagInfo}
+use Rattle.records.specs.Record.{nodeNumbers}
+use Rattle.records.specs.declared.record.Extent.{Extent}
+use Rattle.records.specs.declared.record.Node.{Node}
+use Rattle.records.specs.declared.record.PieceList.{PieceList}
+use Rattle.records.specs.declared.record.TagInfo.{TagInfo}
 use Rattle.node.specs.declared.entry.YamlHashEntry.{YamlHashEntry}
 use Rattle.replay.specs.Case.{number}
 use Rattle.replay_accessors.specs.declared.matched.Matched.{Matched}

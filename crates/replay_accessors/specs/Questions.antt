@@ -6,7 +6,7 @@ use lib.Dec.{ltb}
 use lib.ListN.{length}
 use Rattle.node.specs.Record.{recordAt}
 use Rattle.node.specs.Kind.{isScalarAt, isArrayAt, isHashAt, lenAt, isEmptyAt}
-use Rattle.node.specs.Source.{spanAt, tagAt, pieceListAt}
+use Rattle.node.specs.Source.{spanAt, tagOf, pieceListAt}
 use Rattle.node.specs.Child.{lastChild, arrayItem}
 use Rattle.node.specs.Entry.{hashEntry}
 use Rattle.node.specs.Search.{hashValue}
@@ -21,7 +21,7 @@ kindNumbers records n =
 
 -- where the node stands
 abbrev pub sourceNumbers : List ℕ → ℕ → List ℕ
-sourceNumbers records n = spanNumbers (spanAt records n) ++ (tagNumbers (tagAt records n) ++ pieceNumbers (pieceListAt records n))
+sourceNumbers records n = spanNumbers (spanAt records n) ++ (tagNumbers (tagOf records n) ++ pieceNumbers (pieceListAt records n))
 
 abbrev pub aboutItself : List ℕ → ℕ → List ℕ → Matched → Matched
 aboutItself records n list m =

@@ -3,7 +3,7 @@
 ghost use mathlib.Core.Path.{_≡_};
 ghost use mathlib.Core.List.{[], _∷_};
 ghost use mathlib.Core.Option.{some};
-ghost use Rattle.parser.specs.Record.{nodeNumbers};
+ghost use Rattle.records.specs.Record.{nodeNumbers};
 ghost use Rattle.node.specs.Kind.{flagIn, countIn};
 ghost use Rattle.node.specs.Source.{spanIn, tagIn, pieceListIn};
 ghost use Rattle.node.specs.Child.{placeIn};
@@ -19,11 +19,8 @@ use node::record::Lookup;
 use node::source::Pieces;
 use node::source::Span;
 use node::source::Tagged;
-use parser::record::Extent;
-use parser::record::Node;
-use parser::record::PieceList;
-use parser::record::TagInfo;
-use parser::record::record_numbers;
+use records::record::Node;
+use records::record::record_numbers;
 
 // How many bytes of a list were matched, and whether all of them were.
 pub struct Matched {
@@ -70,6 +67,13 @@ pub fn number(list: &[u8], m: Matched, x: u32) -> Matched
     DIFFERENT
 }
 
+// Two numbers, one after the other.
+fn two(list: &[u8], m: Matched, x: u32, y: u32) -> Matched
+    ensures { λ r. ⌜ r ≡ matchAll (now (list .entry)) m (x ∷ y ∷ []) ⌝ }
+{
+    number(list, number(list, m, x), y)
+}
+
 // Whether the list was matched to its end.
 pub fn is_whole(list: &[u8], m: Matched) -> bool
     ensures { λ r. ⌜ r ≡ matchedWhole (now (list .entry)) m ⌝ }
@@ -98,7 +102,7 @@ pub fn count(list: &[u8], m: Matched, answer: Count) -> Matched
     ensures { λ r. ⌜ r ≡ matchAll (now (list .entry)) m (countNumbers (countIn answer)) ⌝ }
 {
     match answer {
-        Count::Is(k) => number(list, number(list, m, SOME), k),
+        Count::Is(k) => two(list, m, SOME, k),
         Count::Missing => number(list, m, NONE),
     }
 }
@@ -121,39 +125,23 @@ pub fn place(list: &[u8], m: Matched, answer: Place) -> Matched
     }
 }
 
-fn extent(list: &[u8], m: Matched, x: Extent) -> Matched
-    ensures { λ r. ⌜ r ≡ matchAll (now (list .entry)) m (x .start ∷ x .end ∷ []) ⌝ }
-{
-    number(list, number(list, m, x.start), x.end)
-}
-
 pub fn span(list: &[u8], m: Matched, answer: Span) -> Matched
     ensures { λ r. ⌜ r ≡ matchAll (now (list .entry)) m (spanNumbers (spanIn answer)) ⌝ }
 {
     match answer {
-        Span::Of(x) => extent(list, number(list, m, SOME), x),
+        Span::Of(x) => two(list, number(list, m, SOME), x.start, x.end),
         Span::Missing => number(list, m, NONE),
     }
-}
-
-fn tag_numbers(list: &[u8], m: Matched, tag: TagInfo) -> Matched
-    ensures { λ r. ⌜ r ≡ matchAll (now (list .entry)) m (tag .start ∷ tag .end ∷ tag .suffix ∷ tag .len ∷ []) ⌝ }
-{
-    let m = number(list, number(list, m, tag.start), tag.end);
-    number(list, number(list, m, tag.suffix), tag.len)
-}
-
-fn piece_numbers(list: &[u8], m: Matched, pieces: PieceList) -> Matched
-    ensures { λ r. ⌜ r ≡ matchAll (now (list .entry)) m (pieces .first ∷ pieces .count ∷ []) ⌝ }
-{
-    number(list, number(list, m, pieces.first), pieces.count)
 }
 
 pub fn tagged(list: &[u8], m: Matched, answer: Tagged) -> Matched
     ensures { λ r. ⌜ r ≡ matchAll (now (list .entry)) m (tagNumbers (tagIn answer)) ⌝ }
 {
     match answer {
-        Tagged::With(tag) => tag_numbers(list, number(list, m, SOME), tag),
+        Tagged::With(x) => {
+            let m = two(list, number(list, m, SOME), x.start, x.end);
+            two(list, m, x.suffix, x.len)
+        }
         Tagged::Missing => number(list, m, NONE),
     }
 }
@@ -162,7 +150,7 @@ pub fn pieces(list: &[u8], m: Matched, answer: Pieces) -> Matched
     ensures { λ r. ⌜ r ≡ matchAll (now (list .entry)) m (pieceNumbers (pieceListIn answer)) ⌝ }
 {
     match answer {
-        Pieces::Listed(pieces) => piece_numbers(list, number(list, m, SOME), pieces),
+        Pieces::Listed(x) => two(list, number(list, m, SOME), x.first, x.count),
         Pieces::Missing => number(list, m, NONE),
     }
 }
@@ -170,13 +158,10 @@ pub fn pieces(list: &[u8], m: Matched, answer: Pieces) -> Matched
 fn pair(list: &[u8], m: Matched, x: YamlHashEntry) -> Matched
     ensures { λ r. ⌜ r ≡ matchEntry (now (list .entry)) m (some x) ⌝ }
 {
-    let key_span = x.key_span;
-    let value_span = x.value_span;
-    let entry_span = x.entry_span;
     let m = place_number(list, place_number(list, m, x.key), x.value);
-    let m = extent(list, m, key_span);
-    let m = extent(list, m, value_span);
-    extent(list, m, entry_span)
+    let m = two(list, m, x.key_span.start, x.key_span.end);
+    let m = two(list, m, x.value_span.start, x.value_span.end);
+    two(list, m, x.entry_span.start, x.entry_span.end)
 }
 
 pub fn entry(list: &[u8], m: Matched, answer: Entry) -> Matched

@@ -3,13 +3,10 @@
 // are the keys to ask for, in its event bytes.
 use node::child::child_before;
 use node::child::child_from_last;
-use node::child::root;
+use node::child::record_before;
 use node::entry::pair_ending;
-use parser::record::RECORD_WIDTH;
+use records::record::RECORD_WIDTH;
 use replay::case::Case;
-use replay::case::Part;
-use replay::stream::Next;
-use replay::tally::Tally;
 use replay::tally::Verdict;
 use replay_accessors::matched::Matched;
 use replay_accessors::matched::entry;
@@ -27,7 +24,7 @@ const FARTHEST: usize = usize::MAX;
 
 // The single steps from record `n`, and the first and the farthest index.
 fn same_steps(records: &[u32], n: usize, list: &[u8], m: Matched) -> Matched {
-    let m = place(list, m, root(records, n));
+    let m = place(list, m, record_before(records, n));
     let m = place(list, m, child_before(records, n));
     let m = entry(list, m, pair_ending(records, n));
     let m = place(list, m, child_from_last(records, n, 0));
@@ -91,50 +88,21 @@ fn same_in(bytes: &[u8], case: Case, records: &mut [u32]) -> bool {
     read_the_same(records, events, keys, list)
 }
 
-// The same, in as much of this buffer as the case has numbers.
-fn verdict_in(bytes: &[u8], records: &mut [u32]) -> Verdict {
+fn verdict(bytes: &[u8]) -> Verdict {
     let case = replay::case::case_of(bytes);
     let count = case.text.len / 4;
-    if records.len() < count {
-        return Verdict::TooLarge;
-    }
-    if same_in(bytes, case, &mut records[..count]) {
-        return Verdict::Same;
-    }
-    Verdict::Different
-}
-
-fn verdict(bytes: &[u8]) -> Verdict {
     let mut records = replay::case::numbers();
-    verdict_in(bytes, &mut records)
-}
-
-// Reads a case and counts it.
-fn step(space: &mut [u8], tally: Tally) -> Tally {
-    let next = replay::stream::next_case(space);
-    match next {
-        Next::Case(len) => {
-            let v = verdict(replay::case::bytes_of(space, Part { at: 0, len }));
-            replay::tally::counted(tally, v)
-        }
-        Next::TooLarge => replay::tally::counted(tally, Verdict::TooLarge),
-        Next::End => replay::tally::closed(tally, false),
-        Next::Broken => replay::tally::closed(tally, true),
-    }
-}
-
-// All cases. The loop has to end, and nothing says that a list does, so it counts down from a number that no run uses up.
-fn replay_all(space: &mut [u8]) -> Tally {
-    let mut tally = replay::tally::START;
-    let mut turns = u64::MAX;
-    while turns > 0 && tally.going {
-        tally = step(space, tally);
-        turns -= 1;
-    }
-    tally
+    let same = same_in(bytes, case, replay::case::lent(&mut records, count));
+    replay::tally::verdict_of(case, replay::case::has_room(count), same)
 }
 
 fn main() {
     let mut space = io::large_buffer();
-    replay::tally::print(replay_all(&mut space));
+    let mut tally = replay::tally::START;
+    while tally.left > 0 {
+        let next = replay::stream::next_case(&mut space);
+        let v = verdict(replay::stream::read_case(&space, next));
+        tally = replay::tally::after(tally, next, v);
+    }
+    replay::tally::print(tally);
 }

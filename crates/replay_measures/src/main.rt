@@ -1,9 +1,5 @@
 // Replays the original's spans of scalars: each case is one scalar, whose record has its span.
-ghost use Rattle.text.specs.Utf8.{Utf8};
 use event::read::Event;
-use replay::case::Part;
-use replay::stream::Next;
-use replay::tally::Tally;
 use replay::tally::Verdict;
 
 // Where a record's span stands, in bytes.
@@ -18,10 +14,10 @@ fn same_span(
     column: u32,
     record: &[u8],
 ) -> bool {
-    if !text::utf8::is_utf8(rest) {
+    if !utf8::utf8::is_utf8(rest) {
         return false;
     }
-    if !text::utf8::is_utf8(value) {
+    if !utf8::utf8::is_utf8(value) {
         return false;
     }
     let len = measure::scalar::scalar_len(rest, value, style, empty, column as usize);
@@ -33,70 +29,41 @@ fn same_span(
     len == (end - start) as usize
 }
 
-fn verdict(bytes: &[u8]) -> Verdict {
-    let case = replay::case::case_of(bytes);
-    if case.code == replay::case::PANICKED {
-        return Verdict::Panicked;
-    }
-    let text = replay::case::bytes_of(bytes, case.text);
-    let events = replay::case::bytes_of(bytes, case.events);
-    let record = replay::case::bytes_of(bytes, case.records);
-    let read = event::read::read_event(events, 0);
+// Whether the first event is a scalar whose span is the record's.
+fn same_event(text: &[u8], events: &[u8], record: &[u8]) -> bool {
     let Event::Scalar {
-        index: _,
         column,
         style,
         empty_span,
-        tag: _,
-        value: part,
-        next: _,
-    } = read
+        value,
+        ..
+    } = event::read::read_event(events, 0)
     else {
-        return Verdict::Different;
+        return false;
     };
-    let value = replay::case::bytes_of(
-        events,
-        Part {
-            at: part.at,
-            len: part.len,
-        },
-    );
     let start = replay::case::number_at(record, SPAN_AT) as usize;
     if text.len() < start {
-        return Verdict::Different;
+        return false;
     }
-    if same_span(&text[start..], value, style, empty_span, column, record) {
-        return Verdict::Same;
-    }
-    Verdict::Different
+    let value = replay::case::bytes_at(events, value.at, value.len);
+    same_span(&text[start..], value, style, empty_span, column, record)
 }
 
-// Reads a case and counts it.
-fn step(space: &mut [u8], tally: Tally) -> Tally {
-    let next = replay::stream::next_case(space);
-    match next {
-        Next::Case(len) => {
-            let v = verdict(replay::case::bytes_of(space, Part { at: 0, len }));
-            replay::tally::counted(tally, v)
-        }
-        Next::TooLarge => replay::tally::counted(tally, Verdict::TooLarge),
-        Next::End => replay::tally::closed(tally, false),
-        Next::Broken => replay::tally::closed(tally, true),
-    }
-}
-
-// All cases. The loop has to end, and nothing says that a list does, so it counts down from a number that no run uses up.
-fn replay_all(space: &mut [u8]) -> Tally {
-    let mut tally = replay::tally::START;
-    let mut turns = u64::MAX;
-    while turns > 0 && tally.going {
-        tally = step(space, tally);
-        turns -= 1;
-    }
-    tally
+fn verdict(bytes: &[u8]) -> Verdict {
+    let case = replay::case::case_of(bytes);
+    let text = replay::case::bytes_of(bytes, case.text);
+    let events = replay::case::bytes_of(bytes, case.events);
+    let record = replay::case::bytes_of(bytes, case.records);
+    replay::tally::verdict_of(case, true, same_event(text, events, record))
 }
 
 fn main() {
     let mut space = io::large_buffer();
-    replay::tally::print(replay_all(&mut space));
+    let mut tally = replay::tally::START;
+    while tally.left > 0 {
+        let next = replay::stream::next_case(&mut space);
+        let v = verdict(replay::stream::read_case(&space, next));
+        tally = replay::tally::after(tally, next, v);
+    }
+    replay::tally::print(tally);
 }

@@ -4,13 +4,10 @@ use node::child::Place;
 use node::child::child_before;
 use node::child::child_from_last;
 use node::child::last_child;
-use node::child::root;
+use node::child::record_before;
 use node::entry::pair_ending;
 use parser::answer::Answer;
 use replay::case::Case;
-use replay::case::Part;
-use replay::stream::Next;
-use replay::tally::Tally;
 use replay::tally::Verdict;
 use replay_accessors::matched::DIFFERENT;
 use replay_accessors::matched::Matched;
@@ -108,7 +105,7 @@ fn same_records(
 // Whether the accessors answer on so many nodes what the list says.
 fn read_the_same(records: &[u32], events: &[u8], nodes: usize, keys: &[u8], list: &[u8]) -> bool {
     let start = replay_accessors::matched::START;
-    let m = replay_accessors::matched::place(list, start, root(records, nodes));
+    let m = replay_accessors::matched::place(list, start, record_before(records, nodes));
     let m = same_records(records, events, nodes, keys, list, m);
     replay_accessors::matched::is_whole(list, m)
 }
@@ -117,13 +114,7 @@ fn read_the_same(records: &[u32], events: &[u8], nodes: usize, keys: &[u8], list
 fn same_answer(bytes: &[u8], case: Case, answer: Answer, records: &[u32]) -> bool {
     match answer {
         Answer::Built { nodes, pieces } => {
-            if case.code != 0 {
-                return false;
-            }
-            if case.first as usize != nodes {
-                return false;
-            }
-            if case.second as usize != pieces {
+            if !replay::case::is_returned(case, 0, nodes, pieces) {
                 return false;
             }
             let events = replay::case::bytes_of(bytes, case.events);
@@ -131,12 +122,7 @@ fn same_answer(bytes: &[u8], case: Case, answer: Answer, records: &[u32]) -> boo
             let list = replay::case::bytes_of(bytes, case.records);
             read_the_same(records, events, nodes, keys, list)
         }
-        Answer::Refused { number, place } => {
-            if case.code != number {
-                return false;
-            }
-            case.first as usize == place
-        }
+        Answer::Refused { number, place } => replay::case::is_returned(case, number, place, 0),
     }
 }
 
@@ -148,63 +134,26 @@ fn built_the_same(bytes: &[u8], case: Case, records: &mut [u32], pieces: &mut [u
     same_answer(bytes, case, answer, records)
 }
 
-// The same, in as much of these buffers as the case has room.
-fn verdict_in(bytes: &[u8], records: &mut [u32], pieces: &mut [u32]) -> Verdict {
-    let case = replay::case::case_of(bytes);
-    if case.code == replay::case::PANICKED {
-        return Verdict::Panicked;
-    }
-    let record_room = case.rooms.records as usize;
-    if records.len() < record_room {
-        return Verdict::TooLarge;
-    }
-    let piece_room = case.rooms.pieces as usize;
-    if pieces.len() < piece_room {
-        return Verdict::TooLarge;
-    }
-    if built_the_same(
-        bytes,
-        case,
-        &mut records[..record_room],
-        &mut pieces[..piece_room],
-    ) {
-        return Verdict::Same;
-    }
-    Verdict::Different
-}
-
 fn verdict(bytes: &[u8]) -> Verdict {
+    let case = replay::case::case_of(bytes);
     let mut records = replay::case::numbers();
     let mut pieces = replay::case::numbers();
-    verdict_in(bytes, &mut records, &mut pieces)
-}
-
-// Reads a case and counts it.
-fn step(space: &mut [u8], tally: Tally) -> Tally {
-    let next = replay::stream::next_case(space);
-    match next {
-        Next::Case(len) => {
-            let v = verdict(replay::case::bytes_of(space, Part { at: 0, len }));
-            replay::tally::counted(tally, v)
-        }
-        Next::TooLarge => replay::tally::counted(tally, Verdict::TooLarge),
-        Next::End => replay::tally::closed(tally, false),
-        Next::Broken => replay::tally::closed(tally, true),
-    }
-}
-
-// All cases. The loop has to end, and nothing says that a list does, so it counts down from a number that no run uses up.
-fn replay_all(space: &mut [u8]) -> Tally {
-    let mut tally = replay::tally::START;
-    let mut turns = u64::MAX;
-    while turns > 0 && tally.going {
-        tally = step(space, tally);
-        turns -= 1;
-    }
-    tally
+    let same = built_the_same(
+        bytes,
+        case,
+        replay::case::lent(&mut records, case.rooms.records as usize),
+        replay::case::lent(&mut pieces, case.rooms.pieces as usize),
+    );
+    replay::tally::verdict_of(case, replay::case::fits(case), same)
 }
 
 fn main() {
     let mut space = io::large_buffer();
-    replay::tally::print(replay_all(&mut space));
+    let mut tally = replay::tally::START;
+    while tally.left > 0 {
+        let next = replay::stream::next_case(&mut space);
+        let v = verdict(replay::stream::read_case(&space, next));
+        tally = replay::tally::after(tally, next, v);
+    }
+    replay::tally::print(tally);
 }

@@ -1,11 +1,7 @@
 // Replays the original's marker offsets: in each case a sequence of aliases over a text, whose span starts are the offsets of their
 // markers, taken in turn through one cursor.
 ghost use mathlib.Core.Path.{_≡_};
-ghost use Rattle.text.specs.Utf8.{Utf8};
-ghost use Rattle.text.specs.Offset.{isAscii};
-use replay::case::Part;
-use replay::stream::Next;
-use replay::tally::Tally;
+ghost use Rattle.utf8.specs.Utf8.{Utf8, isAscii};
 use replay::tally::Verdict;
 use text::admission::Admission;
 use text::offset::START;
@@ -50,45 +46,19 @@ fn verdict(bytes: &[u8]) -> Verdict {
     let text = replay::case::bytes_of(bytes, case.text);
     let events = replay::case::bytes_of(bytes, case.events);
     let records = replay::case::bytes_of(bytes, case.records);
-    let admission = text::admission::admit_text(text);
-    match admission {
-        Admission::Admitted { ascii } => {
-            if same_offsets(text, ascii, events, records) {
-                return Verdict::Same;
-            }
-            Verdict::Different
-        }
-        Admission::TooLong => Verdict::Different,
-        Admission::NotUtf8 => Verdict::Different,
-    }
-}
-
-// Reads a case and counts it.
-fn step(space: &mut [u8], tally: Tally) -> Tally {
-    let next = replay::stream::next_case(space);
-    match next {
-        Next::Case(len) => {
-            let v = verdict(replay::case::bytes_of(space, Part { at: 0, len }));
-            replay::tally::counted(tally, v)
-        }
-        Next::TooLarge => replay::tally::counted(tally, Verdict::TooLarge),
-        Next::End => replay::tally::closed(tally, false),
-        Next::Broken => replay::tally::closed(tally, true),
-    }
-}
-
-// All cases. The loop has to end, and nothing says that a list does, so it counts down from a number that no run uses up.
-fn replay_all(space: &mut [u8]) -> Tally {
-    let mut tally = replay::tally::START;
-    let mut turns = u64::MAX;
-    while turns > 0 && tally.going {
-        tally = step(space, tally);
-        turns -= 1;
-    }
-    tally
+    let Admission::Admitted { ascii } = text::admission::admit_text(text) else {
+        return Verdict::Different;
+    };
+    replay::tally::judged(same_offsets(text, ascii, events, records))
 }
 
 fn main() {
     let mut space = io::large_buffer();
-    replay::tally::print(replay_all(&mut space));
+    let mut tally = replay::tally::START;
+    while tally.left > 0 {
+        let next = replay::stream::next_case(&mut space);
+        let v = verdict(replay::stream::read_case(&space, next));
+        tally = replay::tally::after(tally, next, v);
+    }
+    replay::tally::print(tally);
 }

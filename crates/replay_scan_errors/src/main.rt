@@ -3,9 +3,6 @@
 use node::marker::Scanned;
 use node::marker::scan_error;
 use replay::case::Case;
-use replay::case::Part;
-use replay::stream::Next;
-use replay::tally::Tally;
 use replay::tally::Verdict;
 use replay_accessors::matched::DIFFERENT;
 use replay_accessors::matched::Matched;
@@ -53,38 +50,16 @@ fn verdict(bytes: &[u8]) -> Verdict {
     if indices.len() == 0 {
         return Verdict::Different;
     }
-    if same_errors(text, indices, case, list) {
-        return Verdict::Same;
-    }
-    Verdict::Different
-}
-
-// Reads a case and counts it.
-fn step(space: &mut [u8], tally: Tally) -> Tally {
-    let next = replay::stream::next_case(space);
-    match next {
-        Next::Case(len) => {
-            let v = verdict(replay::case::bytes_of(space, Part { at: 0, len }));
-            replay::tally::counted(tally, v)
-        }
-        Next::TooLarge => replay::tally::counted(tally, Verdict::TooLarge),
-        Next::End => replay::tally::closed(tally, false),
-        Next::Broken => replay::tally::closed(tally, true),
-    }
-}
-
-// All cases. The loop has to end, and nothing says that a list does, so it counts down from a number that no run uses up.
-fn replay_all(space: &mut [u8]) -> Tally {
-    let mut tally = replay::tally::START;
-    let mut turns = u64::MAX;
-    while turns > 0 && tally.going {
-        tally = step(space, tally);
-        turns -= 1;
-    }
-    tally
+    replay::tally::judged(same_errors(text, indices, case, list))
 }
 
 fn main() {
     let mut space = io::large_buffer();
-    replay::tally::print(replay_all(&mut space));
+    let mut tally = replay::tally::START;
+    while tally.left > 0 {
+        let next = replay::stream::next_case(&mut space);
+        let v = verdict(replay::stream::read_case(&space, next));
+        tally = replay::tally::after(tally, next, v);
+    }
+    replay::tally::print(tally);
 }

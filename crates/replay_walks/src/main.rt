@@ -3,11 +3,8 @@
 use event::read::Event;
 use parser::answer::Answer;
 use parser::one::ScalarAnswer;
-use parser::record::Node;
+use records::record::Node;
 use replay::case::Case;
-use replay::case::Part;
-use replay::stream::Next;
-use replay::tally::Tally;
 use replay::tally::Verdict;
 
 // Where numbers of a record stand, in bytes. The payload of a real or a string names its place in the event bytes, which this call
@@ -61,26 +58,18 @@ fn same_answer(told: ScalarAnswer, case: Case, record: &[u8]) -> bool {
 fn read_the_same(bytes: &[u8], case: Case, pieces: &mut [u32]) -> bool {
     let text = replay::case::bytes_of(bytes, case.text);
     let events = replay::case::bytes_of(bytes, case.events);
-    let read = event::read::read_event(events, 0);
     let Event::Scalar {
         index,
         column,
         style,
         empty_span,
-        tag: _,
-        value: part,
-        next: _,
-    } = read
+        value,
+        ..
+    } = event::read::read_event(events, 0)
     else {
         return false;
     };
-    let value = replay::case::bytes_of(
-        events,
-        Part {
-            at: part.at,
-            len: part.len,
-        },
-    );
+    let value = replay::case::bytes_at(events, value.at, value.len);
     let told = parser::one::scalar(text, index, column, style, empty_span, value, pieces);
     if !same_answer(told, case, replay::case::bytes_of(bytes, case.records)) {
         return false;
@@ -88,53 +77,21 @@ fn read_the_same(bytes: &[u8], case: Case, pieces: &mut [u32]) -> bool {
     replay::case::same_numbers(pieces, replay::case::bytes_of(bytes, case.pieces))
 }
 
-// The same, in as much of this buffer as the case has room.
-fn verdict_in(bytes: &[u8], pieces: &mut [u32]) -> Verdict {
-    let case = replay::case::case_of(bytes);
-    if case.code == replay::case::PANICKED {
-        return Verdict::Panicked;
-    }
-    let room = case.rooms.pieces as usize;
-    if pieces.len() < room {
-        return Verdict::TooLarge;
-    }
-    if read_the_same(bytes, case, &mut pieces[..room]) {
-        return Verdict::Same;
-    }
-    Verdict::Different
-}
-
 fn verdict(bytes: &[u8]) -> Verdict {
+    let case = replay::case::case_of(bytes);
     let mut pieces = replay::case::numbers();
-    verdict_in(bytes, &mut pieces)
-}
-
-// Reads a case and counts it.
-fn step(space: &mut [u8], tally: Tally) -> Tally {
-    let next = replay::stream::next_case(space);
-    match next {
-        Next::Case(len) => {
-            let v = verdict(replay::case::bytes_of(space, Part { at: 0, len }));
-            replay::tally::counted(tally, v)
-        }
-        Next::TooLarge => replay::tally::counted(tally, Verdict::TooLarge),
-        Next::End => replay::tally::closed(tally, false),
-        Next::Broken => replay::tally::closed(tally, true),
-    }
-}
-
-// All cases. The loop has to end, and nothing says that a list does, so it counts down from a number that no run uses up.
-fn replay_all(space: &mut [u8]) -> Tally {
-    let mut tally = replay::tally::START;
-    let mut turns = u64::MAX;
-    while turns > 0 && tally.going {
-        tally = step(space, tally);
-        turns -= 1;
-    }
-    tally
+    let room = replay::case::lent(&mut pieces, case.rooms.pieces as usize);
+    let same = read_the_same(bytes, case, room);
+    replay::tally::verdict_of(case, replay::case::fits(case), same)
 }
 
 fn main() {
     let mut space = io::large_buffer();
-    replay::tally::print(replay_all(&mut space));
+    let mut tally = replay::tally::START;
+    while tally.left > 0 {
+        let next = replay::stream::next_case(&mut space);
+        let v = verdict(replay::stream::read_case(&space, next));
+        tally = replay::tally::after(tally, next, v);
+    }
+    replay::tally::print(tally);
 }

@@ -1,5 +1,5 @@
 -- Integers at most zero, each as the negative of a natural number (F8): what the operations on an i64 do to that number,
--- which `omega` reads; and when 64 signed bits hold it. One law for every base. Assumes nothing.
+-- which `omega` reads; and when 64 signed bits hold it. One law for every base.
 use mathlib.Core.Path.{_≡_, refl, sym, _∙_, ap, ap₂}
 use mathlib.Core.Bool.{Bool, true, false, cond}
 use Prim.Native.Nat.{ℕ, zero, suc, _+_, _*_, _/_, _-_, _^_, _≤_, _<_}

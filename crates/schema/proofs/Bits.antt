@@ -1,4 +1,4 @@
--- The integer's payload (E2): its bits are the machine's two's complement, and its two halves make them up. Assumes nothing.
+-- The integer's payload (E2): its bits are the machine's two's complement, and its two halves make them up.
 use mathlib.Core.Path.{_≡_, refl}
 use Prim.Native.Nat.{_+_, _*_, _/_, _%_, _^_}
 use native.Mathlib.Nat.{div-add-mod'}

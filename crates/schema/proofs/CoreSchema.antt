@@ -2,7 +2,7 @@
 -- first row that matches reads, a string where none does, and nothing else; and but for digit runs the order of the rows does
 -- not matter. `core-schema-is-limited-standard`: the schema is that, but for the range of integers. `any-order`: a standard
 -- tag reads what any row of its kind reads that matches. What is said of two rows, or of a row behind others, is one computed
--- test over the automaton's states. Assumes nothing.
+-- test over the automaton's states.
 use mathlib.Core.Path.{_≡_, refl, sym, _∙_, ap}
 use mathlib.Core.Bool.{Bool, true, false, _&&_, _||_, cond}
 use mathlib.Core.List.{List, [], _∷_, _++_}
@@ -13,23 +13,23 @@ use borrow.Author.Tests.{eqb-true}
 use lib.Dec.{T, eqb, lit<}
 use lib.IntN.{ℤ}
 use lib.ListN.{length, getD}
-use Rattle.text.specs.Tests.{clash, and-left, and-right}
-use Rattle.text.proofs.Table.{all, all-at}
-use Rattle.schema.specs.Ascii.{bytes, Bytes, sameBytes}
+use Rattle.utf8.specs.Tests.{clash, and-left, and-right}
+use Rattle.utf8.proofs.Table.{all, all-at}
+use Rattle.utf8.specs.Ascii.{bytes, Bytes, sameBytes}
 use Rattle.schema.specs.Regex.{Regex, none, Matches}
 use Rattle.schema.specs.Matcher.{nullable, derivative, accepts}
 use Rattle.schema.specs.Rows.{trueWord, decimal, number}
 use Rattle.schema.specs.Integer.{Base, ten, eight, sixteen, inRange, held}
-use Rattle.schema.specs.Standard.{Kind, null, Row, row, table, rowAt, decimalPlace, numberPlace, Meaning, integer, reads, firstMatch, standard}
-use Rattle.schema.specs.Standard.{FirstRow, no-row, this-row, later-row, StandardSchema}
-use Rattle.schema.specs.CoreSchema.{limited, coreSchema, CoreSchema}
-use Rattle.schema.specs.Kinds.{tagName, hasName, rowsOf, readAs, isReal, coreReal, AnyOrder}
+use Rattle.schema.specs.Standard.{Kind, null, Row, row, table, Meaning, integer, reads, firstMatch, standard}
+use Rattle.schema.specs.CoreSchema.{limited, coreSchema}
+use Rattle.schema.specs.Kinds.{tagName, hasName, rowsOf, readAs, isReal, coreReal}
+use Rattle.schema.specs.Statements.{FirstRow, no-row, this-row, later-row, rowAt, decimalPlace, numberPlace, StandardSchema, CoreSchema, AnyOrder}
 use Rattle.schema.specs.declared.form.Form.{Form}
 use Rattle.schema.specs.declared.plain.Resolved.the-variants.{Integer, Real, Str}
-use Rattle.schema.proofs.Bools.{implies, implied, passes, or-cases}
+use Rattle.schema.proofs.Bools.{is-true, implies, implied, or-cases}
 use Rattle.schema.proofs.Derivative.{accepts-sound, accepts-complete}
-use Rattle.schema.proofs.Automaton.{expressions, awaits, texts}
-use Rattle.schema.proofs.Flags.{accepted, flags, flagsAt, flag, truthPlace, by-states, formBy, formAt, formOfKind, kind-form, form-by, form-is, formNumber, same-number}
+use Rattle.schema.specs.Automaton.{expressions, texts, accepted, flags}
+use Rattle.schema.proofs.Flags.{InStates, by-states, flag, truthPlace, formBy, formAt, formOfKind, kind-form, form-by, form-is, sameForm, same-form}
 use Rattle.schema.proofs.Forms.{meaningOf, kind-by-form, by-form, standard-by-form}
 use Rattle.schema.proofs.Tags.{same-bytes}
 
@@ -107,6 +107,10 @@ nine : length table ≡ 9
 unfolding table
 nine = refl
 
+-- a computed test, by the flags of a scalar
+below : (P : List Bool → Bool) → InStates P → (s : List ℕ) → Bytes s → T (P (flags s))
+below P t s f = rw (by-states P t s f) tt
+
 -- ---- which rows overlap
 abbrev decimalAndNumber : ℕ → ℕ → Bool
 decimalAndNumber i j = eqb i decimalPlace && eqb j numberPlace
@@ -114,25 +118,29 @@ decimalAndNumber i j = eqb i decimalPlace && eqb j numberPlace
 abbrev apart : List Bool → ℕ → ℕ → Bool
 apart fs j i = implies (flag i fs) (implies (flag j fs) (decimalAndNumber i j))
 
-all-apart : T (all 48 (λ q. all 9 (λ j. all j (λ i. apart (flagsAt q) j i))))
-unfolding flagsAt awaits table texts derivative nullable
-all-apart = tt
+allApart : List Bool → Bool
+allApart fs = all 9 (λ j. all j (λ i. apart fs j i))
+
+all-apart : InStates allApart
+unfolding allApart table texts derivative nullable
+all-apart = refl
 
 rows-apart : (i j : ℕ) → i < j → j < length table → ((i ≡ decimalPlace) × (j ≡ numberPlace) → ⊥) → (s : List ℕ) → Bytes s
     → Matches (rowAt i .expression) s → Matches (rowAt j .expression) s → ⊥
+unfolding allApart
 rows-apart i j l h n s f a b =
-    let t = by-states (λ (fs : List Bool). all 9 (λ (j : ℕ). all j (λ (i : ℕ). apart fs j i))) all-apart s f in
-    let u = all-at j (λ (i : ℕ). apart (flags s) j i) (all-at 9 (λ (j : ℕ). all j (λ (i : ℕ). apart (flags s) j i)) t j (rw nine at h)) i l in
+    let t = below allApart all-apart s f in
+    let u = is-true (apart (flags s) j i) (all-at j (λ (i : ℕ). apart (flags s) j i) (all-at 9 (λ (j : ℕ). all j (λ (i : ℕ). apart (flags s) j i)) t j (rw nine at h)) i l) in
     let v = implied (flag i (flags s)) (implies (flag j (flags s)) (decimalAndNumber i j)) u (matched i s (omega arith) a) in
-    let w = implied (flag j (flags s)) (decimalAndNumber i j) (passes (implies (flag j (flags s)) (decimalAndNumber i j)) v) (matched j s h b) in
+    let w = implied (flag j (flags s)) (decimalAndNumber i j) v (matched j s h b) in
     n (
       eqb-true i decimalPlace (and-left (eqb i decimalPlace) (eqb j numberPlace) w),
       eqb-true j numberPlace (and-right (eqb i decimalPlace) (eqb j numberPlace) w),
     )
 
-numbers : T (all 48 (λ q. implies (flag decimalPlace (flagsAt q)) (flag numberPlace (flagsAt q))))
-unfolding flagsAt awaits table texts derivative nullable
-numbers = tt
+numbers : InStates (λ fs. implies (flag decimalPlace fs) (flag numberPlace fs))
+unfolding table texts derivative nullable
+numbers = refl
 
 decimal-is-number : (s : List ℕ) → Bytes s → Matches decimal s → Matches number s
 unfolding table
@@ -147,18 +155,15 @@ decimal-is-number s f m =
 kind-means : (k : Kind) (s : List ℕ) → meaningOf (formOfKind k (flag truthPlace (flags s))) s ≡ reads k s
 kind-means k s = ap (λ (f : Form). meaningOf f s) (ap (formOfKind k) (truth-is s) ∙ sym (kind-form k s)) ∙ sym (kind-by-form k s)
 
-abbrev sameForm : Form → Form → Bool
-sameForm f g = eqb (formNumber f) (formNumber g)
-
 -- a scalar that the row k matches has the form of the row's kind, unless it is a digit run and k the number's row
 abbrev hasForm : List Bool → ℕ → Bool
 hasForm fs k =
     implies (flag k fs)
     ((eqb k numberPlace && flag decimalPlace fs) || sameForm (formAt fs) (formOfKind (rowAt k .kind) (flag truthPlace fs)))
 
-all-have : T (all 48 (λ q. all 9 (hasForm (flagsAt q))))
-unfolding flagsAt formBy awaits table texts derivative nullable
-all-have = tt
+all-have : InStates (λ fs. all 9 (hasForm fs))
+unfolding formBy table texts derivative nullable
+all-have = refl
 
 no-digit-run : (k : ℕ) (s : List ℕ) → (k ≡ numberPlace → Matches decimal s → ⊥) → eqb k numberPlace && flag decimalPlace (flags s) ≡ true → ⊥
 unfolding table
@@ -170,14 +175,14 @@ any-row-decides : (k : ℕ) → k < length table → (s : List ℕ) → Bytes s 
     → (k ≡ numberPlace → Matches decimal s → ⊥) → standard s ≡ reads (rowAt k .kind) s
 any-row-decides k l s f m n =
     let g = formOfKind (rowAt k .kind) (flag truthPlace (flags s)) in
-    let t = by-states (λ (fs : List Bool). all 9 (hasForm fs)) all-have s f in
-    let e = implied (flag k (flags s)) _ (all-at 9 (hasForm (flags s)) t k (rw nine at l)) (matched k s l m) in
+    let t = below (λ (fs : List Bool). all 9 (hasForm fs)) all-have s f in
+    let e = implied (flag k (flags s)) _ (is-true (hasForm (flags s) k) (all-at 9 (hasForm (flags s)) t k (rw nine at l))) (matched k s l m) in
     standard-by-form s
     ∙ ap (λ (g : Form). meaningOf g s)
     (form-is s
     ∙ or-cases (eqb k numberPlace && flag decimalPlace (flags s)) (sameForm (formAt (flags s)) g) e
     (λ d. absurd (no-digit-run k s n d))
-    (λ d. same-number (formAt (flags s)) g (passes (sameForm (formAt (flags s)) g) d)))
+    (λ d. same-form (formAt (flags s)) g d))
     ∙ kind-means (rowAt k .kind) s
 
 pub standard-schema : StandardSchema
@@ -197,9 +202,9 @@ kindHasForm fs k =
     implies (flag k fs)
     (sameForm (formBy (hasName (bytes (tagName (rowAt k .kind)))) fs) (formOfKind (rowAt k .kind) (flag truthPlace fs)))
 
-all-kinds-have : T (all 48 (λ q. all 9 (kindHasForm (flagsAt q))))
-unfolding flagsAt formBy awaits table texts derivative nullable sameBytes
-all-kinds-have = tt
+all-kinds-have : InStates (λ fs. all 9 (kindHasForm fs))
+unfolding formBy table texts derivative nullable sameBytes
+all-kinds-have = refl
 
 first-of-kind : (name s : List ℕ) → FirstRow (rowsOf (hasName name) table) s (readAs name s)
 unfolding readAs
@@ -211,10 +216,10 @@ unfolding readAs
 of-its-kind k l s f m =
     let p = hasName (bytes (tagName (rowAt k .kind))) in
     let g = formOfKind (rowAt k .kind) (flag truthPlace (flags s)) in
-    let t = by-states (λ (fs : List Bool). all 9 (kindHasForm fs)) all-kinds-have s f in
-    let e = implied (flag k (flags s)) (sameForm (formBy p (flags s)) g) (all-at 9 (kindHasForm (flags s)) t k (rw nine at l)) (matched k s l m) in
+    let t = below (λ (fs : List Bool). all 9 (kindHasForm fs)) all-kinds-have s f in
+    let e = implied (flag k (flags s)) (sameForm (formBy p (flags s)) g) (is-true (kindHasForm (flags s) k) (all-at 9 (kindHasForm (flags s)) t k (rw nine at l))) (matched k s l m) in
     by-form (rowsOf p table) s
-    ∙ ap (λ (g : Form). meaningOf g s) (form-by p s ∙ same-number (formBy p (flags s)) g (passes (sameForm (formBy p (flags s)) g) e))
+    ∙ ap (λ (g : Form). meaningOf g s) (form-by p s ∙ same-form (formBy p (flags s)) g e)
     ∙ kind-means (rowAt k .kind) s
 
 any-of-kind : (name s : List ℕ) → Bytes s → (k : ℕ) → k < length table → hasName name (rowAt k .kind) ≡ true

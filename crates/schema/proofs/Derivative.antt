@@ -1,6 +1,6 @@
 -- The matcher is right: `accepts r s` is true where, and only where, `Matches r s` holds (`accepts-sound`,
 -- `accepts-complete`). Byte by byte: `Matches r (b ∷ s)` where and only where `Matches (derivative b r) s`, and
--- `Matches r []` where and only where `nullable r`. Assumes nothing.
+-- `Matches r []` where and only where `nullable r`.
 use mathlib.Core.Path.{_≡_, refl, sym, _∙_, ap, subst}
 use mathlib.Core.Bool.{Bool, true, false, _&&_, cond}
 use mathlib.Core.List.{List, [], _∷_, _++_}
@@ -10,8 +10,9 @@ use native.Mathlib.Omega.{arith}
 use borrow.Author.Tests.{leb-true, le-leb}
 use lib.Dec.{leb}
 use Rattle.schema.specs.Regex.{Regex, none, empty, range, seq, alt, star, Matches, m-empty, m-range, m-seq, m-left, m-right, m-done, m-more}
-use Rattle.schema.specs.Matcher.{isNone, join, either, nullable, derivative, accepts}
-use Rattle.text.specs.Tests.{clash, and-left, and-right}
+use Rattle.schema.specs.Matcher.{isNone, join, union, nullable, derivative, accepts}
+use Rattle.schema.specs.Statements.{MatcherExact}
+use Rattle.utf8.specs.Tests.{clash, and-left, and-right}
 use Rattle.schema.proofs.Bools.{and-both, or-cases, or-left, or-right}
 
 -- ---- lists
@@ -85,13 +86,13 @@ alt-sound r (seq a b) m = inv-alt m
 alt-sound r (alt a b) m = inv-alt m
 alt-sound r (star a) m = inv-alt m
 
-either-sound : (r q : Regex) {s : List ℕ} → Matches (either r q) s → Matches r s ⊎ Matches q s
-either-sound none q m = inr m
-either-sound empty q m = alt-sound empty q m
-either-sound (range a b) q m = alt-sound (range a b) q m
-either-sound (seq a b) q m = alt-sound (seq a b) q m
-either-sound (alt a b) q m = alt-sound (alt a b) q m
-either-sound (star a) q m = alt-sound (star a) q m
+union-sound : (r q : Regex) {s : List ℕ} → Matches (union r q) s → Matches r s ⊎ Matches q s
+union-sound none q m = inr m
+union-sound empty q m = alt-sound empty q m
+union-sound (range a b) q m = alt-sound (range a b) q m
+union-sound (seq a b) q m = alt-sound (seq a b) q m
+union-sound (alt a b) q m = alt-sound (alt a b) q m
+union-sound (star a) q m = alt-sound (star a) q m
 
 whole : {r q : Regex} {s : List ℕ} → Matches r s ⊎ Matches q s → Matches (alt r q) s
 whole (inl a) = m-left a
@@ -105,13 +106,13 @@ alt-complete r (seq a b) m = whole m
 alt-complete r (alt a b) m = whole m
 alt-complete r (star a) m = whole m
 
-either-complete : (r q : Regex) {s : List ℕ} → Matches r s ⊎ Matches q s → Matches (either r q) s
-either-complete none q m = ⊎-elim (λ a. inv-none a) (λ a. a) m
-either-complete empty q m = alt-complete empty q m
-either-complete (range a b) q m = alt-complete (range a b) q m
-either-complete (seq a b) q m = alt-complete (seq a b) q m
-either-complete (alt a b) q m = alt-complete (alt a b) q m
-either-complete (star a) q m = alt-complete (star a) q m
+union-complete : (r q : Regex) {s : List ℕ} → Matches r s ⊎ Matches q s → Matches (union r q) s
+union-complete none q m = ⊎-elim (λ a. inv-none a) (λ a. a) m
+union-complete empty q m = alt-complete empty q m
+union-complete (range a b) q m = alt-complete (range a b) q m
+union-complete (seq a b) q m = alt-complete (seq a b) q m
+union-complete (alt a b) q m = alt-complete (alt a b) q m
+union-complete (star a) q m = alt-complete (star a) q m
 
 -- ---- the empty list
 pub nullable-sound : (r : Regex) → nullable r ≡ true → Matches r []
@@ -150,9 +151,9 @@ first b r q d f m =
     subst (λ (t : List ℕ). Matches (seq r q) (b ∷ t)) (sym (i .is)) (m-seq (f (i .u) (i .left)) (i .right))
 
 seq-sound : (b : ℕ) (r q d e : Regex) (n : Bool) {s : List ℕ} → n ≡ nullable r → ((t : List ℕ) → Matches d t → Matches r (b ∷ t)) → ((t : List ℕ) → Matches e t → Matches q (b ∷ t))
-    → Matches (cond n (either (join d q) e) (join d q)) s → Matches (seq r q) (b ∷ s)
+    → Matches (cond n (union (join d q) e) (join d q)) s → Matches (seq r q) (b ∷ s)
 seq-sound b r q d e true {s} n f g m =
-    ⊎-elim (λ a. first b r q d f (join-sound d q a)) (λ a. m-seq (nullable-sound r (sym n)) (g s a)) (either-sound (join d q) e m)
+    ⊎-elim (λ a. first b r q d f (join-sound d q a)) (λ a. m-seq (nullable-sound r (sym n)) (g s a)) (union-sound (join d q) e m)
 seq-sound b r q d e false n f g m = first b r q d f (join-sound d q m)
 
 again : (b : ℕ) (r d : Regex) {s : List ℕ} → ((t : List ℕ) → Matches d t → Matches r (b ∷ t)) → Matches (seq d (star r)) s → Matches (star r) (b ∷ s)
@@ -166,7 +167,7 @@ derivative-sound b none s m = inv-none m
 derivative-sound b empty s m = inv-none m
 derivative-sound b (range lo hi) s m = byte-sound b lo hi m
 derivative-sound b (seq r q) s m = seq-sound b r q (derivative b r) (derivative b q) (nullable r) refl (derivative-sound b r) (derivative-sound b q) m
-derivative-sound b (alt r q) s m = ⊎-elim (λ a. m-left (derivative-sound b r s a)) (λ a. m-right (derivative-sound b q s a)) (either-sound (derivative b r) (derivative b q) m)
+derivative-sound b (alt r q) s m = ⊎-elim (λ a. m-left (derivative-sound b r s a)) (λ a. m-right (derivative-sound b q s a)) (union-sound (derivative b r) (derivative b q) m)
 derivative-sound b (star r) s m = again b r (derivative b r) (derivative-sound b r) (join-sound (derivative b r) (star r) m)
 
 -- ---- and back
@@ -184,10 +185,10 @@ cut (c ∷ u) v b t e = now u (cc) (cc)
 
 seq-complete : (b : ℕ) (r q d e : Regex) (n : Bool) (u v t : List ℕ) → n ≡ nullable r → Matches r u → Matches q v
     → ((w : List ℕ) → u ≡ b ∷ w → Matches d w) → (v ≡ b ∷ t → Matches e t)
-    → Cut u v b t → Matches (cond n (either (join d q) e) (join d q)) t
-seq-complete b r q d e true u v t n x y f g (later p k) = either-complete (join d q) e (inr (g k))
+    → Cut u v b t → Matches (cond n (union (join d q) e) (join d q)) t
+seq-complete b r q d e true u v t n x y f g (later p k) = union-complete (join d q) e (inr (g k))
 seq-complete b r q d e false u v t n x y f g (later p k) = absurd (clash (sym (nullable-complete x p) ∙ sym n))
-seq-complete b r q d e true u v t n x y f g (now w p k) = either-complete (join d q) e (inl (join-complete d q (rw k (m-seq (f w p) y))))
+seq-complete b r q d e true u v t n x y f g (now w p k) = union-complete (join d q) e (inl (join-complete d q (rw k (m-seq (f w p) y))))
 seq-complete b r q d e false u v t n x y f g (now w p k) = join-complete d q (rw k (m-seq (f w p) y))
 
 star-complete : (b : ℕ) (r d : Regex) (u v t : List ℕ) → Matches (star r) v
@@ -204,8 +205,8 @@ derivative-complete (m-range {lo = lo} {hi = hi} {b = c} p q) b t e =
     (subst (λ (x : ℕ). Matches (derivative x (range lo hi)) []) (head-is e) (byte-complete c lo hi p q))
 derivative-complete (m-seq {r = r} {q = q} {u = u} {v = v} x y) b t e =
     seq-complete b r q (derivative b r) (derivative b q) (nullable r) u v t refl x y (λ w k. derivative-complete x b w k) (λ k. derivative-complete y b t k) (cut u v b t e)
-derivative-complete (m-left {r = r} {q = q} x) b t e = either-complete (derivative b r) (derivative b q) (inl (derivative-complete x b t e))
-derivative-complete (m-right {r = r} {q = q} x) b t e = either-complete (derivative b r) (derivative b q) (inr (derivative-complete x b t e))
+derivative-complete (m-left {r = r} {q = q} x) b t e = union-complete (derivative b r) (derivative b q) (inl (derivative-complete x b t e))
+derivative-complete (m-right {r = r} {q = q} x) b t e = union-complete (derivative b r) (derivative b q) (inr (derivative-complete x b t e))
 derivative-complete m-done b t e = cons-nil (sym e)
 derivative-complete (m-more {r = r} {u = u} {v = v} x y) b t e =
     star-complete b r (derivative b r) u v t y (λ w k. derivative-complete x b w k) (λ k. derivative-complete y b t k) (cut u v b t e)
@@ -220,3 +221,6 @@ pub accepts-complete : (s : List ℕ) (r : Regex) → Matches r s → accepts r 
 unfolding accepts
 accepts-complete [] r m = nullable-complete m refl
 accepts-complete (b ∷ s) r m = accepts-complete s (derivative b r) (derivative-complete m b s refl)
+
+pub matcher-exact : MatcherExact
+matcher-exact = record { sound = accepts-sound; complete = accepts-complete }

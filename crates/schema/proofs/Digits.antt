@@ -1,4 +1,4 @@
--- Digit runs, a byte at a time from a place of a list. Assumes nothing.
+-- Digit runs, a byte at a time from a place of a list.
 use mathlib.Core.Path.{_≡_, refl, ap, subst}
 use mathlib.Core.List.{List, [], _∷_, _++_}
 use Prim.Native.Nat.{ℕ, _+_, _*_, _-_, _≤_, _<_}

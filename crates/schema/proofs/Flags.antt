@@ -1,39 +1,32 @@
 -- The flags of a scalar: for each row of the table whether it accepts the scalar, and whether it is a word that is true. They
--- are those of the state in which the automaton ends (`ended`), so that what holds of the flags of every state, by a computed
--- test, holds of every scalar (`by-states`). The form of a scalar by some of the rows is read off its flags (`form-by`).
--- Assumes nothing.
-use mathlib.Core.Path.{_≡_, refl, sym, _∙_, ap, subst}
+-- are those of a state of the automaton (`ends`), so that what holds of the flags of every state, by a computed test, holds of
+-- every scalar (`by-states`). The form of a scalar by some of the rows is read off its flags (`form-by`).
+use mathlib.Core.Path.{_≡_, refl, sym, _∙_, ap}
 use mathlib.Core.Bool.{Bool, true, false, _&&_, cond}
 use mathlib.Core.List.{List, [], _∷_, _++_, map}
-use Prim.Native.Nat.{ℕ, suc, _+_, _<_, _≤_}
+use Prim.Native.Nat.{ℕ, suc, _+_, _≤_, _<_}
+use native.Mathlib.Decide.{ℕ-discrete}
 use native.Mathlib.Numerals.{add-one}
 use native.Mathlib.Omega.{arith}
-use borrow.Author.Tests.{ne-eqb}
-use lib.Dec.{T, eqb, eqb→eq}
+use borrow.Author.Tests.{eqb-true}
+use lib.Dec.{T, eqb}
 use lib.ListN.{length, drop, getD, drop-of-length-le}
 use lib.Seq.{drop-cons}
-use Rattle.text.proofs.Table.{all, all-at}
-use Rattle.schema.specs.Ascii.{Bytes}
+use Rattle.utf8.proofs.Table.{all, all-at}
+use Rattle.utf8.specs.Ascii.{Bytes}
 use Rattle.schema.specs.Regex.{Regex, none}
 use Rattle.schema.specs.Matcher.{nullable, derivative, accepts}
 use Rattle.schema.specs.Rows.{trueWord}
 use Rattle.schema.specs.Integer.{ten, eight, sixteen}
 use Rattle.schema.specs.Standard.{Kind, null, bool, int, float, Row, table, reads, firstMatch}
 use Rattle.schema.specs.Kinds.{rowsOf}
-use Rattle.schema.specs.Form.{formFor, formOf, beginsNoRow}
+use Rattle.schema.specs.Form.{formFor, formOf}
+use Rattle.schema.specs.Automaton.{expressions, allRows, texts, stateCount, startState, deadState, states, awaits, accepted, flags, letterForm, Tables, beginsNoRow}
 use Rattle.schema.specs.declared.form.Form.{Form}
 use Rattle.schema.specs.declared.form.Form.the-variants.{Null, True, False, Decimal, Octal, Hexadecimal, Float, Other}
-use Rattle.schema.proofs.Automaton.{expressions, rows, awaits, texts, symbols, next, forms, step, step-low, step-is}
-
-abbrev pub accepted : List Regex → List ℕ → List Bool
-accepted rs s = map (λ r. accepts r s) rs
-
-unfoldable pub flags : List ℕ → List Bool
-flags s = accepted rows s
-
--- the flags of a scalar that ends in the state
-unfoldable pub flagsAt : ℕ → List Bool
-flagsAt q = map nullable (awaits q)
+use Rattle.schema.proofs.Bools.{is-true, implies, implied}
+use Rattle.schema.proofs.Lists.{every, every-at, pairwise, pairwise-length, pairwise-at}
+use Rattle.schema.proofs.Automaton.{sameRows, same-rows-is, state-count, SymbolsRight, NextRight, line-count, symbol-from, symbol-low, entry-from, state-low, derives, moved}
 
 -- ---- a step of a run
 accepted-cons : (b : ℕ) (s : List ℕ) (rs : List Regex) → accepted rs (b ∷ s) ≡ accepted (map (derivative b) rs) s
@@ -41,33 +34,42 @@ unfolding accepts
 accepted-cons b s [] = refl
 accepted-cons b s (r ∷ rs) = ap (λ (fs : List Bool). accepts (derivative b r) s ∷ fs) (accepted-cons b s rs)
 
-pub turn : (q b : ℕ) (s : List ℕ) → q < 48 → b < 256 → accepted (awaits q) (b ∷ s) ≡ accepted (awaits (step q b)) s
-turn q b s l h = accepted-cons b s (awaits q) ∙ ap (λ (rs : List Regex). accepted rs s) (sym (step-is q b l h))
+turn : (rs qs : List Regex) (b : ℕ) (s : List ℕ) → qs ≡ map (derivative b) rs → accepted rs (b ∷ s) ≡ accepted qs s
+turn rs qs b s e = accepted-cons b s rs ∙ ap (λ (rs : List Regex). accepted rs s) (sym e)
 
-pub started : (s : List ℕ) → accepted (awaits 3) s ≡ flags s
+-- the flags of a scalar that ends in the state
+unfoldable flagsAt : ℕ → List Bool
+flagsAt q = map nullable (awaits q)
+
+pub started : (s : List ℕ) → accepted (awaits startState) s ≡ flags s
 unfolding flags awaits texts
 started s = refl
 
-pub ended : (q : ℕ) → accepted (awaits q) [] ≡ flagsAt q
+ended : (q : ℕ) → accepted (awaits q) [] ≡ flagsAt q
 unfolding flagsAt accepts
 ended q = refl
 
 -- ---- what holds of the flags of every state
 record Ends (q : ℕ) (s : List ℕ) : Type 0 where
   last : ℕ
-  low : last < 48
+  low : last < stateCount
   is : accepted (awaits q) s ≡ flagsAt last
 
-ends : (s : List ℕ) (q : ℕ) → q < 48 → Bytes s → Ends q s
+ends : (s : List ℕ) (q : ℕ) → q < stateCount → Bytes s → Ends q s
 ends [] q l f = record { last = q; low = l; is = ended q }
 ends (b ∷ s) q l f =
-    let e = ends s (step q b) (step-low q b l (f 0)) (λ k. f (suc k)) in
-    record { last = e .last; low = e .low; is = turn q b s l (f 0) ∙ e .is }
+    let m = moved q b l (f 0) in
+    let e = ends s (m .to) (m .low) (λ k. f (suc k)) in
+    record { last = e .last; low = e .low; is = turn (awaits q) (awaits (m .to)) b s (m .derives) ∙ e .is }
 
-pub by-states : (P : List Bool → Bool) → T (all 48 (λ q. P (flagsAt q))) → (s : List ℕ) → Bytes s → T (P (flags s))
+abbrev pub InStates : (List Bool → Bool) → Type 0
+InStates P = every (λ rs. P (map nullable rs)) states ≡ true
+
+pub by-states : (P : List Bool → Bool) → InStates P → (s : List ℕ) → Bytes s → P (flags s) ≡ true
+unfolding flagsAt awaits
 by-states P t s f =
-    let e = ends s 3 (omega arith) f in
-    subst (λ (fs : List Bool). T (P fs)) (sym (sym (started s) ∙ e .is)) (all-at 48 (λ (q : ℕ). P (flagsAt q)) t (e .last) (e .low))
+    let e = ends s startState (omega arith) f in
+    ap P (sym (started s) ∙ e .is) ∙ every-at (λ (rs : List Regex). P (map nullable rs)) [] states t (e .last) (rw state-count (e .low))
 
 -- ---- the form of some flags
 abbrev pub flag : ℕ → List Bool → Bool
@@ -133,103 +135,95 @@ pub form-is : (s : List ℕ) → formOf s ≡ formAt (flags s)
 unfolding formOf table
 form-is s = form-by anyKind s
 
+-- ---- the letter of a form
+abbrev pub letterOf : Form → ℕ
+letterOf Null = 110
+letterOf True = 116
+letterOf False = 102
+letterOf Decimal = 100
+letterOf Octal = 111
+letterOf Hexadecimal = 120
+letterOf Float = 114
+letterOf Other = 46
+
+letter-form : (f : Form) → letterForm (letterOf f) ≡ f
+letter-form Null = refl
+letter-form True = refl
+letter-form False = refl
+letter-form Decimal = refl
+letter-form Octal = refl
+letter-form Hexadecimal = refl
+letter-form Float = refl
+letter-form Other = refl
+
+abbrev pub sameForm : Form → Form → Bool
+sameForm f g = eqb (letterOf f) (letterOf g)
+
+pub same-form : (f g : Form) → sameForm f g ≡ true → f ≡ g
+same-form f g e = sym (letter-form f) ∙ ap letterForm (eqb-true (letterOf f) (letterOf g) e) ∙ letter-form g
+
+-- the code's letters: each is that of the form of its state
+abbrev pub FormsRight : List ℕ → Type 0
+FormsRight forms = pairwise (λ rs x. eqb x (letterOf (formAt (map nullable rs)))) states forms ≡ true
+
+-- the form of a scalar that ends in a state, by the state's letter
+letter-tells : (forms : List ℕ) → FormsRight forms → (q : ℕ) (s : List ℕ) → q < stateCount → accepted (awaits q) [] ≡ flags s
+    → letterForm (getD forms q 0) ≡ formOf s
+unfolding flagsAt awaits
+letter-tells forms t q s l e =
+    let h = pairwise-at (λ (rs : List Regex) (x : ℕ). eqb x (letterOf (formAt (map nullable rs)))) [] 0 states forms t q (rw state-count l) in
+    ap letterForm (eqb-true (getD forms q 0) (letterOf (formAt (flagsAt q))) h)
+    ∙ letter-form (formAt (flagsAt q))
+    ∙ ap formAt (sym (ended q) ∙ e)
+    ∙ sym (form-is s)
+
+-- tables that pass the three tests
+pub tables : (symbols : List ℕ) (next : List (List ℕ)) (forms : List ℕ) → length symbols ≡ 256 → SymbolsRight symbols → NextRight next → FormsRight forms
+    → Tables symbols next forms
+tables symbols next forms count s n t =
+    record {
+      symbol-count = count;
+      line-count = line-count symbols next count s n;
+      form-count = sym (pairwise-length (λ (rs : List Regex) (x : ℕ). eqb x (letterOf (formAt (map nullable rs)))) states forms t) ∙ state-count;
+      symbol-from = symbol-from symbols next count s n;
+      symbol-low = symbol-low symbols next count s n;
+      entry-from = λ q b l h. entry-from symbols next count s n b h q l;
+      state-low = λ q b l h. state-low symbols next count s n b h q l;
+      derives = λ q b l h. derives symbols next count s n b h q l;
+      letter-tells = letter-tells forms t;
+    }
+
 -- ---- the state that awaits nothing
-pub none-accepts : (s : List ℕ) → accepts none s ≡ false
+none-accepts : (s : List ℕ) → accepts none s ≡ false
 unfolding accepts nullable derivative
 none-accepts [] = refl
 none-accepts (b ∷ s) = none-accepts s
 
-pub dead : (s t : List ℕ) → accepted (awaits 2) s ≡ flags t → Other ≡ formOf t
+pub nothing-left : (s t : List ℕ) → accepted (awaits deadState) s ≡ flags t → Other ≡ formOf t
 unfolding awaits table texts formBy derivative nullable
-dead s t e = sym (form-is t ∙ ap formAt (sym e) ∙ rw none-accepts refl)
+nothing-left s t e = sym (form-is t ∙ ap formAt (sym e) ∙ rw none-accepts refl)
 
--- ---- the letter of a form
-abbrev pub formOfLetter : ℕ → Form
-formOfLetter x =
-    cond (eqb x 110) Null
-    (cond (eqb x 116) True
-    (cond (eqb x 102) False
-    (cond (eqb x 100) Decimal
-    (cond (eqb x 111) Octal
-    (cond (eqb x 120) Hexadecimal
-    (cond (eqb x 114) Float
-    Other))))))
-
-abbrev pub formNumber : Form → ℕ
-formNumber Null = 0
-formNumber True = 1
-formNumber False = 2
-formNumber Decimal = 3
-formNumber Octal = 4
-formNumber Hexadecimal = 5
-formNumber Float = 6
-formNumber Other = 7
-
-abbrev numbered : ℕ → Form
-numbered n =
-    cond (eqb n 0) Null
-    (cond (eqb n 1) True
-    (cond (eqb n 2) False
-    (cond (eqb n 3) Decimal
-    (cond (eqb n 4) Octal
-    (cond (eqb n 5) Hexadecimal
-    (cond (eqb n 6) Float
-    Other))))))
-
-numbered-number : (f : Form) → numbered (formNumber f) ≡ f
-numbered-number Null = refl
-numbered-number True = refl
-numbered-number False = refl
-numbered-number Decimal = refl
-numbered-number Octal = refl
-numbered-number Hexadecimal = refl
-numbered-number Float = refl
-numbered-number Other = refl
-
-pub same-number : (f g : Form) → T (eqb (formNumber f) (formNumber g)) → f ≡ g
-same-number f g t = sym (numbered-number f) ∙ ap numbered (eqb→eq (formNumber f) (formNumber g) t) ∙ numbered-number g
-
-lettered : ℕ → Bool
-lettered q = eqb (formNumber (formOfLetter (getD forms q 0))) (formNumber (formAt (flagsAt q)))
-
-all-lettered : T (all 48 lettered)
-unfolding lettered forms formBy flagsAt awaits table texts nullable derivative
-all-lettered = tt
-
--- the form of a scalar that ends in a state, by the state's letter
-pub letter-is : (q : ℕ) (s : List ℕ) → q < 48 → accepted (awaits q) [] ≡ flags s → formOfLetter (getD forms q 0) ≡ formOf s
-unfolding lettered
-letter-is q s l e =
-    same-number (formOfLetter (getD forms q 0)) (formAt (flagsAt q)) (all-at 48 lettered all-lettered q l)
-    ∙ ap formAt (sym (ended q) ∙ e)
-    ∙ sym (form-is s)
-
-pub letter-none : (x : ℕ) → (x ≡ 110 → ⊥) → (x ≡ 116 → ⊥) → (x ≡ 102 → ⊥) → (x ≡ 100 → ⊥) → (x ≡ 111 → ⊥) → (x ≡ 120 → ⊥)
-    → (x ≡ 114 → ⊥) → formOfLetter x ≡ Other
-letter-none x n t f d o h r =
-    rw (ne-eqb x 110 n, ne-eqb x 116 t, ne-eqb x 102 f, ne-eqb x 100 d, ne-eqb x 111 o, ne-eqb x 120 h, ne-eqb x 114 r)
-
--- ---- a turn of the code's loop
-module _ (s : List ℕ) (i q : ℕ) (h : i < length s) (l : q < 48) (f : Bytes s) (e : accepted (awaits q) (drop i s) ≡ flags s) where
-  pub turned : accepted (awaits (step q (getD s i 0))) (drop (i + 1) s) ≡ flags s
-  turned =
-      ap (λ (t : List ℕ). accepted (awaits (step q (getD s i 0))) t) (ap (λ (k : ℕ). drop k s) (add-one i))
-      ∙ sym (turn q (getD s i 0) (drop (suc i) s) l (f i))
-      ∙ ap (accepted (awaits q)) (sym (drop-cons s i 0 h))
-      ∙ e
-
-  pub stopped : step q (getD s i 0) ≡ 2 → Other ≡ formOf s
-  stopped d = dead (drop (i + 1) s) s (ap (λ (p : ℕ). accepted (awaits p) (drop (i + 1) s)) (sym d) ∙ turned)
-
-pub at-end : (s : List ℕ) (i q : ℕ) → length s ≤ i → q < 48 → accepted (awaits q) (drop i s) ≡ flags s
-    → formOfLetter (getD forms q 0) ≡ formOf s
-at-end s i q h l e = letter-is q s l (ap (accepted (awaits q)) (sym (drop-of-length-le s h)) ∙ e)
-
--- ---- letters that no row begins with
-
-letters-stop : T (all 256 (λ b. cond (beginsNoRow b) (eqb (step 3 b) 2) true))
-unfolding beginsNoRow symbols next
+-- letters that no row begins with lead there
+letters-stop : T (all 256 (λ b. implies (beginsNoRow b) (sameRows (awaits deadState) (map (derivative b) allRows))))
+unfolding beginsNoRow awaits table texts derivative nullable ℕ-discrete
 letters-stop = tt
 
-pub letter-stops : (b : ℕ) → b < 256 → beginsNoRow b ≡ true → step 3 b ≡ 2
-letter-stops b h e = eqb→eq (step 3 b) 2 (rw e at (all-at 256 (λ b. cond (beginsNoRow b) (eqb (step 3 b) 2) true) letters-stop b h))
+pub letter-stops : (s : List ℕ) → 0 < length s → Bytes s → beginsNoRow (getD s 0 0) ≡ true → Other ≡ formOf s
+unfolding flags
+letter-stops s h f e =
+    let b = getD s 0 0 in
+    let t = is-true (implies (beginsNoRow b) _) (all-at 256 (λ b. implies (beginsNoRow b) (sameRows (awaits deadState) (map (derivative b) allRows))) letters-stop b (f 0)) in
+    let d = same-rows-is (awaits deadState) (map (derivative b) allRows) (implied (beginsNoRow b) _ t e) in
+    nothing-left (drop 1 s) s (sym (turn allRows (awaits deadState) b (drop 1 s) d) ∙ ap (accepted allRows) (sym (drop-cons s 0 0 h)))
+
+-- ---- a turn of the code's loop
+pub turned : (s : List ℕ) (i q p : ℕ) → i < length s → accepted (awaits q) (drop i s) ≡ flags s
+    → awaits p ≡ map (derivative (getD s i 0)) (awaits q) → accepted (awaits p) (drop (i + 1) s) ≡ flags s
+turned s i q p h e d =
+    ap (λ (t : List ℕ). accepted (awaits p) t) (ap (λ (k : ℕ). drop k s) (add-one i))
+    ∙ sym (turn (awaits q) (awaits p) (getD s i 0) (drop (suc i) s) d)
+    ∙ ap (accepted (awaits q)) (sym (drop-cons s i 0 h))
+    ∙ e
+
+pub at-end : (s : List ℕ) (i q : ℕ) → length s ≤ i → accepted (awaits q) (drop i s) ≡ flags s → accepted (awaits q) [] ≡ flags s
+at-end s i q h e = ap (accepted (awaits q)) (sym (drop-of-length-le s h)) ∙ e

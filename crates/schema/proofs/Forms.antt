@@ -1,27 +1,28 @@
 -- The definitions by the form of a scalar: each equals what it reads off the form. What the first row of a list reads is what
 -- its form says (`by-form`), whatever the rows; and the form by the rows of one kind is told by the form by all of them, which
--- is one computed test over the automaton's states for each kind. Assumes nothing.
+-- is one computed test over the automaton's states for each kind.
 use mathlib.Core.Path.{_≡_, refl, sym, _∙_, ap}
 use mathlib.Core.Bool.{Bool, true, false, cond}
 use mathlib.Core.List.{List, [], _∷_}
 use Prim.Native.Nat.{ℕ}
-use lib.Dec.{T, eqb}
-use Rattle.text.proofs.Table.{all}
-use Rattle.schema.specs.Ascii.{bytes, Bytes, sameBytes}
+use lib.Dec.{eqb}
+use Rattle.utf8.specs.Ascii.{bytes, Bytes, sameBytes}
 use Rattle.schema.specs.Matcher.{nullable, derivative, accepts}
 use Rattle.schema.specs.Rows.{trueWord, decimal, octal, hexadecimal, number, infinity, notANumber}
-use Rattle.schema.specs.Integer.{ten, eight, sixteen, integerIn}
+use Rattle.schema.specs.Integer.{ten, eight, sixteen, integerIn, held}
 use Rattle.schema.specs.Standard.{Kind, null, bool, int, float, Row, table, Meaning, nullValue, truth, integer, real, string, reads, firstMatch, standard}
-use Rattle.schema.specs.CoreSchema.{integerOr, limited, coreSchema}
-use Rattle.schema.specs.Form.{formFor, formOf, integerOf}
+use Rattle.schema.specs.CoreSchema.{integerOr, beyond, limited, coreSchema}
+use Rattle.schema.specs.Form.{formFor, formOf, integerOf, noInteger, realForm, ofKind}
+use Rattle.schema.specs.Automaton.{texts, flags}
 use Rattle.schema.specs.Kinds.{hasName, rowsOf, readAs, integerRead, isReal, coreInteger, coreReal}
 use Rattle.schema.specs.Tag.{fitted, taggedAs}
 use Rattle.schema.specs.declared.form.Form.{Form}
 use Rattle.schema.specs.declared.form.Form.the-variants.{Null, True, False, Decimal, Octal, Hexadecimal, Float, Other}
+use Rattle.schema.specs.declared.integer.Parsed.{Parsed}
+use Rattle.schema.specs.declared.integer.Parsed.the-variants.{Value, Nothing}
 use Rattle.schema.specs.declared.plain.Resolved.{Resolved}
 use Rattle.schema.specs.declared.plain.Resolved.the-variants.{Real, BadValue}
-use Rattle.schema.proofs.Automaton.{awaits, texts}
-use Rattle.schema.proofs.Flags.{flags, flagsAt, formBy, formAt, form-by, form-is, by-states, formNumber, same-number}
+use Rattle.schema.proofs.Flags.{formBy, formAt, form-by, form-is, InStates, by-states, sameForm, same-form}
 
 -- ---- what a scalar means whose form is known
 abbrev pub meaningOf : Form → List ℕ → Meaning
@@ -61,22 +62,32 @@ pub standard-by-form : (s : List ℕ) → standard s ≡ meaningOf (formOf s) s
 unfolding formOf
 standard-by-form s = by-form table s
 
-abbrev pub readPlain : Form → List ℕ → Resolved
-readPlain f s = limited (meaningOf f s)
+abbrev readPlain : Form → List ℕ → Resolved
+readPlain f s = integerOr (integerOf f s) (noInteger f)
+
+plain-read : (f : Form) (s : List ℕ) → limited (meaningOf f s) ≡ readPlain f s
+plain-read Null s = refl
+plain-read True s = refl
+plain-read False s = refl
+plain-read Decimal s = refl
+plain-read Octal s = refl
+plain-read Hexadecimal s = refl
+plain-read Float s = refl
+plain-read Other s = refl
 
 pub core-schema : (s : List ℕ) → coreSchema s ≡ readPlain (formOf s) s
 unfolding coreSchema
-core-schema s = ap limited (standard-by-form s)
+core-schema s = ap limited (standard-by-form s) ∙ plain-read (formOf s) s
 
 -- ---- by the rows of one kind: the form by them is told by the form by all
 abbrev Told : List ℕ → (Form → Form) → Type 0
-Told name only = T (all 48 (λ q. eqb (formNumber (formBy (hasName name) (flagsAt q))) (formNumber (only (formAt (flagsAt q))))))
+Told name only = InStates (λ fs. sameForm (formBy (hasName name) fs) (only (formAt fs)))
 
 module _ (name : List ℕ) (only : Form → Form) (t : Told name only) (s : List ℕ) (f : Bytes s) where
   only-form : formBy (hasName name) (flags s) ≡ only (formAt (flags s))
   only-form =
-      same-number (formBy (hasName name) (flags s)) (only (formAt (flags s)))
-      (by-states (λ (fs : List Bool). eqb (formNumber (formBy (hasName name) fs)) (formNumber (only (formAt fs)))) t s f)
+      same-form (formBy (hasName name) (flags s)) (only (formAt (flags s)))
+      (by-states (λ (fs : List Bool). sameForm (formBy (hasName name) fs) (only (formAt fs))) t s f)
 
   read-as : readAs name s ≡ meaningOf (only (formOf s)) s
   unfolding readAs
@@ -84,22 +95,27 @@ module _ (name : List ℕ) (only : Form → Form) (t : Told name only) (s : List
       by-form (rowsOf (hasName name) table) s
       ∙ ap (λ (g : Form). meaningOf g s) (form-by (hasName name) s ∙ only-form ∙ ap only (sym (form-is s)))
 
+-- the number of a form's kind; a string has none
+abbrev kindOf : Form → ℕ
+kindOf Null = 1
+kindOf True = 2
+kindOf False = 2
+kindOf Decimal = 3
+kindOf Octal = 3
+kindOf Hexadecimal = 3
+kindOf Float = 4
+kindOf Other = 0
+
+-- the form by the rows of one kind; by the real rows that of a digit run is `Float`
+abbrev only : ℕ → Form → Form
+only kind f = cond (eqb (kindOf f) kind) f Other
+
 -- ---- integers
-abbrev onlyInteger : Form → Form
-onlyInteger Null = Other
-onlyInteger True = Other
-onlyInteger False = Other
-onlyInteger Decimal = Decimal
-onlyInteger Octal = Octal
-onlyInteger Hexadecimal = Hexadecimal
-onlyInteger Float = Other
-onlyInteger Other = Other
+integers : Told (bytes "int") (only 3)
+unfolding formBy table texts derivative nullable sameBytes
+integers = refl
 
-integers : Told (bytes "int") onlyInteger
-unfolding flagsAt formBy awaits table texts derivative nullable sameBytes
-integers = tt
-
-integer-read : (f : Form) (s : List ℕ) → integerRead (meaningOf (onlyInteger f) s) ≡ integerOf f s
+integer-read : (f : Form) (s : List ℕ) → integerRead (meaningOf (only 3 f) s) ≡ integerOf f s
 integer-read Null s = refl
 integer-read True s = refl
 integer-read False s = refl
@@ -111,7 +127,7 @@ integer-read Other s = refl
 
 pub core-integer : (s : List ℕ) → Bytes s → coreInteger s ≡ integerOf (formOf s) s
 unfolding coreInteger
-core-integer s f = ap integerRead (read-as (bytes "int") onlyInteger integers s f) ∙ integer-read (formOf s) s
+core-integer s f = ap integerRead (read-as (bytes "int") (only 3) integers s f) ∙ integer-read (formOf s) s
 
 fitted-integer : (d o x : Bool) (s : List ℕ)
     → let m = cond d (reads (int ten) s) (cond o (reads (int eight) s) (cond x (reads (int sixteen) s) string)) in
@@ -127,25 +143,19 @@ tagged-int s = fitted-integer (accepts decimal s) (accepts octal s) (accepts hex
 
 -- ---- reals; a digit run is one
 abbrev onlyReal : Form → Form
-onlyReal Null = Other
-onlyReal True = Other
-onlyReal False = Other
-onlyReal Decimal = Float
-onlyReal Octal = Other
-onlyReal Hexadecimal = Other
-onlyReal Float = Float
-onlyReal Other = Other
+onlyReal f = cond (realForm f) Float Other
 
 reals : Told (bytes "float") onlyReal
-unfolding flagsAt formBy awaits table texts derivative nullable sameBytes
-reals = tt
+unfolding formBy table texts derivative nullable sameBytes
+reals = refl
 
-abbrev pub readReal : Form → List ℕ → Bool
-readReal f s = isReal (meaningOf (onlyReal f) s)
+real-read : (b : Bool) (s : List ℕ) → isReal (meaningOf (cond b Float Other) s) ≡ b
+real-read true s = refl
+real-read false s = refl
 
-pub core-real : (s : List ℕ) → Bytes s → coreReal s ≡ readReal (formOf s) s
+pub core-real : (s : List ℕ) → Bytes s → coreReal s ≡ realForm (formOf s)
 unfolding coreReal
-core-real s f = ap isReal (read-as (bytes "float") onlyReal reals s f)
+core-real s f = ap isReal (read-as (bytes "float") onlyReal reals s f) ∙ real-read (realForm (formOf s)) s
 
 fitted-real : (n i a : Bool)
     → let m = cond n real (cond i real (cond a real string)) in
@@ -159,45 +169,48 @@ pub tagged-float : (s : List ℕ) → cond (coreReal s) Real BadValue ≡ tagged
 unfolding coreReal taggedAs readAs table firstMatch sameBytes
 tagged-float s = fitted-real (accepts number s) (accepts infinity s) (accepts notANumber s)
 
--- ---- booleans and nulls
-abbrev onlyBool : Form → Form
-onlyBool Null = Other
-onlyBool True = True
-onlyBool False = False
-onlyBool Decimal = Other
-onlyBool Octal = Other
-onlyBool Hexadecimal = Other
-onlyBool Float = Other
-onlyBool Other = Other
+-- ---- booleans and nulls: what the schema reads, where it is of the kind
+no-integer-of-kind : (kind : ℕ) (other : Resolved) → eqb 3 kind ≡ false → ofKind other kind ≡ BadValue → (p : Parsed) → ofKind (integerOr p other) kind ≡ BadValue
+no-integer-of-kind kind other n e (Value z) = rw n
+no-integer-of-kind kind other n e Nothing = e
 
-bools : Told (bytes "bool") onlyBool
-unfolding flagsAt formBy awaits table texts derivative nullable sameBytes
-bools = tt
+bools : Told (bytes "bool") (only 2)
+unfolding formBy table texts derivative nullable sameBytes
+bools = refl
 
-abbrev pub readBool : Form → List ℕ → Resolved
-readBool f s = fitted (meaningOf (onlyBool f) s)
+bool-of-kind : (f : Form) (s : List ℕ) → ofKind (limited (meaningOf f s)) 2 ≡ fitted (meaningOf (only 2 f) s)
+bool-of-kind Null s = refl
+bool-of-kind True s = refl
+bool-of-kind False s = refl
+bool-of-kind Decimal s = no-integer-of-kind 2 (beyond ten) refl refl (held (integerIn ten s))
+bool-of-kind Octal s = no-integer-of-kind 2 (beyond eight) refl refl (held (integerIn eight s))
+bool-of-kind Hexadecimal s = no-integer-of-kind 2 (beyond sixteen) refl refl (held (integerIn sixteen s))
+bool-of-kind Float s = refl
+bool-of-kind Other s = refl
 
-pub tagged-bool : (s : List ℕ) → Bytes s → taggedAs (bytes "bool") s ≡ readBool (formOf s) s
-unfolding taggedAs
-tagged-bool s f = ap fitted (read-as (bytes "bool") onlyBool bools s f)
+nulls : Told (bytes "null") (only 1)
+unfolding formBy table texts derivative nullable sameBytes
+nulls = refl
 
-abbrev onlyNull : Form → Form
-onlyNull Null = Null
-onlyNull True = Other
-onlyNull False = Other
-onlyNull Decimal = Other
-onlyNull Octal = Other
-onlyNull Hexadecimal = Other
-onlyNull Float = Other
-onlyNull Other = Other
+null-of-kind : (f : Form) (s : List ℕ) → ofKind (limited (meaningOf f s)) 1 ≡ fitted (meaningOf (only 1 f) s)
+null-of-kind Null s = refl
+null-of-kind True s = refl
+null-of-kind False s = refl
+null-of-kind Decimal s = no-integer-of-kind 1 (beyond ten) refl refl (held (integerIn ten s))
+null-of-kind Octal s = no-integer-of-kind 1 (beyond eight) refl refl (held (integerIn eight s))
+null-of-kind Hexadecimal s = no-integer-of-kind 1 (beyond sixteen) refl refl (held (integerIn sixteen s))
+null-of-kind Float s = refl
+null-of-kind Other s = refl
 
-nulls : Told (bytes "null") onlyNull
-unfolding flagsAt formBy awaits table texts derivative nullable sameBytes
-nulls = tt
+module _ (s : List ℕ) (f : Bytes s) where
+  by-kind : (name : List ℕ) (kind : ℕ) → Told name (only kind)
+      → ((f : Form) → ofKind (limited (meaningOf f s)) kind ≡ fitted (meaningOf (only kind f) s)) → ofKind (coreSchema s) kind ≡ taggedAs name s
+  unfolding coreSchema taggedAs
+  by-kind name kind t k =
+      ap (λ (m : Meaning). ofKind (limited m) kind) (standard-by-form s) ∙ k (formOf s) ∙ ap fitted (sym (read-as name (only kind) t s f))
 
-abbrev pub readNull : Form → List ℕ → Resolved
-readNull f s = fitted (meaningOf (onlyNull f) s)
+  pub tagged-bool : ofKind (coreSchema s) 2 ≡ taggedAs (bytes "bool") s
+  tagged-bool = by-kind (bytes "bool") 2 bools (λ g. bool-of-kind g s)
 
-pub tagged-null : (s : List ℕ) → Bytes s → taggedAs (bytes "null") s ≡ readNull (formOf s) s
-unfolding taggedAs
-tagged-null s f = ap fitted (read-as (bytes "null") onlyNull nulls s f)
+  pub tagged-null : ofKind (coreSchema s) 1 ≡ taggedAs (bytes "null") s
+  tagged-null = by-kind (bytes "null") 1 nulls (λ g. null-of-kind g s)

@@ -1,6 +1,8 @@
 -- Lemmas that serve several functions of `schema`, by subject.
 -- booleans
 pub mod Bools
+-- tests over lists
+pub mod Lists
 -- the matcher is right
 pub mod Derivative
 -- the automaton is right

@@ -1,4 +1,4 @@
--- Equal bytes and standard tags, as the tests of the code tell them. Assumes nothing.
+-- Equal bytes and standard tags, as the tests of the code tell them.
 use mathlib.Core.Path.{_≡_, refl, sym, _∙_, ap}
 use mathlib.Core.Bool.{Bool, true, false, _&&_, cond}
 use mathlib.Core.List.{List, [], _∷_}
@@ -8,12 +8,12 @@ use borrow.Author.Tests.{eq-eqb, ne-eqb, eqb-true}
 use lib.Dec.{eqb}
 use lib.ListN.{length, take, drop, length-take, length-drop}
 use lib.Seq.{take-all}
-use Rattle.schema.specs.Ascii.{bytes, sameBytes}
+use Rattle.utf8.specs.Ascii.{bytes, sameBytes}
 use Rattle.schema.specs.CoreSchema.{coreSchema}
 use Rattle.schema.specs.Tag.{standardHandle, startsWith, standardTagSuffix, taggedAs, taggedSchema, untagged, resolveScalar}
 use Rattle.schema.specs.declared.plain.Resolved.the-variants.{Str}
 use Rattle.schema.specs.declared.tag.StandardTag.the-variants.{NameAt, NotStandard}
-use Rattle.text.specs.Tests.{clash, and-left, and-right}
+use Rattle.utf8.specs.Tests.{clash, and-left, and-right}
 
 pub same-bytes : (s t : List ℕ) → sameBytes s t ≡ true → s ≡ t
 unfolding sameBytes

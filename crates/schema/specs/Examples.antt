@@ -1,19 +1,19 @@
 -- Worked examples of the definitions, each by computation: K2 to K6 of document 01, those of the standard's section 10.3.2,
--- the integers beyond 64 signed bits, tags, and record numbers. Assumes nothing.
+-- the integers beyond 64 signed bits, tags, and record numbers.
 use Prim.Native.Nat.{ℕ}
 use Prim.Native.String.{String}
 use mathlib.Core.Path.{_≡_, refl}
 use mathlib.Core.Bool.{true, false}
 use mathlib.Core.List.{[], _∷_, map}
 use lib.IntN.{pos, negsuc}
-use Rattle.schema.specs.Ascii.{bytes, sameBytes}
+use Rattle.utf8.specs.Ascii.{bytes, sameBytes}
 use Rattle.schema.specs.Matcher.{nullable, derivative, accepts}
 use Rattle.schema.specs.Integer.{ten, eight, sixteen, digitValue, positional, signedValue, inRange, held}
 use Rattle.schema.specs.Standard.{Meaning, integer, standard}
 use Rattle.schema.specs.CoreSchema.{table, firstMatch, coreSchema}
 use Rattle.schema.specs.Kinds.{readAs}
 use Rattle.schema.specs.Tag.{standardTagSuffix, taggedAs, taggedSchema, untagged, resolveScalar}
-use Rattle.schema.specs.Record.{kindNumber, payloadOf, both}
+use Rattle.schema.specs.Record.{kindNumber, payloadOf, twoNumbers}
 use Rattle.schema.specs.declared.plain.Resolved.{Resolved}
 use Rattle.schema.specs.declared.plain.Resolved.the-variants.{Null, Boolean, Integer, Real, Str, BadValue}
 
@@ -32,21 +32,6 @@ pub record Scalars : Type 0 where
   pub octal-17 : plain "0o17" ≡ Integer (pos 15)
   pub minus-zero : plain "-0" ≡ Integer (pos 0)
   pub leading-zeros : plain "007" ≡ Integer (pos 7)
-
-pub k2-to-k6 : Scalars
-unfolding coreSchema table firstMatch accepts derivative nullable held inRange signedValue positional digitValue
-k2-to-k6 =
-    record {
-      k2 = refl;
-      k3 = refl;
-      k4 = refl;
-      k5 = refl;
-      k6-nan = refl;
-      k6-inf = refl;
-      octal-17 = refl;
-      minus-zero = refl;
-      leading-zeros = refl;
-    }
 
 -- the standard's examples, and their neighbours
 pub record StandardTexts : Type 0 where
@@ -75,36 +60,6 @@ pub record StandardTexts : Type 0 where
   pub nan : plain ".NAN" ≡ Real
   pub rust-inf : plain "inf" ≡ Str
 
-pub standard-texts : StandardTexts
-unfolding coreSchema table firstMatch accepts derivative nullable held inRange signedValue positional digitValue
-standard-texts =
-    record {
-      tilde = refl;
-      nothing = refl;
-      null-cased = refl;
-      true-cased = refl;
-      false-cased = refl;
-      yes = refl;
-      point-last = refl;
-      minus-zero-real = refl;
-      point-first = refl;
-      exponent = refl;
-      exponent-signed = refl;
-      exponent-cut = refl;
-      point-alone = refl;
-      octal-7 = refl;
-      octal-8 = refl;
-      hex-3A = refl;
-      hex-upper = refl;
-      hex-signed = refl;
-      inf = refl;
-      inf-minus = refl;
-      inf-plus = refl;
-      inf-cased = refl;
-      nan = refl;
-      rust-inf = refl;
-    }
-
 -- what the standard reads of an integer just beyond the range, and what the schema makes of it
 abbrev meaning : String → Meaning
 meaning w = standard (bytes w)
@@ -118,20 +73,6 @@ pub record Beyond : Type 0 where
   pub octal-last : plain "0o777777777777777777777" ≡ Integer (pos 9223372036854775807)
   pub hexadecimal : plain "0x8000000000000000" ≡ Str
   pub hexadecimal-last : plain "0x7fffffffffffffff" ≡ Integer (pos 9223372036854775807)
-
-pub beyond-range : Beyond
-unfolding coreSchema table firstMatch accepts derivative nullable held inRange signedValue positional digitValue
-beyond-range =
-    record {
-      decimal-read = refl;
-      octal-read = refl;
-      hexadecimal-read = refl;
-      decimal-below = refl;
-      octal = refl;
-      octal-last = refl;
-      hexadecimal = refl;
-      hexadecimal-last = refl;
-    }
 
 -- a scalar of a style, with the handle and the suffix of its tag
 abbrev tagged : String → ℕ → String → String → Resolved
@@ -152,31 +93,95 @@ pub record Tagged : Type 0 where
   pub other-tag : tagged "5" 0 "!" "int" ≡ Integer (pos 5)
   pub other-tag-quoted : tagged "5" 1 "!" "int" ≡ Str
 
-pub tags : Tagged
-unfolding resolveScalar standardTagSuffix taggedSchema taggedAs readAs untagged sameBytes coreSchema table firstMatch accepts derivative nullable held inRange signedValue positional digitValue
-tags =
-    record {
-      int = refl;
-      int-quoted = refl;
-      int-verbatim = refl;
-      int-beyond = refl;
-      int-misfit = refl;
-      float-of-digits = refl;
-      str = refl;
-      bool = refl;
-      bool-misfit = refl;
-      null = refl;
-      other-name = refl;
-      other-tag = refl;
-      other-tag-quoted = refl;
-    }
-
 -- the kinds' numbers, as 01 lists them; the payload numbers of -1, of the lowest integer, and of a string
 pub record Numbers : Type 0 where
   pub kinds : map kindNumber (Null ∷ Boolean true ∷ Integer (pos 0) ∷ Real ∷ Str ∷ BadValue ∷ []) ≡ 1 ∷ 2 ∷ 3 ∷ 4 ∷ 5 ∷ 6 ∷ []
-  pub minus-one : payloadOf (Integer (negsuc 0)) 7 2 ≡ both 4294967295 4294967295
-  pub lowest : payloadOf (Integer (negsuc 9223372036854775807)) 7 20 ≡ both 2147483648 0
-  pub string : payloadOf Str 7 2 ≡ both 7 2
+  pub minus-one : payloadOf (Integer (negsuc 0)) 7 2 ≡ twoNumbers 4294967295 4294967295
+  pub lowest : payloadOf (Integer (negsuc 9223372036854775807)) 7 20 ≡ twoNumbers 2147483648 0
+  pub string : payloadOf Str 7 2 ≡ twoNumbers 7 2
 
-pub numbers : Numbers
-numbers = record { kinds = refl; minus-one = refl; lowest = refl; string = refl }
+pub record Examples : Type 0 where
+  pub k2-to-k6 : Scalars
+  pub standard-texts : StandardTexts
+  pub beyond-range : Beyond
+  pub tags : Tagged
+  pub numbers : Numbers
+
+pub examples : Examples
+unfolding resolveScalar standardTagSuffix taggedSchema taggedAs readAs untagged sameBytes coreSchema table firstMatch accepts derivative nullable held inRange signedValue positional digitValue
+examples =
+    record {
+      k2-to-k6 =
+          record {
+            k2 = refl;
+            k3 = refl;
+            k4 = refl;
+            k5 = refl;
+            k6-nan = refl;
+            k6-inf = refl;
+            octal-17 = refl;
+            minus-zero = refl;
+            leading-zeros = refl;
+          };
+      standard-texts =
+          record {
+            tilde = refl;
+            nothing = refl;
+            null-cased = refl;
+            true-cased = refl;
+            false-cased = refl;
+            yes = refl;
+            point-last = refl;
+            minus-zero-real = refl;
+            point-first = refl;
+            exponent = refl;
+            exponent-signed = refl;
+            exponent-cut = refl;
+            point-alone = refl;
+            octal-7 = refl;
+            octal-8 = refl;
+            hex-3A = refl;
+            hex-upper = refl;
+            hex-signed = refl;
+            inf = refl;
+            inf-minus = refl;
+            inf-plus = refl;
+            inf-cased = refl;
+            nan = refl;
+            rust-inf = refl;
+          };
+      beyond-range =
+          record {
+            decimal-read = refl;
+            octal-read = refl;
+            hexadecimal-read = refl;
+            decimal-below = refl;
+            octal = refl;
+            octal-last = refl;
+            hexadecimal = refl;
+            hexadecimal-last = refl;
+          };
+      tags =
+          record {
+            int = refl;
+            int-quoted = refl;
+            int-verbatim = refl;
+            int-beyond = refl;
+            int-misfit = refl;
+            float-of-digits = refl;
+            str = refl;
+            bool = refl;
+            bool-misfit = refl;
+            null = refl;
+            other-name = refl;
+            other-tag = refl;
+            other-tag-quoted = refl;
+          };
+      numbers =
+          record {
+            kinds = refl;
+            minus-one = refl;
+            lowest = refl;
+            string = refl;
+          };
+    }

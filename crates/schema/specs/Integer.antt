@@ -1,12 +1,12 @@
 -- The integers that digits write, and the range of 64 signed bits (F8, K2 to K5). A byte that is no digit counts nothing
--- here; the forms of the table let none in. Assumes nothing.
+-- here; the forms of the table let none in.
 use Prim.Native.Nat.{ℕ, _+_, _*_, _-_, _^_}
-use mathlib.Core.Bool.{Bool, true, false, cond}
+use mathlib.Core.Bool.{Bool, cond}
 use mathlib.Core.List.{List, [], _∷_}
 use lib.Dec.{ltb, eqb}
 use lib.IntN.{ℤ, pos, negsuc, negℤ}
 use lib.ListN.{drop}
-use Rattle.text.specs.Class.{inside, isDecimalDigit}
+use Rattle.utf8.specs.Class.{inside, isDecimalDigit}
 use Rattle.schema.specs.declared.integer.Parsed.{Parsed}
 use Rattle.schema.specs.declared.integer.Parsed.the-variants.{Value, Nothing}
 

@@ -1,17 +1,13 @@
 -- A scalar by the table's rows of one kind, as a standard tag asks for it (S10): `!!int` by the integer rows, `!!float` by
 -- the real rows, one of which matches a digit run too. That it does not matter in which order those rows stand is
--- `AnyOrder`; its proof is in proofs/CoreSchema.antt. Assumes nothing.
-use Prim.Native.Nat.{ℕ, _<_}
+-- `AnyOrder` (specs/Statements.antt).
+use Prim.Native.Nat.{ℕ}
 use Prim.Native.String.{String}
-use mathlib.Core.Path.{_≡_}
 use mathlib.Core.Bool.{Bool, true, false, cond}
 use mathlib.Core.List.{List, [], _∷_}
-use lib.ListN.{length}
-use Rattle.schema.specs.Ascii.{bytes, Bytes, sameBytes}
-use Rattle.schema.specs.Regex.{Matches}
-use Rattle.schema.specs.Rows.{decimal}
+use Rattle.utf8.specs.Ascii.{bytes, sameBytes}
 use Rattle.schema.specs.Integer.{held}
-use Rattle.schema.specs.Standard.{Kind, null, bool, int, float, Row, table, rowAt, Meaning, nullValue, truth, integer, real, string, reads, firstMatch, FirstRow}
+use Rattle.schema.specs.Standard.{Kind, null, bool, int, float, Row, table, Meaning, nullValue, truth, integer, real, string, firstMatch}
 use Rattle.schema.specs.declared.integer.Parsed.{Parsed}
 use Rattle.schema.specs.declared.integer.Parsed.the-variants.{Nothing}
 
@@ -55,10 +51,3 @@ coreInteger s = integerRead (readAs (bytes "int") s)
 -- whether a real row matches a scalar; one matches a digit run
 unfoldable pub coreReal : List ℕ → Bool
 coreReal s = isReal (readAs (bytes "float") s)
-
--- what a tag reads is what the first row of its kind reads that matches, and what any row of its kind reads that matches
-pub record AnyOrder : Type 0 where
-  pub first-of-kind : (name s : List ℕ) → FirstRow (rowsOf (hasName name) table) s (readAs name s)
-  pub any-of-kind : (name s : List ℕ) → Bytes s → (k : ℕ) → k < length table → hasName name (rowAt k .kind) ≡ true
-      → Matches (rowAt k .expression) s → readAs name s ≡ reads (rowAt k .kind) s
-  pub digit-run-is-real : (s : List ℕ) → Bytes s → Matches decimal s → coreReal s ≡ true

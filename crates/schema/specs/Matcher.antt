@@ -1,7 +1,7 @@
 -- A matcher that computes, by Brzozowski's derivatives: `derivative b r` matches what may follow the byte b in a match of r.
 -- `accepts r s` is true exactly where `Matches r s` holds (`accepts-sound`, `accepts-complete` of proofs/Derivative.antt);
--- contracts cite it because it computes. `join` and `either` drop what matches nothing, so that derivatives stay small.
--- Assumes nothing.
+-- contracts cite it because it computes. `join` and `union` drop what matches nothing, so that derivatives stay small.
+--
 use Prim.Native.Nat.{ℕ}
 use mathlib.Core.Bool.{Bool, true, false, _&&_, _||_, cond}
 use mathlib.Core.List.{List, [], _∷_}
@@ -28,8 +28,8 @@ isEmpty (star r) = false
 abbrev pub join : Regex → Regex → Regex
 join r q = cond (isNone r) none (cond (isEmpty r) q (seq r q))
 
-abbrev pub either : Regex → Regex → Regex
-either r q = cond (isNone r) q (cond (isNone q) r (alt r q))
+abbrev pub union : Regex → Regex → Regex
+union r q = cond (isNone r) q (cond (isNone q) r (alt r q))
 
 -- whether r matches the list of no bytes
 unfoldable pub nullable : Regex → Bool
@@ -44,8 +44,8 @@ unfoldable pub derivative : ℕ → Regex → Regex
 derivative b none = none
 derivative b empty = none
 derivative b (range lo hi) = cond (leb lo b && leb b hi) empty none
-derivative b (seq r q) = cond (nullable r) (either (join (derivative b r) q) (derivative b q)) (join (derivative b r) q)
-derivative b (alt r q) = either (derivative b r) (derivative b q)
+derivative b (seq r q) = cond (nullable r) (union (join (derivative b r) q) (derivative b q)) (join (derivative b r) q)
+derivative b (alt r q) = union (derivative b r) (derivative b q)
 derivative b (star r) = join (derivative b r) (star r)
 
 unfoldable pub accepts : Regex → List ℕ → Bool

@@ -1,4 +1,4 @@
--- The numbers that a record holds of a scalar: its kind and its two payload numbers (E2). Assumes nothing.
+-- The numbers that a record holds of a scalar: its kind and its two payload numbers (E2).
 use Prim.Native.Nat.{ℕ, suc, _-_, _/_, _%_, _^_}
 use mathlib.Core.Bool.{Bool, true, false}
 use lib.IntN.{ℤ, pos, negsuc}
@@ -23,14 +23,14 @@ abbrev pub truth : Bool → ℕ
 truth true = 1
 truth false = 0
 
-abbrev pub both : ℕ → ℕ → Payload
-both m n = record { first = m; second = n }
+abbrev pub twoNumbers : ℕ → ℕ → Payload
+twoNumbers m n = record { first = m; second = n }
 
 -- 0 or 1 and 0 for a boolean; an integer's high and low 32 bits; the value's place and length for a real and a string
 abbrev pub payloadOf : Resolved → ℕ → ℕ → Payload
-payloadOf Null place len = both 0 0
-payloadOf (Boolean b) place len = both (truth b) 0
-payloadOf (Integer z) place len = both (twosComplement z / 2 ^ 32) (twosComplement z % 2 ^ 32)
-payloadOf Real place len = both place len
-payloadOf Str place len = both place len
-payloadOf BadValue place len = both 0 0
+payloadOf Null place len = twoNumbers 0 0
+payloadOf (Boolean b) place len = twoNumbers (truth b) 0
+payloadOf (Integer z) place len = twoNumbers (twosComplement z / 2 ^ 32) (twosComplement z % 2 ^ 32)
+payloadOf Real place len = twoNumbers place len
+payloadOf Str place len = twoNumbers place len
+payloadOf BadValue place len = twoNumbers 0 0

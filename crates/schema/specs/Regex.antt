@@ -1,9 +1,9 @@
 -- Regular expressions over bytes, and which byte lists each of them matches. `Matches` is the meaning that every other
--- definition of the crate is held to: it mentions no scanner, and a reader can check it rule by rule. Assumes nothing.
+-- definition of the crate is held to: it mentions no scanner, and a reader can check it rule by rule.
 use Prim.Native.Nat.{ℕ, _≤_}
 use mathlib.Core.List.{List, [], _∷_, _++_}
 use native.Mathlib.Decide.{ℕ-discrete}
-use Rattle.schema.specs.Ascii.{bytes}
+use Rattle.utf8.specs.Ascii.{bytes}
 use Prim.Native.String.{String}
 
 pub data Regex : Type 0 where

@@ -1,5 +1,5 @@
 -- The expressions of the core schema's table, YAML 1.2.2 section 10.3.2 (P2); their order is that of `table` in
--- specs/Standard.antt. The booleans' row is the choice of its two halves, since the value tells them apart. Assumes nothing.
+-- specs/Standard.antt. The booleans' row is the choice of its two halves, since the value tells them apart.
 use mathlib.Core.List.{[], _∷_}
 use Rattle.schema.specs.Regex.{Regex, empty, range, seq, alt, star, opt, some, word, anyOf}
 

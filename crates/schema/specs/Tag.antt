@@ -1,12 +1,11 @@
 -- Tagged scalars, and the whole of a scalar's resolution (S10). A tag is a handle and a suffix, each a list of bytes.
--- Assumes nothing.
+--
 use Prim.Native.Nat.{ℕ}
-use mathlib.Core.Bool.{Bool, true, false, _&&_, cond}
+use mathlib.Core.Bool.{Bool, _&&_, cond}
 use mathlib.Core.List.{List, []}
 use lib.Dec.{eqb}
 use lib.ListN.{length, take, drop}
-use Rattle.schema.specs.Ascii.{bytes}
-unfoldable pub use Rattle.schema.specs.Ascii.{sameBytes}
+use Rattle.utf8.specs.Ascii.{bytes, sameBytes}
 use Rattle.schema.specs.Integer.{held}
 use Rattle.schema.specs.Standard.{Meaning, nullValue, truth, integer, real, string}
 use Rattle.schema.specs.CoreSchema.{integerOr, coreSchema}
@@ -26,7 +25,7 @@ startsWith p s = sameBytes (take (length p) s) p
 unfoldable pub standardTagSuffix : List ℕ → List ℕ → StandardTag
 standardTagSuffix handle suffix =
     cond (sameBytes handle standardHandle) (NameAt 0)
-    (cond (sameBytes handle [] && startsWith standardHandle suffix) (NameAt 18)
+    (cond (sameBytes handle [] && startsWith standardHandle suffix) (NameAt (length standardHandle))
     NotStandard)
 
 -- a misfit is a bad value: no row of the tag matches, or 64 signed bits do not hold the integer

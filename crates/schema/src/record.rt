@@ -3,6 +3,12 @@ ghost use mathlib.Core.Path.{_≡_};
 ghost use Rattle.schema.specs.Record.{kindNumber, payloadOf, twosComplement};
 use crate::plain::Resolved;
 
+// 2^64 - 1.
+const ALL_BITS: u64 = 18446744073709551615;
+
+// 2^32: an integer's bits are a record's two numbers.
+const LOW_HALF: u64 = 4294967296;
+
 // A record's two payload numbers.
 pub struct Payload {
     pub first: u32,
@@ -29,7 +35,7 @@ fn twos_complement(n: i64) -> u64
 {
     if n < 0 {
         let below = 0 - (n + 1);
-        return 18446744073709551615 - below as u64;
+        return ALL_BITS - below as u64;
     }
     n as u64
 }
@@ -50,8 +56,8 @@ pub fn payload_of(resolved: Resolved, place: u32, len: u32) -> Payload
         Resolved::Integer(n) => {
             let bits = twos_complement(n);
             Payload {
-                first: (bits / 4294967296) as u32,
-                second: (bits % 4294967296) as u32,
+                first: (bits / LOW_HALF) as u32,
+                second: (bits % LOW_HALF) as u32,
             }
         }
         Resolved::Real => Payload {

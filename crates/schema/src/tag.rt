@@ -1,18 +1,25 @@
 // Scalars with a standard tag, and the whole of a scalar's resolution. (S10.)
 ghost use mathlib.Core.Path.{_≡_};
-ghost use Rattle.schema.specs.Ascii.{bytes};
-ghost use Rattle.schema.specs.Tag.{standardTagSuffix, taggedAs, taggedSchema, untagged, resolveScalar};
-use crate::form::Form;
-use crate::form::form_of;
+ghost use Rattle.schema.specs.Tag.{standardTagSuffix, taggedSchema, untagged, resolveScalar};
+ghost use Rattle.schema.specs.Form.{ofKind};
 use crate::integer::parse_core_schema_int;
 use crate::plain::Resolved;
 use crate::plain::integer_or;
 use crate::plain::is_yaml_float;
 use crate::plain::resolve_plain_scalar;
+use crate::record::kind_number;
 
 const STANDARD_TAG_HANDLE: [u8; 18] = *b"tag:yaml.org,2002:";
 
+// The bytes of that handle.
+const HANDLE_LEN: usize = 18;
+
 const PLAIN: u8 = 0;
+
+// Kinds, by their numbers in a record.
+const NULL: u32 = 1;
+
+const BOOLEAN: u32 = 2;
 
 // A standard tag, by the place in the suffix where its name starts; or any other tag.
 pub enum StandardTag {
@@ -28,47 +35,23 @@ pub fn standard_tag_suffix(handle: &[u8], suffix: &[u8]) -> StandardTag
         return StandardTag::NameAt(0);
     }
     if handle.len() == 0 {
-        if 18 <= suffix.len() {
-            if check::same(&suffix[..18], &STANDARD_TAG_HANDLE) {
-                return StandardTag::NameAt(18);
+        if HANDLE_LEN <= suffix.len() {
+            if check::same(&suffix[..HANDLE_LEN], &STANDARD_TAG_HANDLE) {
+                return StandardTag::NameAt(HANDLE_LEN);
             }
         }
     }
     StandardTag::NotStandard
 }
 
-// A scalar tagged as a boolean.
-fn tagged_bool(value: &[u8]) -> Resolved
-    ensures { λ r. ⌜ r ≡ taggedAs (bytes "bool") (now (value .entry)) ⌝ }
+// What an untagged scalar would be, where the tag's kind is its kind.
+fn of_kind(resolved: Resolved, kind: u32) -> Resolved
+    ensures { λ r. ⌜ r ≡ ofKind resolved kind ⌝ }
 {
-    let form = form_of(value);
-    match form {
-        Form::True => Resolved::Boolean(true),
-        Form::False => Resolved::Boolean(false),
-        Form::Null => Resolved::BadValue,
-        Form::Decimal => Resolved::BadValue,
-        Form::Octal => Resolved::BadValue,
-        Form::Hexadecimal => Resolved::BadValue,
-        Form::Float => Resolved::BadValue,
-        Form::Other => Resolved::BadValue,
+    if kind_number(resolved) == kind {
+        return resolved;
     }
-}
-
-// A scalar tagged as a null.
-fn tagged_null(value: &[u8]) -> Resolved
-    ensures { λ r. ⌜ r ≡ taggedAs (bytes "null") (now (value .entry)) ⌝ }
-{
-    let form = form_of(value);
-    match form {
-        Form::Null => Resolved::Null,
-        Form::True => Resolved::BadValue,
-        Form::False => Resolved::BadValue,
-        Form::Decimal => Resolved::BadValue,
-        Form::Octal => Resolved::BadValue,
-        Form::Hexadecimal => Resolved::BadValue,
-        Form::Float => Resolved::BadValue,
-        Form::Other => Resolved::BadValue,
-    }
+    Resolved::BadValue
 }
 
 // A scalar whose standard tag has the name `name`: a misfit is a bad value, a name that is none of the five a string.
@@ -79,7 +62,7 @@ pub fn resolve_tagged_scalar(value: &[u8], name: &[u8]) -> Resolved
         return Resolved::Str;
     }
     if check::same(name, b"bool") {
-        return tagged_bool(value);
+        return of_kind(resolve_plain_scalar(value), BOOLEAN);
     }
     if check::same(name, b"int") {
         return integer_or(parse_core_schema_int(value), Resolved::BadValue);
@@ -91,7 +74,7 @@ pub fn resolve_tagged_scalar(value: &[u8], name: &[u8]) -> Resolved
         return Resolved::BadValue;
     }
     if check::same(name, b"null") {
-        return tagged_null(value);
+        return of_kind(resolve_plain_scalar(value), NULL);
     }
     Resolved::Str
 }

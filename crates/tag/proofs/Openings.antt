@@ -1,4 +1,4 @@
--- The `[`, `{` and `,` from a place of a token on. Assumes nothing.
+-- The `[`, `{` and `,` from a place of a token on.
 use mathlib.Core.Path.{_≡_, _∙_, ap}
 use mathlib.Core.Bool.{true, false}
 use mathlib.Core.List.{List}

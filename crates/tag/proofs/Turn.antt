@@ -1,33 +1,33 @@
--- One token of the search: what its bytes say of the property before the node. Assumes nothing.
+-- One token of the search: what its bytes say of the property before the node.
 use mathlib.Core.Path.{_≡_, sym, _∙_, ap}
 use mathlib.Core.List.{List}
 use Prim.Native.Nat.{ℕ, _+_, _-_, _≤_, _<_}
 use native.Mathlib.Omega.{arith}
 use borrow.Author.Tests.{ne-eqb}
 use lib.ListN.{length, take, drop, getD}
-use Rattle.text.specs.Utf8.{Utf8}
-use Rattle.text.specs.Boundary.{Boundary}
-use Rattle.tag.specs.Tag.{openings, span, Found, found, none, tagAt, foundOr, propertySpan}
-use Rattle.tag.specs.Back.{tokenEnd, tokenStart}
-use Rattle.tag.specs.SearchLaws.{Last-property, last-property}
+use Rattle.utf8.specs.Utf8.{Utf8}
+use Rattle.utf8.specs.Boundary.{Boundary}
+use Rattle.tag.specs.Tag.{openings, span, Found, found, none, tagBefore, spanOr, propertySpan}
+use Rattle.tag.proofs.TokenLaws.{tokenEnd, tokenStart}
+use Rattle.tag.proofs.SearchLaws.{LastProperty, last-property}
 
 -- the search has gone back from the node to byte i
 pub record Searching (s : List ℕ) (node i : ℕ) : Type 0 where
   pub edge : Boundary s i
-  pub same : tagAt s i ≡ tagAt s node
+  pub same : tagBefore s i ≡ tagBefore s node
 
 -- it has read the last token before byte i, from byte a to byte e: n of its bytes are dropped, and m is the next
 pub record Turn (s : List ℕ) (node i a e n m : ℕ) : Type 0 where
-  pub property : Last-property s i a e n m
-  pub same : tagAt s i ≡ tagAt s node
+  pub property : LastProperty s i a e n m
+  pub same : tagBefore s i ≡ tagBefore s node
 
 pub turn : {s : List ℕ} {node i e a n m : ℕ} → Utf8 s → Searching s node i → e ≡ tokenEnd s i → a ≡ tokenStart s e
     → n ≡ openings (take (e - a) (drop a s)) → m ≡ getD (take (e - a) (drop a s)) n 0 → Turn s node i a e n m
 turn u g he ha hn hm = record { property = last-property u (g .edge) he ha hn hm; same = g .same }
 
-answer : (s : List ℕ) (node : ℕ) (f : Found) → tagAt s node ≡ f → foundOr f (span node node) ≡ propertySpan s node
+answer : (s : List ℕ) (node : ℕ) (f : Found) → tagBefore s node ≡ f → spanOr f (span node node) ≡ propertySpan s node
 unfolding propertySpan
-answer s node f e = ap (λ (g : Found). foundOr g (span node node)) (sym e)
+answer s node f e = ap (λ (g : Found). spanOr g (span node node)) (sym e)
 
 module _ {s : List ℕ} {node i a e n m : ℕ} (t : Turn s node i a e n m) where
   pub tag-fits : m ≡ 0x21 → a + n ≤ length s

@@ -2,18 +2,16 @@
 use Prim.Native.Nat.{ℕ}
 use mathlib.Core.Path.{_≡_, refl}
 use mathlib.Core.List.{List, [], _∷_}
-use Rattle.text.specs.Utf8.{encode, encodeAll, codes, charsAfter, firstChar, charOf, multiByte, twoBytes, threeBytes, fourBytes}
-use Rattle.text.specs.WhiteSpace.{whiteSpace, isIn, isWhiteSpace}
-use Rattle.tag.specs.Tokens.{bytes, before, withWord, tokens, tokensBefore}
-use Rattle.tag.specs.Tag.{openings, property, span, Found, found, none, spanOf, decide, firstTag, tagAt, propertySpan, part, tagProperty, tagOffset, guess, tagSpan}
-use Rattle.tag.specs.declared.property.Span.{Span}
+use Rattle.utf8.specs.Utf8.{encode, encodeAll}
+use Rattle.utf8.specs.Characters.{codes, charsAfter, firstChar, charOf, multiByte, twoBytes, threeBytes, fourBytes}
+use Rattle.utf8.specs.WhiteSpace.{whiteSpace, isIn, isWhiteSpace}
+use Rattle.tag.specs.Tokens.{byteLength, charsBefore, withWord, tokens, tokensBefore}
+use Rattle.tag.specs.Tag.{openings, property, span, Found, found, none, spanOf, decide, firstTag, tagBefore, propertySpan, spanBytes, tagProperty, tagOffset, guess, tagSpan}
+use Rattle.tag.specs.declared.property.TagSpan.{TagSpan}
 
 -- for the text s, a node at byte i and a suffix of n bytes: what is found, its bytes, its offset, and the tag's span
-pub record Case (s : List ℕ) (i n : ℕ) (f : Found) (p : List ℕ) (o : ℕ) (t : Span) : Type 0 where
-  pub finds : tagAt s i ≡ f
-  pub bytes : tagProperty s i ≡ p
-  pub offset : tagOffset s i ≡ o
-  pub tag : tagSpan s i n ≡ t
+abbrev pub Case : List ℕ → ℕ → ℕ → Found → List ℕ → ℕ → TagSpan → Type 0
+Case s i n f p o t = (tagBefore s i ≡ f) × (tagProperty s i ≡ p) × (tagOffset s i ≡ o) × (tagSpan s i n ≡ t)
 
 pub record Cases : Type 0 where
   -- K12, `[a,!t b]`: the tag stands within a token, so none is found; the guess reaches the text's end
@@ -44,20 +42,21 @@ pub record Cases : Type 0 where
   pub text-start : Case (0x21 ∷ 0x74 ∷ []) 0 0 none [] 0 (span 0 1)
 
 pub cases : Cases
-unfolding bytes before withWord tokens tokensBefore openings property spanOf decide firstTag tagAt propertySpan part tagProperty tagOffset guess tagSpan encode encodeAll codes charsAfter firstChar charOf multiByte twoBytes threeBytes fourBytes whiteSpace isIn isWhiteSpace
+unfolding byteLength charsBefore withWord tokens tokensBefore openings property spanOf decide firstTag tagBefore propertySpan spanBytes
+    tagProperty tagOffset guess tagSpan encode encodeAll codes charsAfter firstChar charOf multiByte twoBytes threeBytes fourBytes whiteSpace isIn isWhiteSpace
 cases =
     record {
-      k12 = record { finds = refl; bytes = refl; offset = refl; tag = refl };
-      bracket = record { finds = refl; bytes = refl; offset = refl; tag = refl };
-      openings = record { finds = refl; bytes = refl; offset = refl; tag = refl };
-      anchor-after = record { finds = refl; bytes = refl; offset = refl; tag = refl };
-      anchor-before = record { finds = refl; bytes = refl; offset = refl; tag = refl };
-      anchor-in-bracket = record { finds = refl; bytes = refl; offset = refl; tag = refl };
-      two-tags = record { finds = refl; bytes = refl; offset = refl; tag = refl };
-      wide-space = record { finds = refl; bytes = refl; offset = refl; tag = refl };
-      white-space-byte = record { finds = refl; bytes = refl; offset = refl; tag = refl };
-      word-between = record { finds = refl; bytes = refl; offset = refl; tag = refl };
-      bracket-alone = record { finds = refl; bytes = refl; offset = refl; tag = refl };
-      anchor-alone = record { finds = refl; bytes = refl; offset = refl; tag = refl };
-      text-start = record { finds = refl; bytes = refl; offset = refl; tag = refl };
+      k12 = (refl, refl, refl, refl);
+      bracket = (refl, refl, refl, refl);
+      openings = (refl, refl, refl, refl);
+      anchor-after = (refl, refl, refl, refl);
+      anchor-before = (refl, refl, refl, refl);
+      anchor-in-bracket = (refl, refl, refl, refl);
+      two-tags = (refl, refl, refl, refl);
+      wide-space = (refl, refl, refl, refl);
+      white-space-byte = (refl, refl, refl, refl);
+      word-between = (refl, refl, refl, refl);
+      bracket-alone = (refl, refl, refl, refl);
+      anchor-alone = (refl, refl, refl, refl);
+      text-start = (refl, refl, refl, refl);
     }

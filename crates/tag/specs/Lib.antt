@@ -1,15 +1,14 @@
--- The definitions that the contracts of `tag` cite, in reading order, and the laws that callers go by.
+-- The definitions that the contracts of `tag` cite, and what is proved of them; the arguments are in proofs/.
+
+-- What it means: what contracts and theorems cite, from document 01 and the standards. To be believed.
 -- the tokens before a place of a text
 pub mod Tokens
 -- the tag property before a node, and the tag's span
 pub mod Tag
--- the steps back that the search is made of
+-- Statements: theorems and laws that a caller may use, and worked cases. Proved; nothing here is to be believed.
+-- the steps back that the code's search is made of
 pub mod Back
--- the laws of tokens
-pub mod TokenLaws
--- the search by the text's bytes
-pub mod SearchLaws
--- what callers may count on
-pub mod TagLaws
+-- what a token is, and what a caller may count on
+pub mod Proved
 -- worked cases, K12 among them
 pub mod Examples

@@ -1,39 +1,23 @@
 // The token before a place of a text. Tokens stand between white space, by code points. (01: Reading rules, Tag span; S9, W1.)
 ghost use mathlib.Core.Path.{_≡_};
-ghost use Rattle.text.specs.Utf8.{Utf8};
-ghost use Rattle.text.specs.Boundary.{Boundary};
+ghost use Rattle.utf8.specs.Utf8.{Utf8};
+ghost use Rattle.utf8.specs.Boundary.{Boundary};
 ghost use Rattle.tag.specs.Tag.{isOpening, openings};
-ghost use Rattle.tag.specs.Back.{tokenEnd, tokenStart};
-use text::utf8::last_char;
-use text::white_space::is_white_space;
+ghost use Rattle.tag.specs.Back.{isSpace, backOver};
+use utf8::utf8::last_char;
+use utf8::white_space::is_white_space;
 
-// Where the last token before `i` ends: `i` moved back over white space, 0 where there is nothing else.
-pub fn token_end(text: &[u8], i: usize) -> usize
+// `i` moved back over the white space before it where `space` is true, and over all that is not white space where it is false: to where
+// the last token before `i` ends, and to where the token that ends at `i` starts. 0 where nothing else is left.
+pub fn back_over(text: &[u8], i: usize, space: bool) -> usize
     requires { ⌜ Utf8 (now text) ⌝ }
     requires { ⌜ Boundary (now text) i ⌝ }
-    ensures { λ r. ⌜ r ≡ tokenEnd (now (text .entry)) i ⌝ }
+    ensures { λ r. ⌜ r ≡ backOver (isSpace space) (now (text .entry)) i ⌝ }
 {
     let mut j = i;
     while 0 < j {
         let c = last_char(text, j);
-        if !is_white_space(c.code) {
-            return j;
-        }
-        j -= c.len;
-    }
-    j
-}
-
-// Where the token that ends at `i` starts: `i` moved back to white space or to the text's start.
-pub fn token_start(text: &[u8], i: usize) -> usize
-    requires { ⌜ Utf8 (now text) ⌝ }
-    requires { ⌜ Boundary (now text) i ⌝ }
-    ensures { λ r. ⌜ r ≡ tokenStart (now (text .entry)) i ⌝ }
-{
-    let mut j = i;
-    while 0 < j {
-        let c = last_char(text, j);
-        if is_white_space(c.code) {
+        if is_white_space(c.code) != space {
             return j;
         }
         j -= c.len;

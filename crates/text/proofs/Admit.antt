@@ -1,10 +1,10 @@
--- The answer on a text and a value, from the answer on the text. Assumes nothing.
+-- The answer on a text and a value, from the answer on the text.
 use mathlib.Core.Path.{_≡_, refl}
 use mathlib.Core.Bool.{Bool, true, false, _&&_, _||_, cond}
 use mathlib.Core.List.{List}
 use Prim.Native.Nat.{ℕ}
-use Rattle.text.specs.Utf8.{isUtf8}
-use Rattle.text.specs.Offset.{isAscii}
+use Rattle.utf8.specs.Utf8.{isAscii}
+use Rattle.utf8.specs.Characters.{isUtf8}
 use Rattle.text.specs.Admission.{isTooLong, admission, admissionOfBoth}
 use Rattle.text.specs.declared.admission.Admission.{Admission}
 use Rattle.text.specs.declared.admission.Admission.the-variants.{Admitted, TooLong, NotUtf8}

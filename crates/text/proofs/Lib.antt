@@ -1,19 +1,7 @@
 -- Lemmas that serve several functions of `text`, by subject.
--- a rule of a table or of all bytes, by one computed test
-pub mod Table
--- going back from a boundary to the start of a character
-pub mod Back
--- texts of ASCII bytes
-pub mod Ascii
--- what passes by windows is UTF-8
-pub mod Windows
--- a search in a rising table
-pub mod Search
 -- the answer on a text and a value
 pub mod Admit
 -- a cursor that is lent, and a contract of three facts
 pub mod Lent
--- the length of a character by its first byte
-pub mod Leads
 -- characters counted by the bytes they begin with
 pub mod Starts

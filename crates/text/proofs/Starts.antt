@@ -1,4 +1,4 @@
--- Characters counted by the bytes they begin with. Assumes nothing.
+-- Characters counted by the bytes they begin with.
 use mathlib.Core.Path.{_≡_, refl, sym, _∙_, ap}
 use mathlib.Core.Bool.{Bool, true, false, not}
 use mathlib.Core.List.{List, [], _∷_, _++_}
@@ -9,15 +9,16 @@ use native.Mathlib.Decide.{decLt}
 use native.Mathlib.Omega.{arith}
 use lib.ListN.{length, take, drop, getD, length-append, length-take, take-append-drop, List·getD-eq-default}
 use lib.Seq.{take-suc, take-nil, take-append-seam}
-use Rattle.text.specs.Class.{isContinuation, counts}
-use Rattle.text.specs.Utf8.{ScalarValues, Utf8, codes, encode, encodeAll}
-use Rattle.text.specs.Boundary.{Boundary}
-use Rattle.text.specs.Bytes.{Continue, encoding}
+use Rattle.utf8.specs.Class.{isContinuation, counts}
+use Rattle.utf8.specs.Utf8.{ScalarValues, Utf8, encode, encodeAll}
+use Rattle.utf8.specs.Characters.{codes}
+use Rattle.utf8.specs.Boundary.{Boundary}
+use Rattle.utf8.specs.Bytes.{Continue, encoding}
 use Rattle.text.specs.Offset.{byteOffset, Stands}
 use Rattle.text.specs.Starts.{begun, starts}
-use Rattle.text.specs.Utf8Laws.{place-at, place-front, codes-encodeAll, codes-scalars, encodeAll-append, scalars-front}
+use Rattle.utf8.specs.Utf8Laws.{place-at, place-front, codes-encodeAll, codes-scalars, encodeAll-append, scalars-front}
 use Rattle.text.specs.OffsetLaws.{index-front}
-use Rattle.text.specs.Tests.{clash}
+use Rattle.utf8.specs.Tests.{clash}
 
 starts-append : (a b : List ℕ) → starts (a ++ b) ≡ starts a + starts b
 unfolding starts

@@ -1,12 +1,12 @@
 -- The first two rows of document 01's table, which every public call tests before anything else (R1, R2, RO): all sizes first, then
 -- UTF-8. A text that is admitted is said to be ASCII or not, since marker offsets go by that.
 use Prim.Native.Nat.{ℕ}
-use mathlib.Core.Bool.{Bool, true, false, _&&_, _||_, cond}
+use mathlib.Core.Bool.{Bool, _&&_, _||_, cond}
 use mathlib.Core.List.{List}
 use lib.Dec.{ltb}
 use lib.ListN.{length}
-use Rattle.text.specs.Utf8.{isUtf8}
-use Rattle.text.specs.Offset.{isAscii}
+use Rattle.utf8.specs.Utf8.{isAscii}
+use Rattle.utf8.specs.Characters.{isUtf8}
 use Rattle.text.specs.declared.admission.Admission.{Admission}
 use Rattle.text.specs.declared.admission.Admission.the-variants.{Admitted, TooLong, NotUtf8}
 

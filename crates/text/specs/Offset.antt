@@ -3,11 +3,10 @@
 -- such a place. The laws stand in `OffsetLaws`.
 use Prim.Native.Nat.{ℕ, _≤_, min}
 use mathlib.Core.Path.{_≡_}
-use mathlib.Core.Bool.{Bool, true, false, _&&_}
-use mathlib.Core.List.{List, [], _∷_}
-use lib.Dec.{ltb}
+use mathlib.Core.List.{List}
 use lib.ListN.{length, take}
-use Rattle.text.specs.Utf8.{codes, encodeAll}
+use Rattle.utf8.specs.Utf8.{encodeAll}
+use Rattle.utf8.specs.Characters.{codes}
 use Rattle.text.specs.declared.offset.Cursor.{Cursor}
 
 -- the bytes of the first k characters of the text s
@@ -22,8 +21,3 @@ cursorAt s k = record { chars = min k (length (codes s)); offset = byteOffset s 
 pub record Stands (s : List ℕ) (chars offset : ℕ) : Type 0 where
   pub counted : chars ≤ length (codes s)
   pub placed : offset ≡ byteOffset s chars
-
--- every byte is below 128
-unfoldable pub isAscii : List ℕ → Bool
-isAscii [] = true
-isAscii (b ∷ s) = ltb b 0x80 && isAscii s

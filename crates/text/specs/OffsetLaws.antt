@@ -1,23 +1,23 @@
 -- The laws of marker offsets that callers go by: an offset is a boundary within the text, and an index past the text has its length; a
 -- cursor that stands goes on and back by one character; what is told of it is told of `cursorAt`; and ASCII texts, where indices are
--- offsets. Assumes nothing.
-use mathlib.Core.Path.{_≡_, refl, sym, _∙_, ap, subst}
-use mathlib.Core.Bool.{Bool, true, false, _&&_}
+-- offsets.
+use mathlib.Core.Path.{_≡_, refl, sym, _∙_, ap}
+use mathlib.Core.Bool.{true}
 use mathlib.Core.List.{List, [], _∷_, _++_, append-nil}
 use Prim.Native.Nat.{ℕ, zero, suc, _+_, _-_, _≤_, _<_, min}
 use native.Mathlib.Decide.{decLt}
 use native.Mathlib.Omega.{arith}
-use borrow.Author.Tests.{ltb-true, lt-ltb}
-use lib.Dec.{ltb, eqb, eqb·suc-suc, eqb·zero-suc}
+use borrow.Author.Tests.{ltb-true}
+use lib.Dec.{ltb}
 use lib.ListN.{length, take, drop, getD, length-append, length-drop, length-take, take-append-drop, drop-of-length-le}
 use lib.Seq.{take-suc, drop-cons, take-all}
-use Rattle.text.specs.Utf8.{ScalarValue, ScalarValues, Utf8, encode, encodeAll, character, firstChar, codes, charsAfter, isUtf8, lastOf, lastChar, allSome}
-use Rattle.text.specs.Boundary.{Boundary}
-use Rattle.text.specs.Offset.{byteOffset, cursorAt, Stands, isAscii}
-use Rattle.text.specs.Tests.{and-left, and-right}
-use Rattle.text.specs.Utf8Laws.{Place, place-front, place-back, place-boundary, codes-are, codes-encode, codes-scalars, codes-encodeAll, encodeAll-append, scalars-front, scalars-back, encode-some, read, last-of, first-char-ascii, codes-step, utf8-on}
-use Rattle.text.specs.declared.utf8.Char.{Char}
-use Rattle.text.specs.declared.offset.Cursor.{Cursor}
+use Rattle.utf8.specs.Utf8.{ScalarValue, ScalarValues, Utf8, encode, encodeAll, isAscii}
+use Rattle.utf8.specs.Characters.{character, firstChar, codes, charsAfter, isUtf8, lastOf, lastChar, allSome}
+use Rattle.utf8.specs.Boundary.{Boundary}
+use Rattle.text.specs.Offset.{byteOffset, cursorAt, Stands}
+use Rattle.utf8.specs.Tests.{and-left, and-right}
+use Rattle.utf8.specs.Utf8Laws.{Place, place-front, place-back, place-boundary, codes-are, codes-encode, codes-scalars, codes-encodeAll, encodeAll-append, scalars-front, encode-some, read, last-of, first-char-ascii, codes-step}
+use Rattle.utf8.specs.declared.utf8.Char.{Char}
 
 -- ---- offsets
 
@@ -78,20 +78,20 @@ offset-inside {s} u k h =
 -- ---- in document 01's words (P1): a text is the encodings of its characters, one after the other
 
 -- the offset of index k is the bytes of the first k characters
-pub offset-of-characters : {s : List ℕ} (u : Utf8 s) (k : ℕ) → byteOffset s k ≡ length (encodeAll (take k (u .codes)))
+pub offset-of-characters : {s : List ℕ} (u : Utf8 s) (k : ℕ) → byteOffset s k ≡ length (encodeAll (take k (u .characters)))
 unfolding byteOffset
 offset-of-characters u k = rw (codes-are u)
 
 -- an index past the text gives the text's length
-pub offset-past-text : {s : List ℕ} (u : Utf8 s) (k : ℕ) → length (u .codes) ≤ k → byteOffset s k ≡ length s
-offset-past-text u k h = offset-of-characters u k ∙ rw (take-all k (u .codes) h) (sym (ap length (u .encoded)))
+pub offset-past-text : {s : List ℕ} (u : Utf8 s) (k : ℕ) → length (u .characters) ≤ k → byteOffset s k ≡ length s
+offset-past-text u k h = offset-of-characters u k ∙ rw (take-all k (u .characters) h) (sym (ap length (u .encoded)))
 
 -- and at every other a character begins
 pub record CharacterAt (s : List ℕ) (i : ℕ) : Type 0 where
   pub inside : i < length s
   pub begins : Boundary s i
 
-pub offset-in-text : {s : List ℕ} (u : Utf8 s) (k : ℕ) → k < length (u .codes) → CharacterAt s (byteOffset s k)
+pub offset-in-text : {s : List ℕ} (u : Utf8 s) (k : ℕ) → k < length (u .characters) → CharacterAt s (byteOffset s k)
 offset-in-text u k h = record { inside = offset-inside u k (rw (codes-are u) h); begins = offset-boundary u k }
 
 -- ---- the cursor

@@ -4,7 +4,7 @@
 use Prim.Native.Nat.{ℕ, _+_}
 use mathlib.Core.Bool.{not}
 use mathlib.Core.List.{List, [], _∷_}
-use Rattle.text.specs.Class.{isContinuation, counts}
+use Rattle.utf8.specs.Class.{isContinuation, counts}
 
 -- one if a character begins with b
 abbrev pub begun : ℕ → ℕ

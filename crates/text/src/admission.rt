@@ -1,8 +1,8 @@
 // What every public call tests first: the sizes, then UTF-8. (01: rows 1 and 2 of the table; R1, R2, RO.)
 ghost use mathlib.Core.Path.{_≡_};
 ghost use Rattle.text.specs.Admission.{admission, admissionOfBoth};
-use crate::utf8::is_utf8;
-use crate::window::is_ascii;
+use utf8::utf8::is_ascii;
+use utf8::utf8::is_utf8;
 
 // The most bytes of a text, and of the value of a call on one scalar.
 pub const TEXT_LIMIT: usize = 1_048_576;

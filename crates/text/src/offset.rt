@@ -2,14 +2,14 @@
 ghost use mathlib.Core.Path.{_≡_};
 ghost use Prim.Native.Nat.{_≤_};
 ghost use lib.ListN.{length, take};
-ghost use Rattle.text.specs.Utf8.{Utf8};
-ghost use Rattle.text.specs.Boundary.{Boundary};
-ghost use Rattle.text.specs.Offset.{cursorAt, Stands, isAscii};
+ghost use Rattle.utf8.specs.Utf8.{Utf8, isAscii};
+ghost use Rattle.utf8.specs.Boundary.{Boundary};
+ghost use Rattle.text.specs.Offset.{cursorAt, Stands};
 ghost use Rattle.text.specs.Starts;
-use crate::class::is_continuation;
-use crate::utf8::byte_at;
-use crate::utf8::char_len;
-use crate::utf8::last_char;
+use utf8::class::is_continuation;
+use utf8::utf8::byte_at;
+use utf8::utf8::char_len;
+use utf8::utf8::last_char;
 
 // How many characters lie before a place of the text, and the place's byte offset.
 pub struct Cursor {

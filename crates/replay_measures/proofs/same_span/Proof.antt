@@ -1,7 +1,7 @@
--- `replay_measures::same_span` is safe: a scalar is measured only where both texts are UTF-8. Assumes nothing.
+-- `replay_measures::same_span` is safe: a scalar is measured only where both texts are UTF-8.
 use mathlib.Core.Path.{sym, _∙_}
 use borrow.Author.Tests.{not-false}
-use Rattle.text.specs.Utf8Laws.{utf8-sound}
+use Rattle.utf8.specs.Utf8Laws.{utf8-sound}
 use borrow.Author.Needs.{needs}
 use Rattle.replay_measures.proofs.same_span.Statement.{statement}
 use Rattle.replay_measures.proofs.same_span.Tie as tie

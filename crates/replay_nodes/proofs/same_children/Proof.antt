@@ -1,4 +1,4 @@
--- `replay_nodes::same_children` is safe and ends. The measure is how many children are left. Assumes nothing.
+-- `replay_nodes::same_children` is safe and ends. The measure is how many children are left.
 use Prim.Native.Nat.{_-_}
 use native.Mathlib.Omega.{arith}
 use Rattle.replay_nodes.proofs.same_children.Statement.{statement}
@@ -10,13 +10,7 @@ Inv-loop records n list count matched₀ child₀ after₀ matched child after =
 abbrev μ-loop : tie.MeasureT-loop
 μ-loop records n list count matched₀ child₀ after₀ matched child after = count - after
 
-add-after : tie.Need-add-after Inv-loop μ-loop
-add-after c = omega arith
-
-loop-less : tie.Need-loop-less Inv-loop μ-loop
-loop-less c = omega arith
-
 pub same-children-spec : {M : Type 1} → statement M
 same-children-spec =
     tie.close
-    (tie.spec Inv-loop μ-loop (λ c κs. tt) (λ c κs. tt) (λ c. tt) (λ c κs. tt) (λ c κs. tt) add-after loop-less (λ c. tt) (λ c. tt))
+    (tie.spec Inv-loop μ-loop (λ c κs. tt) (λ c κs. tt) (λ c. tt) (λ c κs. tt) (λ c κs. tt) (λ c. omega arith) (λ c. omega arith) (λ c. tt) (λ c. tt))

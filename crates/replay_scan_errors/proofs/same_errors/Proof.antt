@@ -1,4 +1,4 @@
--- `replay_scan_errors::same_errors` is safe and ends. The measure is what is left of the indices. Assumes nothing.
+-- `replay_scan_errors::same_errors` is safe and ends. The measure is what is left of the indices.
 use Prim.Native.Nat.{_-_}
 use lib.ListN.{length}
 use native.Mathlib.Omega.{arith}
@@ -11,13 +11,7 @@ Inv-loop text indices case list matched₀ at₀ matched at = Unit {0}
 abbrev μ-loop : tie.MeasureT-loop
 μ-loop text indices case list matched₀ at₀ matched at = length indices - at
 
-add-at : tie.Need-add-at Inv-loop μ-loop
-add-at c = omega arith
-
-loop-less : tie.Need-loop-less Inv-loop μ-loop
-loop-less c = omega arith
-
 pub same-errors-spec : {M : Type 1} → statement M
 same-errors-spec =
     tie.close
-    (tie.spec Inv-loop μ-loop (λ c. tt) (λ c κs. tt) (λ c κs. tt) (λ c κs. tt) add-at loop-less (λ c. tt) (λ c κs. tt) (λ c. tt))
+    (tie.spec Inv-loop μ-loop (λ c. tt) (λ c κs. tt) (λ c κs. tt) (λ c κs. tt) (λ c. omega arith) (λ c. omega arith) (λ c. tt) (λ c κs. tt) (λ c. tt))

@@ -1,7 +1,7 @@
--- `replay_tags::same_tag` is safe: the tag is searched only from a boundary. Assumes nothing.
+-- `replay_tags::same_tag` is safe: the tag is searched only from a boundary.
 use mathlib.Core.Path.{sym, _∙_}
 use borrow.Author.Tests.{not-false}
-use Rattle.text.specs.Utf8Laws.{is-boundary}
+use Rattle.utf8.specs.Utf8Laws.{is-boundary}
 use borrow.Author.Needs.{needs}
 use Rattle.replay_tags.proofs.same_tag.Statement.{statement}
 use Rattle.replay_tags.proofs.same_tag.Tie as tie

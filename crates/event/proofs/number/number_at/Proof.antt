@@ -1,12 +1,13 @@
 -- `event::number::number_at` meets its contract. The loop's invariant: `n` is the number in the first `k` bytes. The measure is how many
--- bytes are left. Assumes nothing.
+-- bytes are left.
 use mathlib.Core.Path.{_≡_, _∙_, ap}
 use Prim.Native.Nat.{_+_, _-_, _≤_}
 use native.Mathlib.Numerals.{add-one}
 use native.Mathlib.Omega.{arith}
 use borrow.Author.Needs.{needs}
-use Rattle.event.specs.Number.{numberAt, Bytes}
-use Rattle.event.specs.NumberLaws.{number-grows}
+use Rattle.event.specs.Number.{numberAt}
+use Rattle.utf8.specs.Ascii.{Bytes}
+use Rattle.event.proofs.NumberLaws.{number-grows}
 use Rattle.event.proofs.number.number_at.Statement.{statement}
 use Rattle.event.proofs.number.number_at.Tie as tie
 

@@ -1,8 +1,8 @@
--- `event::read::read_event` meets its contract: the frame is tested without a sum that could wrap. Assumes nothing.
-use mathlib.Core.Path.{sym, _∙_}
+-- `event::read::read_event` meets its contract: the frame is tested without a sum that could wrap.
+use mathlib.Core.Path.{sym}
 use native.Mathlib.Omega.{arith}
 use borrow.Author.Needs.{needs}
-use Rattle.event.specs.ReadCases.{header-cut, body-past, body-short, framed}
+use Rattle.event.proofs.ReadCases.{header-cut, body-past, body-short, framed}
 use Rattle.event.proofs.read.read_event.Statement.{statement}
 use Rattle.event.proofs.read.read_event.Tie as tie
 
@@ -32,7 +32,7 @@ returns-5 : tie.Need-returns-5
 returns-5 c =
     let given = c .before .before .before .before .before .before .before .before .before .args in
     let len = c .before .before .before .before .before .number-at .ensures in
-    c .read-body .ensures ∙ rw (len, c .before .before .number-at2 .ensures) (sym (framed (given .events .now) (given .at) (omega arith) (omega arith)))
+    rw (framed (given .events .now) (given .at) (omega arith) (omega arith), ← len, ← c .before .before .number-at2 .ensures) (c .read-body .ensures)
 
 pub read-event-spec : {M : Type 1} → statement M
 read-event-spec =

@@ -1,12 +1,15 @@
--- `event::string::string_at` meets its contract: what the length says, then what the UTF-8 test says. Assumes nothing.
-use mathlib.Core.Path.{_≡_, sym, _∙_, ap}
-use mathlib.Core.Bool.{true, false}
-use Prim.Native.Nat.{ℕ, _+_, _-_}
+-- `event::string::string_at` meets its contract: what the length says, then what the UTF-8 test says.
+use mathlib.Core.Path.{_≡_, sym, _∙_}
+use mathlib.Core.Bool.{Bool, true, false, cond}
+use mathlib.Core.List.{List}
+use Prim.Native.Nat.{ℕ, _+_, _-_, _≤_}
 use native.Mathlib.Omega.{arith}
 use borrow.Author.Needs.{needs}
-use Rattle.text.specs.Utf8.{isUtf8}
-use Rattle.event.specs.Read.{part, partOf}
-use Rattle.event.specs.ReadCases.{string-cut, string-past, string-tested}
+use Rattle.utf8.specs.Characters.{isUtf8}
+use Rattle.event.specs.Number.{numberAt}
+use Rattle.event.specs.Read.{part, partOf, readString}
+use Rattle.event.specs.declared.string.Text.the-variants as text
+use Rattle.event.proofs.ReadCases.{string-cut, string-past, string-tested}
 use Rattle.event.proofs.string.string_at.Statement.{statement}
 use Rattle.event.proofs.string.string_at.Tie as tie
 
@@ -21,21 +24,24 @@ returns-2 c =
     let len = c .before .number-at .ensures in
     sym (string-past (given .events .now) (given .at) (given .end) (omega arith) (omega arith))
 
+-- with the length read and in the body: the test's answer t, whose part the code ends by a sum
+tested : (s : List ℕ) (i e n : ℕ) (t r : Bool) → n ≡ numberAt s i 2 → i + 2 + n ≤ e → r ≡ isUtf8 (partOf s (part (i + 2) (i + 2 + n - (i + 2)))) → r ≡ t
+    → cond t (text.Valid (part (i + 2) n)) text.Invalid ≡ readString s i e
+tested s i e n t r len fits test told =
+    let size : i + 2 + n - (i + 2) ≡ n = omega arith in
+    sym (string-tested s i e n t len fits (sym told ∙ test ∙ rw size))
+
 returns-3 : tie.Need-returns-3
 returns-3 c =
-    let given = c .before .before .before .before .before .before .before .args in
-    let n = c .before .before .before .before .number-at .result in
-    let size : given .at + 2 + n - (given .at + 2) ≡ n = omega arith in
-    let utf8 = sym (c .if3 .taken) ∙ c .before .is-utf8 .ensures ∙ ap (λ (k : ℕ). isUtf8 (partOf (given .events .now) (part (given .at + 2) k))) size in
-    sym (string-tested (given .events .now) (given .at) (given .end) n true (c .before .before .before .before .number-at .ensures) (omega arith) utf8)
+    let read = c .before .before .before .before in
+    let given = read .before .before .before .args in
+    tested (given .events .now) (given .at) (given .end) (read .number-at .result) true _ (read .number-at .ensures) (omega arith) (c .before .is-utf8 .ensures) (c .if3 .taken)
 
 returns-4 : tie.Need-returns-4
 returns-4 c =
-    let given = c .before .before .before .before .before .before .before .args in
-    let n = c .before .before .before .before .number-at .result in
-    let size : given .at + 2 + n - (given .at + 2) ≡ n = omega arith in
-    let utf8 = sym (c .if3 .left) ∙ c .before .is-utf8 .ensures ∙ ap (λ (k : ℕ). isUtf8 (partOf (given .events .now) (part (given .at + 2) k))) size in
-    sym (string-tested (given .events .now) (given .at) (given .end) n false (c .before .before .before .before .number-at .ensures) (omega arith) utf8)
+    let read = c .before .before .before .before in
+    let given = read .before .before .before .args in
+    tested (given .events .now) (given .at) (given .end) (read .number-at .result) false _ (read .number-at .ensures) (omega arith) (c .before .is-utf8 .ensures) (c .if3 .left)
 
 pub string-at-spec : {M : Type 1} → statement M
 string-at-spec =

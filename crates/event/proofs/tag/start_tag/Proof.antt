@@ -1,4 +1,4 @@
--- `event::tag::start_tag` meets its contract: the tag, then where it ends. Assumes nothing.
+-- `event::tag::start_tag` meets its contract: the tag, then where it ends.
 use mathlib.Core.Path.{sym, _∙_, ap}
 use borrow.Author.Tests.{eq-eqb, ne-eqb}
 use borrow.Author.Needs.{needs}

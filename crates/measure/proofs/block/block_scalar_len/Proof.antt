@@ -1,5 +1,5 @@
 -- `measure::block::block_scalar_len` meets its contract. The loop's invariant: the lines from `at` on reach as far as the whole block
--- does, and `end` is where the lines before it end. The measure is what is left. Assumes nothing.
+-- does, and `end` is where the lines before it end. The measure is what is left.
 use borrow.Author.Needs.{needs}
 use mathlib.Core.Path.{_≡_, _∙_, ap}
 use mathlib.Core.Logic.{⊎-elim}
@@ -7,10 +7,12 @@ use mathlib.Core.List.{List}
 use Prim.Native.Nat.{ℕ, _-_}
 use native.Mathlib.Omega.{arith}
 use lib.ListN.{length, drop}
-use Rattle.text.specs.Utf8.{Utf8, codes}
-use Rattle.text.specs.Utf8Laws.{boundary-start}
-use Rattle.measure.specs.Block.{lineOf}
-use Rattle.measure.proofs.Read.{part-is, part-utf8}
+use Rattle.utf8.specs.Utf8.{Utf8}
+use Rattle.utf8.specs.Characters.{codes}
+use Rattle.utf8.specs.Utf8Laws.{boundary-start}
+use Rattle.measure.specs.Counted.{lineOf}
+use Rattle.letters.proofs.Chunks.{part-is}
+use Rattle.measure.proofs.Read.{part-utf8}
 use Rattle.measure.proofs.Blocks.{Measuring, Fitting, line-fits, block-begins, block-at-end, block-ends, block-blank, block-content}
 use Rattle.measure.proofs.block.block_scalar_len.Statement.{statement}
 use Rattle.measure.proofs.block.block_scalar_len.Tie as tie
@@ -47,9 +49,6 @@ add-at c = let start = c .before .before .before in let f = line-fits (start .pr
 loop-holds : tie.Need-loop-holds Inv-loop μ-loop
 loop-holds c = block-begins (c .before .before .before .args .column) (c .before .before .before .pre) (c .before .first-line .ensures)
 
-sub-first-line : tie.Need-sub-first-line Inv-loop μ-loop
-sub-first-line c = omega arith
-
 first-line-requires-2 : tie.Need-first-line-requires-2 Inv-loop μ-loop
 first-line-requires-2 c κs = part-utf8 (c .before .before .before .before .before .before .pre) (c .before .before .loop .inv .place (c .before .loop-test .taken))
 
@@ -85,5 +84,5 @@ returns-2 c = block-at-end (c .before .loop .inv) (c .loop-test .left)
 pub block-scalar-len-spec : {M : Type 1} → statement M
 block-scalar-len-spec =
     tie.close
-    (tie.spec Inv-loop μ-loop first-line-requires add-at loop-holds sub-first-line (λ c. search needs) (λ c. search needs) first-line-requires-2
+    (tie.spec Inv-loop μ-loop first-line-requires add-at loop-holds (λ c. omega arith) (λ c. search needs) (λ c. search needs) first-line-requires-2
     returns add-end add-at-2 add-at-3 loop-less loop-again returns-2)

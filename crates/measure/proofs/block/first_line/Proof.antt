@@ -1,43 +1,23 @@
 -- `measure::block::first_line` meets its contract. The loop's invariant: what was counted and the line of the rest are the line of the
--- whole; as long as nothing but white space was met, all of it leads. The measure is what is left. Assumes nothing.
+-- whole; as long as nothing but white space was met, all of it leads. The measure is what is left.
 use mathlib.Core.Path.{sym, _∙_}
-use mathlib.Core.List.{List}
-use Prim.Native.Nat.{ℕ, _+_, _-_, _≤_}
+use Prim.Native.Nat.{_-_}
 use native.Mathlib.Omega.{arith}
-use lib.ListN.{length, drop, length-drop}
-use Rattle.text.specs.Utf8Laws.{Char-at}
-use Rattle.measure.specs.Letters.{Letters}
-use Rattle.measure.proofs.Read.{char-read, part-is}
-use Rattle.measure.proofs.Line.{Counting, line-begins, line-at-end, line-stops, line-leads, line-spaces, line-goes-on, line-letters}
+use lib.ListN.{length}
+use Rattle.utf8.specs.Utf8Laws.{Char-at}
+use Rattle.measure.proofs.Read.{char-read}
+use Rattle.measure.proofs.Line.{CountingLine, line-begins, line-at-end, line-stops, line-leads, line-spaces, line-goes-on, line-letters}
 use Rattle.measure.proofs.block.first_line.Statement.{statement}
 use Rattle.measure.proofs.block.first_line.Tie as tie
 
 abbrev Inv-loop : tie.InvT-loop
-Inv-loop tail lead₀ trimmed₀ len₀ lead trimmed len = Counting tail lead trimmed len
+Inv-loop tail lead₀ trimmed₀ len₀ lead trimmed len = CountingLine tail lead trimmed len
 
 abbrev μ-loop : tie.MeasureT-loop
 μ-loop tail lead₀ trimmed₀ len₀ lead trimmed len = length tail - len
 
 char-here : (c : tie.After-first-char Inv-loop μ-loop) → Char-at (c .before .before .before .before .args .tail .now) (c .before .before .loop .len) (c .first-char .result)
 char-here c = char-read (c .before .before .before .before .pre) (c .before .before .loop .inv .boundary) (c .before .loop-test .taken) (c .first-char .ensures)
-
--- after a character that is no white space
-module _ (c : tie.After-letters Inv-loop μ-loop) where
-  abbrev tail-now : List ℕ
-  tail-now = c .before .before .before .before .before .before .before .before .before .before .before .before .args .tail .now
-
-  abbrev after-char : ℕ
-  after-char = c .before .before .before .before .before .before .before .before .before .before .loop .len + c .before .before .before .before .before .before .before .before .first-char .result .len
-
-  letters-here : Letters (drop after-char tail-now) (drop after-char tail-now) (c .letters .result)
-  letters-here = rw (part-is tail-now after-char) at (c .letters .ensures)
-
-  letters-fit : after-char + c .letters .result ≤ length tail-now
-  letters-fit =
-      let k = char-here (c .before .before .before .before .before .before .before .before) in
-      let i = letters-here .run .in-source in
-      let d = length-drop after-char tail-now in
-      omega arith
 
 loop-holds : tie.Need-loop-holds Inv-loop μ-loop
 loop-holds c = line-begins (c .before .pre)
@@ -64,39 +44,24 @@ loop-again-2 c =
     let at-char = c .before .before .before .before .before .before in
     line-spaces (at-char .before .before .loop .inv) (char-here at-char) (c .before .before .before .before .if1 .left) (sym (c .before .before .is-white-space .ensures) ∙ c .before .if2 .taken) (c .if3 .left)
 
-sub-letters : tie.Need-sub-letters Inv-loop μ-loop
-sub-letters c = let k = char-here (c .before .before .before .before .before) in omega arith
-
-part-letters-start : tie.Need-part-letters-start Inv-loop μ-loop
-part-letters-start c = let k = char-here (c .before .before .before .before .before) in omega arith
-
-part-letters-end : tie.Need-part-letters-end Inv-loop μ-loop
-part-letters-end c = let k = char-here (c .before .before .before .before .before) in omega arith
-
-sub-letters-2 : tie.Need-sub-letters-2 Inv-loop μ-loop
-sub-letters-2 c = let k = char-here (c .before .before .before .before .before .before) in omega arith
-
-part-letters-start-2 : tie.Need-part-letters-start-2 Inv-loop μ-loop
-part-letters-start-2 c = let k = char-here (c .before .before .before .before .before .before) in omega arith
-
-part-letters-end-2 : tie.Need-part-letters-end-2 Inv-loop μ-loop
-part-letters-end-2 c = let k = char-here (c .before .before .before .before .before .before) in omega arith
+letters-requires : tie.Need-letters-requires Inv-loop μ-loop
+letters-requires c κs = let k = char-here (c .before .before .before .before .before) in (omega arith, omega arith)
 
 add-len-2 : tie.Need-add-len-2 Inv-loop μ-loop
-add-len-2 c = let f = letters-fit c in omega arith
+add-len-2 c = let f = c .letters .ensures .in-source in omega arith
 
 loop-less-3 : tie.Need-loop-less-3 Inv-loop μ-loop
 loop-less-3 c =
-    let k = char-here (c .before .before .before .before .before .before .before .before) in
-    let f = letters-fit c in
+    let k = char-here (c .before .before .before .before .before .before) in
+    let f = c .letters .ensures .in-source in
     omega arith
 
 loop-again-3 : tie.Need-loop-again-3 Inv-loop μ-loop
 loop-again-3 c =
-    let at-char = c .before .before .before .before .before .before .before .before in
+    let at-char = c .before .before .before .before .before .before in
     let k = char-here at-char in
-    let on = line-goes-on (at-char .before .before .loop .inv) k (c .before .before .before .before .before .before .if1 .left) (sym (c .before .before .before .before .is-white-space .ensures) ∙ c .before .before .before .if2 .left) in
-    line-letters (at-char .before .before .before .before .pre) (λ z. omega arith) on (letters-here c)
+    let on = line-goes-on (at-char .before .before .loop .inv) k (c .before .before .before .before .if1 .left) (sym (c .before .before .is-white-space .ensures) ∙ c .before .if2 .left) in
+    line-letters (at-char .before .before .before .before .pre) (λ z. omega arith) on (c .letters .ensures .letters)
 
 returns-2 : tie.Need-returns-2 Inv-loop μ-loop
 returns-2 c = line-at-end (c .before .loop .inv) (c .loop-test .left)
@@ -104,6 +69,5 @@ returns-2 c = line-at-end (c .before .loop .inv) (c .loop-test .left)
 pub first-line-spec : {M : Type 1} → statement M
 first-line-spec =
     tie.close
-    (tie.spec Inv-loop μ-loop loop-holds (λ c κs. tt) returns add-len (λ c κs. tt) loop-less loop-again loop-less-2 loop-again-2 sub-letters
-    part-letters-start part-letters-end sub-letters-2 part-letters-start-2 part-letters-end-2 (λ c κs. tt) add-len-2 loop-less-3 loop-again-3
-    returns-2)
+    (tie.spec Inv-loop μ-loop loop-holds (λ c κs. tt) returns add-len (λ c κs. tt) loop-less loop-again loop-less-2 loop-again-2 letters-requires
+    add-len-2 loop-less-3 loop-again-3 returns-2)

@@ -1,7 +1,7 @@
--- `measure::plain::has_byte` meets its contract: a byte past the end is none. Assumes nothing.
+-- `measure::plain::has_byte` meets its contract: a byte past the end is none.
 use borrow.Author.Needs.{needs}
 use borrow.Author.Tests.{lt-ltb, le-ltb}
-use Rattle.measure.specs.Plain.{hasByte}
+use Rattle.measure.specs.Counted.{hasByte}
 use Rattle.measure.proofs.plain.has_byte.Statement.{statement}
 use Rattle.measure.proofs.plain.has_byte.Tie as tie
 

@@ -1,4 +1,4 @@
--- `measure::plain::is_fold` meets its contract: it asks the two questions in turn. Assumes nothing.
+-- `measure::plain::is_fold` meets its contract: it asks the two questions in turn.
 use borrow.Author.Tests.{eq-eqb, ne-eqb}
 use Rattle.measure.specs.Plain.{isFold}
 use Rattle.measure.proofs.plain.is_fold.Statement.{statement}

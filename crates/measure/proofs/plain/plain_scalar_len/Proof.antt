@@ -1,6 +1,6 @@
 -- `measure::plain::plain_scalar_len` meets its contract. The outer loop's invariant: what is left of the value, matched with what is
 -- left of the rest, reaches as far as the whole match does. The inner loop's: the next character takes no run, and its bytes up to k
--- are equal in both. The measures are what is left of the value, and of the character. Assumes nothing.
+-- are equal in both. The measures are what is left of the value, and of the character.
 use borrow.Author.Needs.{needs}
 use mathlib.Core.Path.{_≡_, refl, sym, _∙_}
 use mathlib.Core.Logic.{⊎-elim}
@@ -8,12 +8,12 @@ use mathlib.Core.List.{List}
 use Prim.Native.Nat.{ℕ, _+_, _-_, _≤_}
 use native.Mathlib.Omega.{arith}
 use borrow.Author.Tests.{not-true, not-false}
-use lib.ListN.{length, drop, length-drop}
-use Rattle.text.specs.Utf8.{Utf8, codes}
-use Rattle.text.specs.Utf8Laws.{Char-at}
-use Rattle.measure.specs.Run.{runOf}
-use Rattle.measure.specs.Letters.{Letters}
-use Rattle.measure.proofs.Read.{char-read, part-is, part-utf8}
+use lib.ListN.{length, drop}
+use Rattle.utf8.specs.Utf8.{Utf8}
+use Rattle.utf8.specs.Characters.{codes}
+use Rattle.utf8.specs.Utf8Laws.{Char-at}
+use Rattle.measure.specs.Counted.{runOf}
+use Rattle.measure.proofs.Read.{char-read, part-utf8}
 use Rattle.measure.proofs.Matches.{Equal, equal-more, equal-all, equal-char, Matching, Comparing, run-read, run-fits, match-begins, match-at-end, match-run, compare-known, compare-other, compare-looked, match-equal, match-fails, match-letters}
 use Rattle.measure.proofs.plain.plain_scalar_len.Statement.{statement}
 use Rattle.measure.proofs.plain.plain_scalar_len.Tie as tie
@@ -97,30 +97,10 @@ module _ (c : tie.After-struct-known5 Inv-loop μ-loop Inv-characters μ-charact
 -- and the letters after it
 module _ (c : tie.After-letters Inv-loop μ-loop Inv-characters μ-characters) where
   abbrev at-char-of : Read
-  at-char-of = c .before .before .before .before .before .before .before .before .before
+  at-char-of = c .before .before .before .before .before .before .before
 
   abbrev at-joined : tie.Joined1 Inv-loop μ-loop Inv-characters μ-characters
-  at-joined = c .before .before .before .before .before .before .before .before
-
-  abbrev after-rest : ℕ
-  after-rest = at-now at-char-of + at-char-of .first-char .result .len
-
-  abbrev after-value : ℕ
-  after-value = v-now at-char-of + at-char-of .first-char .result .len
-
-  letters-here : Letters (drop after-rest (rest-now at-char-of)) (drop after-value (value-now at-char-of)) (c .letters .result)
-  letters-here = rw (part-is (rest-now at-char-of) after-rest, part-is (value-now at-char-of) after-value) at (c .letters .ensures)
-
-  letters-fit : (after-rest + c .letters .result ≤ length (rest-now at-char-of)) × (after-value + c .letters .result ≤ length (value-now at-char-of))
-  letters-fit =
-      let a = char-here at-char-of in
-      let e = equal-room (c .before .before .before .before) in
-      let l = letters-here in
-      let i = l .run .in-source in
-      let j = l .run .in-value in
-      let d = length-drop after-rest (rest-now at-char-of) in
-      let f = length-drop after-value (value-now at-char-of) in
-      (omega arith, omega arith)
+  at-joined = c .before .before .before .before .before .before
 
 -- ---- the answers
 
@@ -181,12 +161,6 @@ shared-slice-read-has-byte :
     tie.Need-shared-slice-read-has-byte Inv-loop μ-loop Inv-characters μ-characters
 shared-slice-read-has-byte c = let a = char-here (c .before .before .before .before .before) in omega arith
 
-add-k : tie.Need-add-k Inv-loop μ-loop Inv-characters μ-characters
-add-k c = omega arith
-
-loop-less : tie.Need-loop-less Inv-loop μ-loop Inv-characters μ-characters
-loop-less c = omega arith
-
 loop-again : tie.Need-loop-again Inv-loop μ-loop Inv-characters μ-characters
 loop-again c =
     let at = c .before .before .before .before .before .before .before in
@@ -204,41 +178,26 @@ add-at-2 c =
 add-v-2 : tie.Need-add-v-2 Inv-loop μ-loop Inv-characters μ-characters
 add-v-2 c = let a = char-here (c .before .before .before .before .before .before) in omega arith
 
-sub-letters : tie.Need-sub-letters Inv-loop μ-loop Inv-characters μ-characters
-sub-letters c = let b = equal-room (c .before) in omega arith
-
-part-letters-start : tie.Need-part-letters-start Inv-loop μ-loop Inv-characters μ-characters
-part-letters-start c = let b = equal-room (c .before) in omega arith
-
-part-letters-end : tie.Need-part-letters-end Inv-loop μ-loop Inv-characters μ-characters
-part-letters-end c = let b = equal-room (c .before) in omega arith
-
-sub-letters-2 : tie.Need-sub-letters-2 Inv-loop μ-loop Inv-characters μ-characters
-sub-letters-2 c = let a = char-here (c .before .before .before .before .before .before .before) in omega arith
-
-part-letters-start-2 : tie.Need-part-letters-start-2 Inv-loop μ-loop Inv-characters μ-characters
-part-letters-start-2 c = let a = char-here (c .before .before .before .before .before .before .before) in omega arith
-
-part-letters-end-2 : tie.Need-part-letters-end-2 Inv-loop μ-loop Inv-characters μ-characters
-part-letters-end-2 c = let a = char-here (c .before .before .before .before .before .before .before) in omega arith
+letters-requires : tie.Need-letters-requires Inv-loop μ-loop Inv-characters μ-characters
+letters-requires c κs = let b = equal-room (c .before) in let a = char-here (c .before .before .before .before .before .before) in (omega arith, omega arith)
 
 add-at-3 : tie.Need-add-at-3 Inv-loop μ-loop Inv-characters μ-characters
-add-at-3 c = let f = letters-fit c in omega arith
+add-at-3 c = let f = c .letters .ensures .in-source in omega arith
 
 add-v-3 : tie.Need-add-v-3 Inv-loop μ-loop Inv-characters μ-characters
-add-v-3 c = let f = letters-fit c in omega arith
+add-v-3 c = let f = c .letters .ensures .in-value in omega arith
 
 characters-less-2 : tie.Need-characters-less-2 Inv-loop μ-loop Inv-characters μ-characters
 characters-less-2 c =
     let a = char-here (at-char-of c) in
-    let f = letters-fit c in
+    let f = c .letters .ensures .in-value in
     omega arith
 
 characters-again-2 : tie.Need-characters-again-2 Inv-loop μ-loop Inv-characters μ-characters
 characters-again-2 c =
     let at = at-char-of c in
-    let r = match-equal (rest-utf8 at) (value-utf8 at) (comparing (at-joined c)) (char-here at) (equal-here (c .before .before .before .before)) in
-    match-letters (rest-utf8 at) (value-utf8 at) r (letters-here c)
+    let r = match-equal (rest-utf8 at) (value-utf8 at) (comparing (at-joined c)) (char-here at) (equal-here (c .before .before)) in
+    match-letters (rest-utf8 at) (value-utf8 at) r (c .letters .ensures .letters)
 
 returns : tie.Need-returns Inv-loop μ-loop Inv-characters μ-characters
 returns c = match-at-end (c .before .characters .inv) (c .characters-test .left)
@@ -254,5 +213,5 @@ plain-scalar-len-spec =
     tie.close
     (tie.spec Inv-loop μ-loop Inv-characters μ-characters characters-holds (λ c κs. tt) (λ c κs. tt) sub-white-space-run part-white-space-run-start
     part-white-space-run-end white-space-run-requires add-at add-v characters-less characters-again add-known loop-holds add-has-byte add-has-byte-2
-    shared-slice-read-has-byte (λ c κs. tt) add-k loop-less loop-again add-at-2 add-v-2 sub-letters part-letters-start part-letters-end sub-letters-2
-    part-letters-start-2 part-letters-end-2 (λ c κs. tt) add-at-3 add-v-3 characters-less-2 characters-again-2 returns returns-2)
+    shared-slice-read-has-byte (λ c κs. tt) (λ c. omega arith) (λ c. omega arith) loop-again add-at-2 add-v-2 letters-requires add-at-3 add-v-3
+    characters-less-2 characters-again-2 returns returns-2)

@@ -1,8 +1,8 @@
--- `measure::quoted::passed_together` meets its contract: it asks the questions in turn. Assumes nothing.
+-- `measure::quoted::passed_together` meets its contract: it asks the questions in turn.
 use mathlib.Core.Path.{sym}
 use borrow.Author.Tests.{eq-eqb, ne-eqb}
+use mathlib.Core.Bool.{or-false}
 use Rattle.measure.specs.Quoted.{passedTogether}
-use Rattle.text.specs.Tests.{or-false}
 use Rattle.measure.proofs.quoted.passed_together.Statement.{statement}
 use Rattle.measure.proofs.quoted.passed_together.Tie as tie
 

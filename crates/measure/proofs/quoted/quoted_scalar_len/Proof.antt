@@ -1,12 +1,13 @@
 -- `measure::quoted::quoted_scalar_len` meets its contract. The loop's invariant: the closing mark is found from here where it is found
--- from the start, as many bytes further on as were passed. The measure is what is left. Assumes nothing.
+-- from the start, as many bytes further on as were passed. The measure is what is left.
 use mathlib.Core.Path.{_≡_, sym, _∙_, ap}
 use mathlib.Core.List.{List}
 use Prim.Native.Nat.{ℕ, _+_, _-_}
 use native.Mathlib.Omega.{arith}
 use lib.ListN.{length, drop, getD, length-drop}
-use Rattle.measure.specs.Quoted.{further, passedTogether, toClosing, quotedLen, Unmarked}
-use Rattle.measure.proofs.Read.{part-is}
+use Rattle.measure.specs.Quoted.{further, passedTogether, toClosing, quotedLen}
+use Rattle.letters.specs.Marks.{Unmarked}
+use Rattle.letters.proofs.Chunks.{part-is}
 use Rattle.measure.proofs.Closing.{none-opens, other-opens, opens, passes-two, closes, passes-one, never-closes, passes-many}
 use Rattle.measure.proofs.quoted.quoted_scalar_len.Statement.{statement}
 use Rattle.measure.proofs.quoted.quoted_scalar_len.Tie as tie
@@ -47,48 +48,18 @@ returns-2 c = other-opens (c .before .before .before .before .args .rest .now) (
 loop-holds : tie.Need-loop-holds Inv-loop μ-loop
 loop-holds c = opens (c .before .before .before .before .args .rest .now) (c .before .before .before .before .args .quote) (let n = c .before .before .if1 .left in omega arith) (c .if2 .left)
 
-shared-slice-read-b : tie.Need-shared-slice-read-b Inv-loop μ-loop
-shared-slice-read-b c = omega arith
-
-add-byte-at : tie.Need-add-byte-at Inv-loop μ-loop
-add-byte-at c = omega arith
-
-add-i : tie.Need-add-i Inv-loop μ-loop
-add-i c = omega arith
-
-loop-less : tie.Need-loop-less Inv-loop μ-loop
-loop-less c = omega arith
-
 loop-again : tie.Need-loop-again Inv-loop μ-loop
 loop-again c =
     let at = c .before in
     passes-two (rest-now at) (quote-now at) (i-now at) (at .before .before .before .loop-test .taken) (sym (asked at) ∙ c .if3 .taken) ∙ at .before .before .before .before .loop .inv
-
-add-t15 : tie.Need-add-t15 Inv-loop μ-loop
-add-t15 c = omega arith
 
 returns-3 : tie.Need-returns-3 Inv-loop μ-loop
 returns-3 c =
     let at = c .before .before in
     closes (rest-now at) (quote-now at) (i-now at) (at .before .before .before .loop-test .taken) (sym (asked at) ∙ c .before .if3 .left) (c .if4 .taken) ∙ at .before .before .before .before .loop .inv
 
-add-i-2 : tie.Need-add-i-2 Inv-loop μ-loop
-add-i-2 c = omega arith
-
-sub-unmarked : tie.Need-sub-unmarked Inv-loop μ-loop
-sub-unmarked c = omega arith
-
-part-unmarked-start : tie.Need-part-unmarked-start Inv-loop μ-loop
-part-unmarked-start c = omega arith
-
-part-unmarked-end : tie.Need-part-unmarked-end Inv-loop μ-loop
-part-unmarked-end c = omega arith
-
 add-i-3 : tie.Need-add-i-3 Inv-loop μ-loop
 add-i-3 c = let w = passed c .within in let l = length-drop (i-now (c .before .before .before .before) + 1) (rest-now (c .before .before .before .before)) in omega arith
-
-loop-less-2 : tie.Need-loop-less-2 Inv-loop μ-loop
-loop-less-2 c = omega arith
 
 loop-again-2 : tie.Need-loop-again-2 Inv-loop μ-loop
 loop-again-2 c =
@@ -106,6 +77,6 @@ returns-4 c =
 pub quoted-scalar-len-spec : {M : Type 1} → statement M
 quoted-scalar-len-spec =
     tie.close
-    (tie.spec Inv-loop μ-loop returns shared-slice-read-if2 returns-2 loop-holds shared-slice-read-b add-byte-at (λ c κs. tt) (λ c κs. tt) add-i
-    loop-less loop-again add-t15 returns-3 add-i-2 sub-unmarked part-unmarked-start part-unmarked-end (λ c κs. tt) add-i-3 loop-less-2 loop-again-2
-    returns-4)
+    (tie.spec Inv-loop μ-loop returns shared-slice-read-if2 returns-2 loop-holds (λ c. omega arith) (λ c. omega arith) (λ c κs. tt) (λ c κs. tt)
+    (λ c. omega arith) (λ c. omega arith) loop-again (λ c. omega arith) returns-3 (λ c. omega arith) (λ c. omega arith) (λ c. omega arith)
+    (λ c. omega arith) (λ c κs. tt) add-i-3 (λ c. omega arith) loop-again-2 returns-4)

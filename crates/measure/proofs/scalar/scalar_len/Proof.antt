@@ -1,4 +1,4 @@
--- `measure::scalar::scalar_len` meets its contract: the smaller of two numbers is what the test says. Assumes nothing.
+-- `measure::scalar::scalar_len` meets its contract: the smaller of two numbers is what the test says.
 use native.Mathlib.Omega.{arith}
 use Rattle.measure.specs.Scalar.{scalarLen}
 use Rattle.measure.proofs.scalar.scalar_len.Statement.{statement}

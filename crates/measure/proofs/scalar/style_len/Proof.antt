@@ -1,4 +1,4 @@
--- `measure::scalar::style_len` meets its contract: it asks for the styles in turn. Assumes nothing.
+-- `measure::scalar::style_len` meets its contract: it asks for the styles in turn.
 use borrow.Author.Tests.{eq-eqb, ne-eqb}
 use Rattle.measure.specs.Scalar.{styleLen}
 use Rattle.measure.proofs.scalar.style_len.Statement.{statement}

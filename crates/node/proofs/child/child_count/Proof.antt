@@ -1,4 +1,4 @@
--- `node::child::child_count` meets its contract: by the kind, as `children` tests it. Assumes nothing.
+-- `node::child::child_count` meets its contract: by the kind, as `children` tests it.
 use borrow.Author.Tests.{lt-ltb, le-ltb, eq-eqb, ne-eqb}
 use borrow.Author.Needs.{needs}
 use Rattle.node.proofs.child.child_count.Statement.{statement}

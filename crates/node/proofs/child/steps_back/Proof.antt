@@ -1,5 +1,5 @@
 -- `node::child::steps_back` meets its contract. The loop's invariant: what is left, from here, gives what all
--- steps gave from `c`. The measure is how many steps are left. Assumes nothing.
+-- steps gave from `c`. The measure is how many steps are left.
 use mathlib.Core.Path.{_≡_, refl, _∙_}
 use Prim.Native.Nat.{_<_}
 use native.Mathlib.Omega.{arith}
@@ -15,35 +15,11 @@ Inv-loop records c k at₀ left₀ at left = stepsBack records left at ≡ steps
 abbrev μ-loop : tie.MeasureT-loop
 μ-loop records c k at₀ left₀ at left = left
 
-loop-holds : tie.Need-loop-holds Inv-loop μ-loop
-loop-holds c =
-    refl
-
-child-before-requires : tie.Need-child-before-requires Inv-loop μ-loop
-child-before-requires c κs =
-    search needs
-
-enum-known-previous : tie.Need-enum-known-previous Inv-loop μ-loop
-enum-known-previous c =
-    search needs
-
-enum-told : tie.Need-enum-told Inv-loop μ-loop
-enum-told c =
-    search needs
-
 returns : tie.Need-returns Inv-loop μ-loop
 returns c =
     let e = rw (c .enum-told .given .1) at (c .before .before .child-before .ensures) in
     let more : 0 < c .before .before .before .before .loop .left = omega arith in
     step-none _ _ _ more e ∙ c .before .before .before .before .loop .inv
-
-sub-left : tie.Need-sub-left Inv-loop μ-loop
-sub-left c =
-    search needs
-
-loop-less : tie.Need-loop-less Inv-loop μ-loop
-loop-less c =
-    search needs
 
 loop-again : tie.Need-loop-again Inv-loop μ-loop
 loop-again c =
@@ -59,4 +35,5 @@ returns-2 c =
 pub steps-back-spec : {M : Type 1} → statement M
 steps-back-spec =
     tie.close
-    (tie.spec Inv-loop μ-loop loop-holds child-before-requires enum-known-previous enum-told returns sub-left loop-less loop-again returns-2)
+    (tie.spec Inv-loop μ-loop (λ c. refl) (λ c κs. search needs) (λ c. search needs) (λ c. search needs) returns
+    (λ c. search needs) (λ c. search needs) loop-again returns-2)

@@ -1,4 +1,4 @@
--- `node::kind::is_hash` meets its contract: the record's kind, or none. Assumes nothing.
+-- `node::kind::is_hash` meets its contract: whether its kind is that of hashes.
 use borrow.Author.Needs.{needs}
 use Rattle.node.specs.Kind.{isHashAt}
 use Rattle.node.proofs.kind.is_hash.Statement.{statement}
@@ -6,13 +6,7 @@ use Rattle.node.proofs.kind.is_hash.Tie as tie
 
 returns : tie.Need-returns
 unfolding isHashAt
-returns c =
-    let e = rw (c .enum-told .given .1) at (c .before .before .get-record .ensures) in rw (← e)
-
-returns-2 : tie.Need-returns-2
-unfolding isHashAt
-returns-2 c =
-    let e = rw (c .before .before .x .given .1) at (c .before .before .before .before .get-record .ensures) in rw (← e)
+returns c = c .kind-is .ensures
 
 pub is-hash-spec : {M : Type 1} → statement M
-is-hash-spec = tie.close (tie.spec (λ c κs. search needs) (λ c. search needs) (λ c. search needs) returns returns-2)
+is-hash-spec = tie.close (tie.spec (λ c κs. search needs) returns)

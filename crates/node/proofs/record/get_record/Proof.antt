@@ -1,4 +1,4 @@
--- `node::record::get_record` meets its contract: the room first, then the kind of the twelve numbers that `read_record` gives. Assumes nothing.
+-- `node::record::get_record` meets its contract: the room first, then the kind of the twelve numbers that `read_record` gives.
 use borrow.Author.Tests.{lt-ltb, le-ltb, le-leb, lt-leb}
 use borrow.Author.Needs.{needs}
 use Rattle.node.specs.Record.{recordAt, existing}
@@ -8,8 +8,7 @@ use Rattle.node.proofs.record.get_record.Tie as tie
 
 returns : tie.Need-returns
 unfolding recordAt
-returns c =
-    rw (le-ltb _ _ (c .if1 .taken))
+returns c = rw (le-ltb _ _ (c .if1 .taken))
 
 returns-2 : tie.Need-returns-2
 unfolding recordAt existing

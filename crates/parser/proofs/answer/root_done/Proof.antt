@@ -1,4 +1,4 @@
--- `root_done` meets its contract: the two tests, in turn. Assumes nothing.
+-- `root_done` meets its contract: the two tests, in turn.
 use mathlib.Core.Path.{refl}
 use borrow.Author.Tests.{eq-eqb, ne-eqb}
 use Rattle.parser.proofs.answer.root_done.Statement.{statement}

@@ -1,4 +1,4 @@
--- `next_place` meets its contract, by the event's case. Assumes nothing.
+-- `next_place` meets its contract, by the event's case.
 use borrow.Author.Needs.{needs}
 use mathlib.Core.Path.{refl}
 use Rattle.parser.proofs.build.next_place.Statement.{statement}

@@ -1,132 +1,90 @@
--- `on_scalar` meets its contract: rows 5 and 7 by the counts; start, tag, resolution and record are those of the definitions, and the
--- walk decides the rest. Assumes nothing.
+-- `on_scalar` meets its contract: rows 5 and 7 by the counts; its record and its walk in the free part of the pieces are those of the
+-- definitions, and the walk decides the rest.
 use borrow.Author.Needs.{needs}
 use mathlib.Core.Path.{_≡_, refl, sym, ap, _∙_}
-use Prim.Native.Nat.{_+_, _-_, _/_, _≤_, _<_}
-use native.Mathlib.Omega.{arith}
-use Rattle.parser.proofs.Turns.{after-root, before-root, no-room, in-room, moved-cursor, scalar-kept}
-use Rattle.parser.proofs.Starts.{tag-fits, cursor-offset, offset-start, scalar-spans, range-is, part-few, span-within}
-use Rattle.text.specs.OffsetLaws.{offset-within, offset-boundary}
-use Rattle.parser.specs.Machine.{scalared}
-use Rattle.parser.specs.Scalar.{scalarFrom, spanLen, suffixOf, tagInfo, scalarNode}
+use Prim.Native.Nat.{_*_, _≤_, _<_}
+use lib.ListN.{length}
+use Rattle.text.specs.OffsetLaws.{offset-boundary}
+use Rattle.utf8.specs.Boundary.{Boundary}
 use Rattle.event.specs.Read.{partOf}
-use Rattle.text.specs.Boundary.{Boundary}
-use Rattle.parser.specs.Collection.{awaitsValue}
+use Rattle.records.specs.Layout.{recordRoom}
+use Rattle.spans.specs.Scalar.{listAt, eventScalar, eventNode}
+use Rattle.spans.specs.SpanLaws.{offset-start, event-node-boundary}
+use Rattle.spans.specs.Collection.{awaitsValue}
+use Rattle.parser.specs.Machine.{scalarKept, onScalar}
+use Rattle.parser.proofs.Pieces.{put-tail}
+use Rattle.parser.proofs.Starts.{cursor-offset}
+use Rattle.parser.proofs.Turns.{after-root, before-root, no-room, in-room, moved-cursor, pushable, free-zero, free-length, walk-counted}
 use Rattle.parser.proofs.on_event.on_scalar.Statement.{statement}
 use Rattle.parser.proofs.on_event.on_scalar.Tie as tie
 
 returns : tie.Need-returns
-unfolding scalared
-returns c = λ size piece-size st h.
-    let given = c .before .before .before .before .before .before .before in
-    let a = given .args in
+unfolding onScalar
+returns c = λ size pieces-size st h.
     rw (after-root _ _ _ _ _ _ _ _ h _ (sym (c .before .root-done .ensures) ∙ c .if1 .taken)) refl
 
 returns-2 : tie.Need-returns-2
-unfolding scalared
-returns-2 c = λ size piece-size st h.
-    let given = c .before .before .before .before .before .before .before .before in
-    let a = given .args in
-    let l : size / 12 ≤ a .c .nodes = rw (← h .size-is) (c .if2 .taken) in
+unfolding onScalar
+returns-2 c = λ size pieces-size st h.
+    let a = c .before .before .before .before .before .before .before .before .args in
+    let l : recordRoom size ≤ a .c .nodes = rw (← h .size-is) (c .if2 .taken) in
     rw (before-root _ _ _ _ _ _ _ _ h _ (sym (c .before .before .root-done .ensures) ∙ c .before .if1 .left), no-room _ _ _ _ _ _ _ _ h _ l) refl
 
-scalar-start-requires : tie.Need-scalar-start-requires
-scalar-start-requires c κs =
-    let given = c .before .before .before .before .before .before .before .before .before .before .before .before .before in
+event-scalar-requires : tie.Need-event-scalar-requires
+event-scalar-requires c κs =
+    let given = c .before .before .before .before .before .before .before .before .before .before .before .before .before .before in
     let a = given .args in
     let cur = c .before .before .before .before .byte-offset-of-char in
-    let e = cursor-offset (a .text .now) (a .index) (cur .result) (cur .ensures) in
-    let u = given .pre .0 .sound .utf8 in
-    rw e (offset-within u (a .index))
-
-suffix-of-requires : tie.Need-suffix-of-requires
-suffix-of-requires c κs = let given = c .before .before .before .before .before .before .before .before .before .before .before .before .before .before in let tag = given .pre .1 .1 .0 in tag-fits (given .args .events .now) (given .args .tag) (tag .parts) (tag .short)
-
-tag-info-requires : tie.Need-tag-info-requires
-tag-info-requires c κs =
-    let given = c .before .before .before .before .before .before .before .before .before .before .before .before .before .before .before in
-    let a = given .args in
-    let cur = c .before .before .before .before .before .before .byte-offset-of-char in
-    let e = cursor-offset (a .text .now) (a .index) (cur .result) (cur .ensures) in
-    let u = given .pre .0 .sound .utf8 in
-    let begins = c .before .scalar-start .ensures in
-    let on : Boundary (a .text .now) (c .before .scalar-start .result) = rw begins (offset-start (a .text .now) u _ (a .style) _ (cur .result .offset) (rw e (offset-boundary u (a .index)))) in
-    (given .pre .0 .sound, on)
-
-part-resolve-end : tie.Need-part-resolve-end
-part-resolve-end c = let i = c .before .before .before .before .before .before .before .before .before .before .before .before .before .before .before .before .pre .1 .1 .1 .part .inside in search needs
-
-resolve-requires : tie.Need-resolve-requires
-resolve-requires c κs = c .before .before .before .before .before .before .before .before .before .before .before .before .before .before .before .before .before .pre .1 .1 .0 .parts
-
-part-scalar-node-end : tie.Need-part-scalar-node-end
-part-scalar-node-end c = let i = c .before .before .before .before .before .before .before .before .before .before .before .before .before .before .before .before .before .before .pre .1 .1 .1 .part .inside in search needs
-
-cast-scalar-node : tie.Need-cast-scalar-node
-cast-scalar-node c = let i = c .before .before .before .before .before .before .before .before .before .before .before .before .before .before .before .before .before .before .before .pre .1 .1 .1 .part .inside in omega (arith, c .before .before .before .before .before .before .before .before .before .before .before .before .before .before .before .before .before .before .before .pre .1 .1 .0 .short)
-
-scalar-node-requires : tie.Need-scalar-node-requires
-scalar-node-requires c κs =
-    let given = c .before .before .before .before .before .before .before .before .before .before .before .before .before .before .before .before .before .before .before in
-    let a = given .args in
-    let cur = c .before .before .before .before .before .before .before .before .before .before .byte-offset-of-char in
-    let e = cursor-offset (a .text .now) (a .index) (cur .result) (cur .ensures) in
-    let u = given .pre .0 .sound .utf8 in
-    let begins = c .before .before .before .before .before .scalar-start .ensures in
-    let on : Boundary (a .text .now) (c .before .before .before .before .before .scalar-start .result) = rw begins (offset-start (a .text .now) u _ (a .style) _ (cur .result .offset) (rw e (offset-boundary u (a .index)))) in
-    let read = given .pre .1 .1 .1 in
-    let is = range-is (a .events .now) (a .value) in
-    let few = part-few (a .events .now) (a .value) 65535 (read .few) in
-    (given .pre .0 .sound, (rw is (read .part .utf8), (rw is (omega arith), on .within)))
-
-part-keep-scalar-end : tie.Need-part-keep-scalar-end
-part-keep-scalar-end c = let i = c .before .before .before .before .before .before .before .before .before .before .before .before .before .before .before .before .before .before .before .before .before .before .before .pre .1 .1 .1 .part .inside in search needs
+    let e = cursor-offset (a .text .now) (a .e .mark .index) (cur .result) (cur .ensures) in
+    let sound = given .pre .0 .sound in
+    (sound, (rw e (offset-boundary (sound .utf8) (a .e .mark .index)), (given .pre .1 .1, free-zero _ _ _ _ _ _ _ _ (given .pre .1 .0 .held))))
 
 keep-scalar-requires : tie.Need-keep-scalar-requires
 keep-scalar-requires c κs =
-    let given = c .before .before .before .before .before .before .before .before .before .before .before .before .before .before .before .before .before .before .before .before .before .before .before .before in
+    let given = c .before .before .before .before .before .before .before .before .before .before .before .before .before .before .before .before .before .before .before in
     let a = given .args in
-    let cur = c .before .before .before .before .before .before .before .before .before .before .before .before .before .before .before .byte-offset-of-char in
-    let e = cursor-offset (a .text .now) (a .index) (cur .result) (cur .ensures) in
-    let u = given .pre .0 .sound .utf8 in
-    let begins = c .before .before .before .before .before .before .before .before .before .before .scalar-start .ensures in
-    let on : Boundary (a .text .now) (c .before .before .before .before .before .before .before .before .before .before .scalar-start .result) = rw begins (offset-start (a .text .now) u _ (a .style) _ (cur .result .offset) (rw e (offset-boundary u (a .index)))) in
-    let read = given .pre .1 .1 .1 in
     let ready = given .pre .1 .0 in
-    let is = range-is (a .events .now) (a .value) in
-    let few = part-few (a .events .now) (a .value) 65535 (read .few) in
-    let x : c .before .before .before .before .scalar-node .result ≡ scalarNode (a .text .now) (scalarFrom (c .before .before .before .before .before .before .before .before .before .before .scalar-start .result) (a .column) (a .style) (a .empty) (partOf (a .events .now) (a .value)) (a .value .at)) (c .before .before .before .before .before .before .before .before .tag-info .result) (c .before .before .before .before .before .before .resolve .result) = rw is at (c .before .before .before .before .scalar-node .ensures) in
-    let sp = scalar-spans (a .text .now) (scalarFrom (c .before .before .before .before .before .before .before .before .before .before .scalar-start .result) (a .column) (a .style) (a .empty) (partOf (a .events .now) (a .value)) (a .value .at)) (c .before .before .before .before .before .before .before .before .tag-info .result) (c .before .before .before .before .before .before .resolve .result) in
-    let from : c .before .before .before .before .scalar-node .result .extent .start ≡ c .before .before .before .before .before .before .before .before .before .before .scalar-start .result = ap (λ y. y .extent .start) x ∙ sp .from in
-    let to : c .before .before .before .before .scalar-node .result .extent .end ≡ c .before .before .before .before .before .before .before .before .before .before .scalar-start .result + spanLen (a .text .now) (scalarFrom (c .before .before .before .before .before .before .before .before .before .before .scalar-start .result) (a .column) (a .style) (a .empty) (partOf (a .events .now) (a .value)) (a .value .at)) = ap (λ y. y .extent .end) x ∙ sp .to in
-    let w = span-within (a .text .now) (scalarFrom (c .before .before .before .before .before .before .before .before .before .before .scalar-start .result) (a .column) (a .style) (a .empty) (partOf (a .events .now) (a .value)) (a .value .at)) (on .within) in (
-      record { size = ready .size; piece-size = ready .piece-size; st = ready .st; held = moved-cursor _ _ _ _ _ _ _ _ (ready .held) (a .index) (cur .result) (cur .ensures); few = ready .few },
-      (c .before .before .before .before .before .before .before .before .before .before .before .before .before .before .before .before .if2 .left, ((given .pre .0 .sound .within, rw is (omega arith)), (rw from on, (omega arith, omega arith)))),
+    let cur = c .before .before .before .before .before .before .before .before .before .byte-offset-of-char in
+    let moved = moved-cursor _ _ _ _ _ _ _ _ (ready .held) (a .e .mark .index) (cur .result) (cur .ensures) in
+    let l : a .c .nodes < recordRoom (ready .size) = rw (← ready .held .size-is) (c .before .before .before .before .before .before .before .before .before .before .before .if2 .left) in
+    let x = c .before .before .before .before .event-scalar in
+    let y = x .last .1 .1 .1 .1 .1 .0 in
+    let same = x .kept .1 .1 .1 .1 .1 .0 in
+    let len = same ∙ free-length _ _ _ _ _ _ _ _ (ready .held) in (
+      pushable _ _ _ _ _ _ _ _ moved (ready .few) l,
+      walk-counted _ _ _ _ _ _ _ _ (ready .held) y len (x .result .node) _ (x .result .walked)
+          (rw (← same) at (ap (λ z. z .walked) (x .ensures .0))) (rw (← same) at (x .ensures .1)),
     )
 
 returns-3 : tie.Need-returns-3
-unfolding scalared
-returns-3 c = λ size piece-size st h.
-    let given = c .before .before .before .before .before .before .before .before .before .before .before .before .before .before .before .before .before .before .before .before .before .before .before .before .before .before .before .before .before .before .before in
+unfolding onScalar scalarKept
+returns-3 c = λ size pieces-size st h.
+    let given = c .before .before .before .before .before .before .before .before .before .before .before .before .before .before .before .before .before .before .before .before .before .before .before .before in
     let a = given .args in
-    let cur = c .before .before .before .before .before .before .before .before .before .before .before .before .before .before .before .before .before .before .before .before .before .before .byte-offset-of-char in
-    let e = cursor-offset (a .text .now) (a .index) (cur .result) (cur .ensures) in
+    let cur = c .before .before .before .before .before .before .before .before .before .before .before .before .before .before .byte-offset-of-char in
+    let e = cursor-offset (a .text .now) (a .e .mark .index) (cur .result) (cur .ensures) in
     let u = given .pre .0 .sound .utf8 in
-    let l : a .c .nodes < size / 12 = rw (← h .size-is) (c .before .before .before .before .before .before .before .before .before .before .before .before .before .before .before .before .before .before .before .before .before .before .before .if2 .left) in
-    let is = range-is (a .events .now) (a .value) in
-    let x : c .before .before .before .before .before .before .before .before .before .before .before .scalar-node .result ≡ scalarNode (a .text .now) (scalarFrom (c .before .before .before .before .before .before .before .before .before .before .before .before .before .before .before .before .before .scalar-start .result) (a .column) (a .style) (a .empty) (partOf (a .events .now) (a .value)) (a .value .at)) (c .before .before .before .before .before .before .before .before .before .before .before .before .before .before .before .tag-info .result) (c .before .before .before .before .before .before .before .before .before .before .before .before .before .resolve .result) = rw is at (c .before .before .before .before .before .before .before .before .before .before .before .scalar-node .ensures) in
-    let t : c .before .before .before .before .before .before .before .before .before .before .before .before .before .before .before .tag-info .result ≡ tagInfo (a .text .now) (c .before .before .before .before .before .before .before .before .before .before .before .before .before .before .before .before .before .scalar-start .result) (suffixOf (a .tag)) = c .before .before .before .before .before .before .before .before .before .before .before .before .before .before .before .tag-info .ensures ∙ ap (tagInfo (a .text .now) (c .before .before .before .before .before .before .before .before .before .before .before .before .before .before .before .before .before .scalar-start .result)) (c .before .before .before .before .before .before .before .before .before .before .before .before .before .before .before .before .suffix-of .ensures) in
-    let r = rw is at (c .before .before .before .before .before .before .before .before .before .before .before .before .before .resolve .ensures) in
-    let begins = rw is at (c .before .before .before .before .before .before .before .before .before .before .before .before .before .before .before .before .before .scalar-start .ensures) in
-    let awaits : c .before .before .before .before .before .before .before .before .before .before .before .before .before .before .before .before .before .before .before .expecting-value .result ≡ awaitsValue (st .opens) = c .before .before .before .before .before .before .before .before .before .before .before .before .before .before .before .before .before .before .before .expecting-value .ensures ∙ ap awaitsValue (sym (h .opens-are)) in
-    rw (before-root _ _ _ _ _ _ _ _ h _ (sym (c .before .before .before .before .before .before .before .before .before .before .before .before .before .before .before .before .before .before .before .before .before .before .before .before .before .root-done .ensures) ∙ c .before .before .before .before .before .before .before .before .before .before .before .before .before .before .before .before .before .before .before .before .before .before .before .before .if1 .left), in-room _ _ _ _ _ _ _ _ h _ l, ← awaits, ← e, ← begins, scalar-kept (a .text .now) (a .events .now) (piece-size / 4) (scalarFrom (c .before .before .before .before .before .before .before .before .before .before .before .before .before .before .before .before .before .scalar-start .result) (a .column) (a .style) (a .empty) (partOf (a .events .now) (a .value)) (a .value .at)) (a .tag) st _ _ _ t r x)
-    (rw is at (c .before .before .before .before .before .before .keep-scalar .ensures size piece-size st (moved-cursor _ _ _ _ _ _ _ _ h (a .index) (cur .result) (cur .ensures))))
+    let l : a .c .nodes < recordRoom size = rw (← h .size-is) (c .before .before .before .before .before .before .before .before .before .before .before .before .before .before .before .before .if2 .left) in
+    let moved = moved-cursor _ _ _ _ _ _ _ _ h (a .e .mark .index) (cur .result) (cur .ensures) in
+    let waits = c .before .before .before .before .before .before .before .before .before .before .before .before .expecting-value in
+    let awaits : waits .result ≡ awaitsValue (st .opens) = waits .ensures ∙ ap awaitsValue (sym (h .opens-are)) in
+    let x = c .before .before .before .before .before .before .before .before .before .event-scalar in
+    let y = x .last .1 .1 .1 .1 .1 .0 in
+    let same = x .kept .1 .1 .1 .1 .1 .0 in
+    let len = same ∙ free-length _ _ _ _ _ _ _ _ h in
+    let scalar = eventScalar (a .text .now) (a .events .now) (cur .result .offset) (waits .result) (a .e) in
+    let node : x .result .node ≡ eventNode (a .text .now) (a .events .now) scalar (a .e .tag) = ap (λ z. z .node) (x .ensures .0) in
+    let on : Boundary (a .text .now) (scalar .start) =
+    offset-start (a .text .now) u (partOf (a .events .now) (a .e .value)) (a .e .mark .style) (waits .result) (cur .result .offset) (rw e (offset-boundary u (a .e .mark .index))) in
+    let fits : 4 * a .c .used ≤ length (a .pieces .now) = rw (h .pieces-size-is) (h .pieces-fit) in
+    rw (before-root _ _ _ _ _ _ _ _ h _ (sym (c .before .before .before .before .before .before .before .before .before .before .before .before .before .before .before .before .before .before .root-done .ensures) ∙ c .before .before .before .before .before .before .before .before .before .before .before .before .before .before .before .before .before .if1 .left), in-room _ _ _ _ _ _ _ _ h _ l, ← awaits, ← e, ← node, put-tail (4 * a .c .used) (a .pieces .now) y fits)
+    (c .before .before .before .before .keep-scalar .ensures (a .text .now) size pieces-size st (a .pieces .now) (listAt (a .text .now) scalar) y
+    (rw node (event-node-boundary (a .text .now) (a .events .now) scalar (a .e .tag) on)) moved len
+    (rw (← same) at (ap (λ z. z .walked) (x .ensures .0))) (rw (← same) at (x .ensures .1)))
 
 pub on-scalar-spec : {M : Type 1} → statement M
 on-scalar-spec =
     tie.close
-    (tie.spec (λ c κs. search needs) returns returns-2 (λ c κs. search needs) (λ c. search needs) (λ c κs. search needs) (λ c. search needs)
-    (λ c. search needs) (λ c. search needs) scalar-start-requires suffix-of-requires tag-info-requires (λ c. search needs) (λ c. search needs)
-    part-resolve-end resolve-requires (λ c. search needs) (λ c. search needs) part-scalar-node-end cast-scalar-node scalar-node-requires
-    (λ c. search needs) (λ c. search needs) part-keep-scalar-end keep-scalar-requires (λ c. search needs) (λ c. search needs) (λ c. search needs)
-    returns-3)
+    (tie.spec (λ c κs. search needs) returns returns-2 (λ c. search needs) (λ c κs. search needs) (λ c κs. search needs) (λ c. search needs)
+    (λ c. search needs) (λ c. search needs) (λ c. search needs) (λ c. search needs) event-scalar-requires keep-scalar-requires (λ c. search needs)
+    (λ c. search needs) (λ c. search needs) returns-3)

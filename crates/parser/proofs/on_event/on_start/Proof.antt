@@ -1,4 +1,4 @@
--- `on_start` meets its contract: rows 5 and 6 by the counts; then the new frame is the machine's new collection. Assumes nothing.
+-- `on_start` meets its contract: rows 5 and 6 by the counts; then the new frame is the machine's new collection.
 use borrow.Author.Needs.{needs}
 use mathlib.Core.Path.{refl, sym, _∙_}
 use Prim.Native.Nat.{_-_}
@@ -6,18 +6,18 @@ use native.Mathlib.Omega.{arith}
 use Rattle.parser.proofs.Turns.{after-root, before-root, too-deep, opened}
 use Rattle.parser.proofs.Starts.{cursor-offset, suffix-placed}
 use Rattle.text.specs.OffsetLaws.{offset-within}
-use Rattle.parser.specs.Machine.{started}
+use Rattle.parser.specs.Machine.{onStart}
 use Rattle.parser.proofs.on_event.on_start.Statement.{statement}
 use Rattle.parser.proofs.on_event.on_start.Tie as tie
 
 returns : tie.Need-returns
-unfolding started
-returns c = λ p size piece-size st h.
+unfolding onStart
+returns c = λ p size pieces-size st h.
     rw (after-root _ _ _ _ _ _ _ _ h _ (sym (c .before .root-done .ensures) ∙ c .if1 .taken)) refl
 
 returns-2 : tie.Need-returns-2
-unfolding started
-returns-2 c = λ p size piece-size st h.
+unfolding onStart
+returns-2 c = λ p size pieces-size st h.
     rw (before-root _ _ _ _ _ _ _ _ h _ (sym (c .before .before .root-done .ensures) ∙ c .before .if1 .left), too-deep _ _ _ _ _ _ _ _ h _ (c .if2 .taken)) refl
 
 cast-t18 : tie.Need-cast-t18
@@ -29,7 +29,7 @@ cast-t18 c =
     omega (arith, given .pre .0 .sound .within)
 
 returns-3 : tie.Need-returns-3
-returns-3 c = λ p size piece-size st h.
+returns-3 c = λ p size pieces-size st h.
     let given = c .before .before .before .before .before .before .before .before .before .before .before .before .before in
     let a = given .args in
     let cur = c .before .before .before .before .before .before .byte-offset-of-char in

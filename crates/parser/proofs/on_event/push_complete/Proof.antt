@@ -1,7 +1,8 @@
--- `push_complete` meets its contract: the record is the next one in the buffer, and the innermost frame has a child more. Assumes nothing.
+-- `push_complete` meets its contract: the record is the next one in the buffer, and the innermost frame has a child more.
 use borrow.Author.Needs.{needs}
-use Prim.Native.Nat.{_-_, _/_, _<_}
+use Prim.Native.Nat.{_-_, _<_}
 use native.Mathlib.Omega.{arith}
+use Rattle.records.specs.Layout.{recordRoom}
 use Rattle.parser.proofs.Turns.{pushed}
 use Rattle.parser.proofs.on_event.push_complete.Statement.{statement}
 use Rattle.parser.proofs.on_event.push_complete.Tie as tie
@@ -12,11 +13,11 @@ add-child-requires c κs =
     (let long = given .pre .stack-size in let deep = given .pre .deep in omega arith, record { nodes = given .args .c .nodes; below = given .pre .below; few = given .pre .few })
 
 returns : tie.Need-returns
-returns c = λ text size piece-size st p on h.
+returns c = λ text size pieces-size st p on h.
     let given = c .before .before .before .before .before .before .before .before .before .before .before in
     let a = given .args in
-    let l : a .c .nodes < size / 12 = rw (← h .size-is) (given .pre .room) in
-    pushed text size piece-size st (a .c) (a .stack .now) (a .records .now) p h (a .x) _ _ l on (c .before .before .add-child .kept .0) (c .before .before .add-child .ensures) (c .before .before .before .before .before .before .put-record .kept .0) (c .before .before .before .before .before .before .put-record .ensures)
+    let l : a .c .nodes < recordRoom size = rw (← h .size-is) (given .pre .room) in
+    pushed text size pieces-size st (a .c) (a .stack .now) (a .records .now) p h (a .x) _ _ l on (c .before .before .add-child .kept .0) (c .before .before .add-child .ensures) (c .before .before .before .before .before .before .put-record .kept .0) (c .before .before .before .before .before .before .put-record .ensures)
 
 pub push-complete-spec : {M : Type 1} → statement M
 push-complete-spec =

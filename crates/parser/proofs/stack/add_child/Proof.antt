@@ -1,5 +1,5 @@
 -- `add_child` meets its contract: no collection counts more children than there are nodes, so the count fits; the other frames are below
--- the two stores. Assumes nothing.
+-- the two stores.
 use borrow.Author.Needs.{needs}
 use mathlib.Core.Path.{refl}
 use native.Mathlib.Omega.{arith}

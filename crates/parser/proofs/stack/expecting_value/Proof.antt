@@ -1,4 +1,4 @@
--- `expecting_value` meets its contract: the innermost collection decides. Assumes nothing.
+-- `expecting_value` meets its contract: the innermost collection decides.
 use borrow.Author.Needs.{needs}
 use mathlib.Core.Path.{refl}
 use native.Mathlib.Omega.{arith}

@@ -1,4 +1,4 @@
--- `first_child` meets its contract: one test. Assumes nothing.
+-- `first_child` meets its contract: one test.
 use mathlib.Core.Path.{refl}
 use borrow.Author.Tests.{eq-eqb, ne-eqb}
 use Rattle.parser.proofs.stack.first_child.Statement.{statement}

@@ -1,4 +1,4 @@
--- `innermost` meets its contract: seven reads. Assumes nothing.
+-- `innermost` meets its contract: seven reads.
 use borrow.Author.Needs.{needs}
 use mathlib.Core.Path.{refl}
 use Rattle.parser.proofs.stack.innermost.Statement.{statement}

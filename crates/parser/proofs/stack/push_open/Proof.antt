@@ -1,4 +1,4 @@
--- `push_open` meets its contract: seven stores. Assumes nothing.
+-- `push_open` meets its contract: seven stores.
 use borrow.Author.Needs.{needs}
 use Rattle.parser.proofs.stack.push_open.Statement.{statement}
 use Rattle.parser.proofs.stack.push_open.Tie as tie

@@ -1,4 +1,4 @@
--- `suffix_at` meets its contract: one test. Assumes nothing.
+-- `suffix_at` meets its contract: one test.
 use mathlib.Core.Path.{refl}
 use borrow.Author.Tests.{eq-eqb, ne-eqb}
 use Rattle.parser.specs.Held.{suffixAt}

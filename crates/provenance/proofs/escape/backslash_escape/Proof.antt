@@ -1,4 +1,4 @@
--- `provenance::escape::backslash_escape` meets its contract: it asks by the byte after the backslash, in the order of the definition. Assumes nothing.
+-- `provenance::escape::backslash_escape` meets its contract: it asks by the byte after the backslash, in the order of the definition.
 use mathlib.Core.Path.{sym, ap, _∙_}
 use native.Mathlib.Omega.{arith}
 use Prim.Native.Nat.{ℕ, _<_}

@@ -1,4 +1,4 @@
--- `provenance::escape::code_content` meets its contract: it asks for the surrogates. Assumes nothing.
+-- `provenance::escape::code_content` meets its contract: it asks for the surrogates.
 use borrow.Author.Tests.{le-leb, lt-leb}
 use Rattle.provenance.specs.Escape.{codeContent}
 use borrow.Author.Needs.{needs}

@@ -1,5 +1,5 @@
 -- `provenance::escape::digits_content` meets its contract. The loop's invariant: the digits left, behind the number so far, have the
--- content of them all. The measure is what is left. Assumes nothing.
+-- content of them all. The measure is what is left.
 use mathlib.Core.Path.{_≡_, sym, ap, _∙_}
 use borrow.Author.Tests.{not-true, not-false}
 use Prim.Native.Nat.{ℕ, _+_, _-_, _*_, _≤_, _<_}
@@ -10,8 +10,6 @@ use Rattle.provenance.specs.EscapeLaws.{sixteens, sixteens-some, sixteen
 use Rattle.provenance.proofs.Escapes.{value-small, digits-more, digits-bad, digits-end, digits-none, digits-some, no-code}
 use Rattle.provenance.proofs.escape.digits_content.Statement.{statement}
 use Rattle.provenance.proofs.escape.digits_content.Tie as tie
-
--- `provenance::escape::digits_content` meets its contract. The loop's invariant: the digits left, behind the number so far, have the
 
 abbrev Inv-loop : tie.InvT-loop
 Inv-loop tail from code₀ i₀ code i = (i ≤ length tail) × (code < sixteens i) × (digitsFrom code (drop i tail) ≡ digits (drop from tail))
@@ -25,9 +23,6 @@ returns c = no-code ∙ ap codeContent (sym (digits-none (c .before .before .arg
 loop-holds : tie.Need-loop-holds Inv-loop μ-loop
 loop-holds c = (omega arith, sixteens-some (c .before .before .args .from), sym (digits-some (c .before .before .args .tail .now) (c .before .before .args .from) (c .if1 .left)))
 
-shared-slice-read-b : tie.Need-shared-slice-read-b Inv-loop μ-loop
-shared-slice-read-b c = omega arith
-
 returns-2 : tie.Need-returns-2 Inv-loop μ-loop
 returns-2 c = no-code ∙ ap codeContent (sym (digits-bad (c .before .before .before .before .before .before .before .args .tail .now) (c .before .before .before .before .loop .i) (c .before .before .before .before .loop .code) (c .before .before .before .loop-test .taken) (sym (c .before .is-hex-digit .ensures) ∙ not-true _ (c .if2 .taken))) ∙ c .before .before .before .before .loop .inv .2)
 
@@ -39,12 +34,6 @@ digit-value-requires c κs = sym (c .before .is-hex-digit .ensures) ∙ not-fals
 
 add-code : tie.Need-add-code Inv-loop μ-loop
 add-code c = let q = sixteens-four (c .before .before .before .before .before .loop .i) (omega arith) in let s : c .digit-value .result < 16 = value-small (getD (c .before .before .before .before .before .before .before .before .args .tail .now) (c .before .before .before .before .before .loop .i) 0) _ (sym (c .before .before .is-hex-digit .ensures) ∙ not-false _ (c .before .if2 .left)) (c .digit-value .ensures) in omega arith
-
-add-i : tie.Need-add-i Inv-loop μ-loop
-add-i c = omega arith
-
-loop-less : tie.Need-loop-less Inv-loop μ-loop
-loop-less c = omega arith
 
 loop-again : tie.Need-loop-again Inv-loop μ-loop
 loop-again c =
@@ -65,5 +54,5 @@ returns-3 c = c .code-content .ensures ∙ ap codeContent (sym (digits-end (c .b
 pub digits-content-spec : {M : Type 1} → statement M
 digits-content-spec =
     tie.close
-    (tie.spec Inv-loop μ-loop returns loop-holds shared-slice-read-b (λ c κs. tt) returns-2 mul-code digit-value-requires add-code add-i loop-less
-    loop-again code-content-requires returns-3)
+    (tie.spec Inv-loop μ-loop returns loop-holds (λ c. omega arith) (λ c κs. tt) returns-2 mul-code digit-value-requires add-code (λ c. omega arith)
+    (λ c. omega arith) loop-again code-content-requires returns-3)

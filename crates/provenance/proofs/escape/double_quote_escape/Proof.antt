@@ -1,10 +1,10 @@
--- `provenance::escape::double_quote_escape` meets its contract: what comes after the backslash is handed on. Assumes nothing.
+-- `provenance::escape::double_quote_escape` meets its contract: what comes after the backslash is handed on.
 use mathlib.Core.Path.{sym, _∙_}
 use native.Mathlib.Omega.{arith}
 use Prim.Native.Nat.{_<_}
 use lib.ListN.{length}
 use Rattle.provenance.specs.Tests.{byte-inside}
-use Rattle.provenance.proofs.Parts.{part-is}
+use Rattle.letters.proofs.Chunks.{part-is}
 use Rattle.provenance.proofs.Escapes.{no-backslash, at-backslash}
 use borrow.Author.Needs.{needs}
 use Rattle.provenance.proofs.escape.double_quote_escape.Statement.{statement}

@@ -1,6 +1,6 @@
--- `provenance::escape::encoded_len` meets its contract: it asks as the encoding does. Assumes nothing.
+-- `provenance::escape::encoded_len` meets its contract: it asks as the encoding does.
 use borrow.Author.Tests.{lt-ltb, le-ltb}
-use Rattle.text.specs.Utf8.{encode}
+use Rattle.utf8.specs.Utf8.{encode}
 use Rattle.provenance.proofs.escape.encoded_len.Statement.{statement}
 use Rattle.provenance.proofs.escape.encoded_len.Tie as tie
 

@@ -1,4 +1,4 @@
--- `provenance::escape::escape_len` meets its contract: the table is the style's. Assumes nothing.
+-- `provenance::escape::escape_len` meets its contract: the table is the style's.
 use mathlib.Core.Path.{refl}
 use Rattle.provenance.proofs.Escapes.{by-single, by-double, by-neither}
 use borrow.Author.Needs.{needs}

@@ -1,5 +1,5 @@
 -- `provenance::escape::is_one_byte_escape` meets its contract. The loop's invariant: a search in what is left of the table answers as one
--- in all of it. The measure is what is left of the table. Assumes nothing.
+-- in all of it. The measure is what is left of the table.
 use mathlib.Core.Path.{_≡_, refl, sym, _∙_}
 use Prim.Native.Nat.{_-_, _≤_}
 use lib.ListN.{drop}
@@ -23,12 +23,6 @@ returns : tie.Need-returns Inv-loop μ-loop
 unfolding oneByteEscapes
 returns c = sym (one-here oneByteEscapes (c .before .before .loop .i) (c .before .before .before .args .c) (omega arith) (c .if1 .taken)) ∙ c .before .before .loop .inv .1
 
-add-i : tie.Need-add-i Inv-loop μ-loop
-add-i c = omega arith
-
-loop-less : tie.Need-loop-less Inv-loop μ-loop
-loop-less c = omega arith
-
 loop-again : tie.Need-loop-again Inv-loop μ-loop
 unfolding oneByteEscapes
 loop-again c = (omega arith, sym (one-later oneByteEscapes (c .before .before .loop .i) (c .before .before .before .args .c) (omega arith) (c .if1 .left)) ∙ c .before .before .loop .inv .1)
@@ -40,4 +34,4 @@ returns-2 c = sym (one-none oneByteEscapes (c .before .loop .i) (c .before .befo
 pub is-one-byte-escape-spec : {M : Type 1} → statement M
 is-one-byte-escape-spec =
     tie.close
-    (tie.spec Inv-loop μ-loop loop-holds (λ c. search needs) returns add-i loop-less loop-again returns-2)
+    (tie.spec Inv-loop μ-loop loop-holds (λ c. search needs) returns (λ c. omega arith) (λ c. omega arith) loop-again returns-2)

@@ -1,4 +1,4 @@
--- `provenance::escape::single_quote_escape` meets its contract: it looks at two bytes. Assumes nothing.
+-- `provenance::escape::single_quote_escape` meets its contract: it looks at two bytes.
 use mathlib.Core.Path.{sym, _∙_}
 use Rattle.provenance.proofs.Escapes.{one-quote, quote-alone, two-quotes}
 use borrow.Author.Needs.{needs}

@@ -1,4 +1,4 @@
--- `provenance::escape::unicode_content` meets its contract: a plus is passed over. Assumes nothing.
+-- `provenance::escape::unicode_content` meets its contract: a plus is passed over.
 use mathlib.Core.Path.{sym, ap, _∙_}
 use Rattle.provenance.specs.Escape.{codeContent}
 use Rattle.provenance.proofs.Escapes.{radix-plus, radix-bare}

@@ -1,4 +1,4 @@
--- `provenance::escape::unicode_content_at` meets its contract: four bytes are handed on, or what is left. Assumes nothing.
+-- `provenance::escape::unicode_content_at` meets its contract: four bytes are handed on, or what is left.
 use mathlib.Core.Path.{_≡_, sym, ap, _∙_}
 use native.Mathlib.Omega.{arith}
 use Prim.Native.Nat.{ℕ, _+_, _-_}
@@ -6,7 +6,7 @@ use mathlib.Core.List.{List}
 use lib.ListN.{take, drop, length-drop}
 use lib.Seq.{take-all}
 use Rattle.provenance.specs.Escape.{codeContent, radix16}
-use Rattle.provenance.proofs.Parts.{part-is}
+use Rattle.letters.proofs.Chunks.{part-is}
 use borrow.Author.Needs.{needs}
 use Rattle.provenance.proofs.escape.unicode_content_at.Statement.{statement}
 use Rattle.provenance.proofs.escape.unicode_content_at.Tie as tie

@@ -1,12 +1,10 @@
--- `provenance::run::cut_len` meets its contract: the smaller of two numbers is what the test says. Assumes nothing.
+-- `provenance::run::cut_len` meets its contract: the smaller of two numbers is what the test says.
 use borrow.Author.Tests.{lt-ltb, not-true, not-false}
 use native.Mathlib.Omega.{arith}
-use Rattle.provenance.specs.Run.{cutLen}
+use Rattle.provenance.specs.Counted.{cutLen}
 use borrow.Author.Needs.{needs}
 use Rattle.provenance.proofs.run.cut_len.Statement.{statement}
 use Rattle.provenance.proofs.run.cut_len.Tie as tie
-
--- `provenance::run::cut_len` meets its contract: the smaller of two numbers is what the test says. Assumes nothing.
 
 returns : tie.Need-returns
 unfolding cutLen

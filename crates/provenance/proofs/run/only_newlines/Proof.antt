@@ -1,5 +1,5 @@
 -- `provenance::run::only_newlines` meets its contract. The loop's invariant: what is left has only newlines just if all of it has. The
--- measure is what is left. Assumes nothing.
+-- measure is what is left.
 use mathlib.Core.Path.{_≡_, refl, sym, _∙_}
 use Prim.Native.Nat.{_-_}
 use lib.ListN.{length, drop}
@@ -8,8 +8,6 @@ use Rattle.provenance.specs.Run.{onlyNewlines}
 use Rattle.provenance.proofs.Runs.{only-more, only-not, only-ends}
 use Rattle.provenance.proofs.run.only_newlines.Statement.{statement}
 use Rattle.provenance.proofs.run.only_newlines.Tie as tie
-
--- `provenance::run::only_newlines` meets its contract. The loop's invariant: what is left has only newlines just if all of it has. The
 
 abbrev Inv-loop : tie.InvT-loop
 Inv-loop tail i₀ i = onlyNewlines (drop i tail) ≡ onlyNewlines tail
@@ -20,17 +18,8 @@ abbrev μ-loop : tie.MeasureT-loop
 loop-holds : tie.Need-loop-holds Inv-loop μ-loop
 loop-holds c = refl
 
-shared-slice-read-if1 : tie.Need-shared-slice-read-if1 Inv-loop μ-loop
-shared-slice-read-if1 c = omega arith
-
 returns : tie.Need-returns Inv-loop μ-loop
 returns c = sym (only-not (c .before .before .before .before .args .tail .now) (c .before .before .before .loop .i) (c .before .before .loop-test .taken) (c .if1 .taken)) ∙ c .before .before .before .loop .inv
-
-add-i : tie.Need-add-i Inv-loop μ-loop
-add-i c = omega arith
-
-loop-less : tie.Need-loop-less Inv-loop μ-loop
-loop-less c = omega arith
 
 loop-again : tie.Need-loop-again Inv-loop μ-loop
 loop-again c = sym (only-more (c .before .before .before .before .args .tail .now) (c .before .before .before .loop .i) (c .before .before .loop-test .taken) (c .if1 .left)) ∙ c .before .before .before .loop .inv
@@ -41,4 +30,4 @@ returns-2 c = sym (only-ends (c .before .before .args .tail .now) (c .before .lo
 pub only-newlines-spec : {M : Type 1} → statement M
 only-newlines-spec =
     tie.close
-    (tie.spec Inv-loop μ-loop loop-holds shared-slice-read-if1 returns add-i loop-less loop-again returns-2)
+    (tie.spec Inv-loop μ-loop loop-holds (λ c. omega arith) returns (λ c. omega arith) (λ c. omega arith) loop-again returns-2)

@@ -1,10 +1,10 @@
--- `provenance::scalar::scalar_provenance` meets its contract: the rest of the text is handed on where the walk can start. Assumes nothing.
+-- `provenance::scalar::scalar_provenance` meets its contract: the rest of the text is handed on where the walk can start.
 use mathlib.Core.Path.{sym, _∙_}
 use borrow.Author.Tests.{not-true, not-false}
 use native.Mathlib.Omega.{arith}
 use lib.ListN.{length, length-drop}
-use Rattle.text.specs.Utf8Laws.{is-boundary}
-use Rattle.provenance.proofs.Parts.{part-is}
+use Rattle.utf8.specs.Utf8Laws.{is-boundary}
+use Rattle.letters.proofs.Chunks.{part-is}
 use Rattle.provenance.proofs.Starts.{cannot-start, can-start}
 use borrow.Author.Needs.{needs}
 use Rattle.provenance.proofs.scalar.scalar_provenance.Statement.{statement}

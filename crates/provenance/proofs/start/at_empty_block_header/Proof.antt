@@ -1,4 +1,4 @@
--- `provenance::start::at_empty_block_header` meets its contract: both questions are asked. Assumes nothing.
+-- `provenance::start::at_empty_block_header` meets its contract: both questions are asked.
 use mathlib.Core.Path.{sym, ap, _∙_}
 use Prim.Native.Nat.{ℕ}
 use Rattle.provenance.specs.Start.{isHeader}

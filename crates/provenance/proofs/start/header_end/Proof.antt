@@ -1,5 +1,5 @@
 -- `provenance::start::header_end` meets its contract. The loop's invariant: the bytes passed and those before the next newline are all
--- before the first. The measure is what is left. Assumes nothing.
+-- before the first. The measure is what is left.
 use mathlib.Core.Path.{_≡_}
 use Prim.Native.Nat.{_+_, _-_, _≤_}
 use lib.ListN.{length, drop}
@@ -8,8 +8,6 @@ use Rattle.provenance.specs.Start.{beforeNewline}
 use Rattle.provenance.proofs.Runs.{before-more, before-stops, before-ends, header-found, header-open}
 use Rattle.provenance.proofs.start.header_end.Statement.{statement}
 use Rattle.provenance.proofs.start.header_end.Tie as tie
-
--- `provenance::start::header_end` meets its contract. The loop's invariant: the bytes passed and those before the next newline are all
 
 abbrev Inv-loop : tie.InvT-loop
 Inv-loop rest len i₀ i = (i ≤ length rest) × (i + beforeNewline (drop i rest) ≡ beforeNewline rest)
@@ -20,17 +18,8 @@ abbrev μ-loop : tie.MeasureT-loop
 loop-holds : tie.Need-loop-holds Inv-loop μ-loop
 loop-holds c = (omega arith, omega arith)
 
-shared-slice-read-if1 : tie.Need-shared-slice-read-if1 Inv-loop μ-loop
-shared-slice-read-if1 c = omega arith
-
 returns : tie.Need-returns Inv-loop μ-loop
 returns c = let z = before-stops (c .before .before .before .before .args .rest .now) (c .before .before .before .loop .i) (c .before .before .loop-test .taken) (c .if1 .taken) in let e = c .before .before .before .loop .inv .1 in header-found (c .before .before .before .before .args .rest .now) (c .before .before .before .loop .i) (c .before .before .before .before .args .len) (omega arith) (c .before .before .loop-test .taken)
-
-add-i : tie.Need-add-i Inv-loop μ-loop
-add-i c = omega arith
-
-loop-less : tie.Need-loop-less Inv-loop μ-loop
-loop-less c = omega arith
 
 loop-again : tie.Need-loop-again Inv-loop μ-loop
 loop-again c = let z = before-more (c .before .before .before .before .args .rest .now) (c .before .before .before .loop .i) (c .before .before .loop-test .taken) (c .if1 .left) in let e = c .before .before .before .loop .inv .1 in (omega arith, omega arith)
@@ -41,4 +30,4 @@ returns-2 c = let z = before-ends (c .before .before .args .rest .now) (c .befor
 pub header-end-spec : {M : Type 1} → statement M
 header-end-spec =
     tie.close
-    (tie.spec Inv-loop μ-loop loop-holds shared-slice-read-if1 returns add-i loop-less loop-again returns-2)
+    (tie.spec Inv-loop μ-loop loop-holds (λ c. omega arith) returns (λ c. omega arith) (λ c. omega arith) loop-again returns-2)

@@ -1,4 +1,4 @@
--- `provenance::start::is_quoted` meets its contract: it asks the two questions in turn. Assumes nothing.
+-- `provenance::start::is_quoted` meets its contract: it asks the two questions in turn.
 use borrow.Author.Tests.{eq-eqb, ne-eqb}
 use Rattle.provenance.proofs.start.is_quoted.Statement.{statement}
 use Rattle.provenance.proofs.start.is_quoted.Tie as tie

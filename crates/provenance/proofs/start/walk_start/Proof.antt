@@ -1,11 +1,11 @@
--- `provenance::start::walk_start` meets its contract: it asks as the definition does. Assumes nothing.
+-- `provenance::start::walk_start` meets its contract: it asks as the definition does.
 use mathlib.Core.Path.{sym, _∙_}
 use borrow.Author.Tests.{not-true, not-false}
 use native.Mathlib.Omega.{arith}
 use Prim.Native.Nat.{_≤_}
 use lib.ListN.{length, drop, length-drop}
 use Rattle.provenance.specs.Start.{headerEnd}
-use Rattle.provenance.proofs.Parts.{part-is}
+use Rattle.letters.proofs.Chunks.{part-is}
 use Rattle.provenance.specs.RunLaws.{header-within}
 use Rattle.provenance.proofs.Starts.{start-quoted, start-plain, start-content, start-header}
 use borrow.Author.Needs.{needs}

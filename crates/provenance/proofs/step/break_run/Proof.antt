@@ -1,4 +1,4 @@
--- `provenance::step::break_run` meets its contract: the run is looked at where it is not known and may begin a break. Assumes nothing.
+-- `provenance::step::break_run` meets its contract: the run is looked at where it is not known and may begin a break.
 use mathlib.Core.Path.{_≡_, _∙_}
 use Prim.Native.Nat.{_<_}
 use native.Mathlib.Omega.{arith}
@@ -6,7 +6,7 @@ use lib.ListN.{length, getD}
 use borrow.Author.Needs.{needs}
 use borrow.Author.Tests.{lt-ltb, not-true, not-false}
 use Rattle.provenance.specs.Grammar.{isBlock, opensBreak}
-use Rattle.provenance.proofs.Parts.{part-is}
+use Rattle.letters.proofs.Chunks.{part-is}
 use Rattle.provenance.proofs.Steps.{opens-told, opens-inside, run-closed, run-opened}
 use Rattle.provenance.proofs.step.break_run.Statement.{statement}
 use Rattle.provenance.proofs.step.break_run.Tie as tie
@@ -28,20 +28,20 @@ returns-2 c =
     let a = c .before .before .before .before .before .before .before .before .args in
     run-closed (isBlock (a .style)) (a .src .now) (a .value .now) (a .s) (a .v) (a .known) (c .before .before .before .before .before .if1 .left) (opens-here (c .before) ∙ not-true _ (c .if2 .taken))
 
-sub-white-space-run : tie.Need-sub-white-space-run
-sub-white-space-run c = let h = inside c in omega arith
+sub-white-run : tie.Need-sub-white-run
+sub-white-run c = let h = inside c in omega arith
 
-part-white-space-run-start : tie.Need-part-white-space-run-start
-part-white-space-run-start c = let h = inside c in omega arith
+part-white-run-start : tie.Need-part-white-run-start
+part-white-run-start c = let h = inside c in omega arith
 
 returns-3 : tie.Need-returns-3
 returns-3 c =
     let a = c .before .before .before .before .before .before .before .before .before .before .args in
     run-opened (isBlock (a .style)) (a .src .now) (a .value .now) (a .s) (a .v) (a .known) (c .before .before .before .before .before .before .before .if1 .left) (opens-here (c .before .before .before) ∙ not-false _ (c .before .before .if2 .left)) _
-    (rw (part-is (a .src .now) (a .s)) at (c .white-space-run .ensures))
+    (rw (part-is (a .src .now) (a .s)) at (c .white-run .ensures))
 
 pub break-run-spec : {M : Type 1} → statement M
 break-run-spec =
     tie.close
-    (tie.spec returns (λ c κs. search needs) (λ c κs. search needs) (λ c κs. search needs) (λ c κs. search needs) returns-2 sub-white-space-run
-    part-white-space-run-start (λ c. search needs) (λ c κs. search needs) returns-3)
+    (tie.spec returns (λ c κs. search needs) (λ c κs. search needs) (λ c κs. search needs) (λ c κs. search needs) returns-2 sub-white-run
+    part-white-run-start (λ c. search needs) (λ c κs. search needs) returns-3)

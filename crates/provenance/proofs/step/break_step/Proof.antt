@@ -1,4 +1,4 @@
--- `provenance::step::break_step` meets its contract: the two sides have the lengths that the calls say, and are compared. Assumes nothing.
+-- `provenance::step::break_step` meets its contract: the two sides have the lengths that the calls say, and are compared.
 use mathlib.Core.Path.{_≡_}
 use Prim.Native.Nat.{_+_, _-_, _≤_}
 use native.Mathlib.Omega.{arith}
@@ -6,7 +6,7 @@ use lib.ListN.{length, take, drop, length-drop}
 use borrow.Author.Needs.{needs}
 use Rattle.provenance.specs.Run.{whiteRun, newlinesIn, cut, blankRun}
 use Rattle.provenance.specs.RunLaws.{run-within, last-within}
-use Rattle.provenance.proofs.Parts.{part-is}
+use Rattle.letters.proofs.Chunks.{part-is}
 use Rattle.provenance.proofs.Steps.{numbers-of, cut-of, blanks-of, cut-inside, blanks-inside, pair-same, pair-other}
 use Rattle.provenance.proofs.step.break_step.Statement.{statement}
 use Rattle.provenance.proofs.step.break_step.Tie as tie

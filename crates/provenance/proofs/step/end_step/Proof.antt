@@ -1,4 +1,4 @@
--- `provenance::step::end_step` meets its contract: only newlines may be left. Assumes nothing.
+-- `provenance::step::end_step` meets its contract: only newlines may be left.
 use mathlib.Core.Path.{sym, _∙_}
 use Rattle.provenance.proofs.Steps.{end-fits, end-not}
 use borrow.Author.Needs.{needs}

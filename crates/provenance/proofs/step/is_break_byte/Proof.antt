@@ -1,4 +1,4 @@
--- `provenance::step::is_break_byte` meets its contract: it asks the questions in turn. Assumes nothing.
+-- `provenance::step::is_break_byte` meets its contract: it asks the questions in turn.
 use mathlib.Core.Path.{sym, ap, _∙_}
 use mathlib.Core.Bool.{Bool, _||_}
 use lib.Dec.{eqb}

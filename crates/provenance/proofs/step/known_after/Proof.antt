@@ -1,4 +1,4 @@
--- `provenance::step::known_after` meets its contract: it asks as the definition does. Assumes nothing.
+-- `provenance::step::known_after` meets its contract: it asks as the definition does.
 use borrow.Author.Tests.{lt-ltb, le-ltb, eq-eqb, ne-eqb}
 use Rattle.provenance.specs.Looked.{knownAfter}
 use borrow.Author.Needs.{needs}

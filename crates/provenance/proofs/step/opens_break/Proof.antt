@@ -1,4 +1,4 @@
--- `provenance::step::opens_break` meets its contract: first the value's byte, then the source's. Assumes nothing.
+-- `provenance::step::opens_break` meets its contract: first the value's byte, then the source's.
 use mathlib.Core.Path.{sym, _∙_}
 use borrow.Author.Tests.{not-true, not-false}
 use Rattle.provenance.proofs.Steps.{opens-not, opens-wide, opens-newline, opens-return}

@@ -1,4 +1,4 @@
--- `provenance::step::step_at` meets its contract: the four steps in turn, the first as the run tells it. Assumes nothing.
+-- `provenance::step::step_at` meets its contract: the four steps in turn, the first as the run tells it.
 use mathlib.Core.Path.{refl, ap, _∙_}
 use native.Mathlib.Omega.{arith}
 use lib.ListN.{drop, drop-of-length-le}
@@ -6,7 +6,7 @@ use lib.Seq.{drop-cons}
 use mathlib.Core.Bool.{Bool}
 use Rattle.provenance.specs.Run.{whiteRun}
 use Rattle.provenance.specs.Grammar.{isBlock, rulesOf, breakPair}
-use Rattle.provenance.proofs.Parts.{part-is}
+use Rattle.letters.proofs.Chunks.{part-is}
 use Rattle.provenance.specs.EscapeLaws.{escape-nowhere}
 use Rattle.provenance.proofs.Steps.{found, found-inside, step-break, step-escape, step-end, step-equal, step-nothing}
 use borrow.Author.Needs.{needs}

@@ -1,24 +1,22 @@
 -- `provenance::walk::walk_scalar_provenance` meets its contract. The loop's invariant: a reading from here on gives one from the start and
 -- the other way round, its pieces are those written and those of the rest (`Going`), and no run from here to `known` holds a newline. The
--- measure is what is left of the source and of the value. Assumes nothing.
+-- measure is what is left of the source and of the value.
 use mathlib.Core.Path.{_≡_, refl, sym, ap, _∙_}
 use mathlib.Core.Logic.{⊎-elim, _⊎_}
 use Prim.Native.Nat.{ℕ, _+_, _-_, _≤_, _<_}
 use native.Mathlib.Omega.{arith}
-use lib.ListN.{length, drop, length-drop}
+use lib.ListN.{length}
 use borrow.Author.Needs.{needs}
 use Rattle.provenance.specs.declared.step.Step.{Step}
 use Rattle.provenance.specs.declared.step.Step.the-variants.{Verbatim, Replacement}
 use Rattle.provenance.specs.Grammar.{isBlock, rulesOf, stepAt}
 use Rattle.provenance.specs.Writing.{writtenLen}
-use Rattle.measure.specs.Letters.{Letters}
 use Rattle.provenance.specs.LetterLaws.{letters-steps}
 use Rattle.provenance.specs.Escape.{escapesReach}
 use Rattle.provenance.specs.EscapeLaws.{style-fair}
 use Rattle.provenance.specs.StepLaws.{Fair, grammar-fair}
 use Rattle.provenance.proofs.Steps.{Clear, tells, run-small, clear-after, clear-on}
-use Rattle.provenance.proofs.Parts.{part-is}
-use Rattle.provenance.proofs.Turn.{Going, begins, on-verbatim, on-letters, on-replacement, within-of}
+use Rattle.provenance.proofs.Turn.{Going, begins, on-verbatim, on-letters, on-replacement}
 use Rattle.provenance.proofs.Walks.{ends-stuck, ends-listed, ends-full}
 use Rattle.provenance.proofs.walk.walk_scalar_provenance.Statement.{statement}
 use Rattle.provenance.proofs.walk.walk_scalar_provenance.Tie as tie
@@ -54,30 +52,6 @@ is-verbatim c = sym (c .before .before .before .step-at .ensures) ∙ c .before 
 verbatim-bounds : (c : tie.After-known-told Inv-loop μ-loop)
     → (0 < c .before .t .given .0 .0) × (c .before .before .before .before .before .before .before .loop .s + c .before .t .given .0 .0 ≤ length (c .before .before .before .before .before .before .before .before .before .before .before .args .src .now)) × (c .before .before .before .before .before .before .before .loop .v + c .before .t .given .0 .0 ≤ length (c .before .before .before .before .before .before .before .before .before .before .before .args .value .now))
 verbatim-bounds c = fair-here (c .before .before .before .before .before .before) .same (c .before .before .before .before .before .before .before .loop .s) (c .before .before .before .before .before .before .before .loop .v) (c .before .t .given .0 .0) (c .before .before .before .before .before .before .loop-test .taken) (is-verbatim c)
-
--- and the letters after it
-abbrev reached-s : (c : tie.After-known-told Inv-loop μ-loop) → ℕ
-reached-s c = c .before .before .before .before .before .before .before .loop .s + c .before .t .given .0 .0
-
-abbrev reached-v : (c : tie.After-known-told Inv-loop μ-loop) → ℕ
-reached-v c = c .before .before .before .before .before .before .before .loop .v + c .before .t .given .0 .0
-
-letters-here : (c : tie.After-letters Inv-loop μ-loop) → Letters (drop (reached-s (c .before .before .before)) (c .before .before .before .before .before .before .before .before .before .before .before .before .before .before .args .src .now)) (drop (reached-v (c .before .before .before)) (c .before .before .before .before .before .before .before .before .before .before .before .before .before .before .args .value .now)) (c .letters .result)
-letters-here c =
-    let a = c .before .before .before .before .before .before .before .before .before .before .before .before .before .before .args in
-    rw (part-is (a .src .now) (reached-s (c .before .before .before)), part-is (a .value .now) (reached-v (c .before .before .before))) at (c .letters .ensures)
-
-letters-bounds : (c : tie.After-letters Inv-loop μ-loop)
-    → (reached-s (c .before .before .before) + c .letters .result ≤ length (c .before .before .before .before .before .before .before .before .before .before .before .before .before .before .args .src .now)) × (reached-v (c .before .before .before) + c .letters .result ≤ length (c .before .before .before .before .before .before .before .before .before .before .before .before .before .before .args .value .now))
-letters-bounds c =
-    let a = c .before .before .before .before .before .before .before .before .before .before .before .before .before .before .args in
-    let b = verbatim-bounds (c .before .before .before) in
-    let l = letters-here c in
-    let s = l .run .in-source in
-    let v = l .run .in-value in
-    let ds = length-drop (reached-s (c .before .before .before)) (a .src .now) in
-    let dv = length-drop (reached-v (c .before .before .before)) (a .value .now) in
-    (omega arith, omega arith)
 
 -- the step is a replacement
 is-replacement : (c : tie.After-known-told2 Inv-loop μ-loop) → steps (c .before .before .before .before .before .before) (c .before .before .before .before .before .before .before .loop .s) (c .before .before .before .before .before .before .before .loop .v) ≡ Replacement (c .before .t2 .given .0 .0) (c .before .t2 .given .0 .1 .0)
@@ -123,43 +97,28 @@ add-s c = let b = verbatim-bounds c in omega arith
 add-v : tie.Need-add-v Inv-loop μ-loop
 add-v c = let b = verbatim-bounds c in omega arith
 
-sub-letters : tie.Need-sub-letters Inv-loop μ-loop
-sub-letters c = let b = verbatim-bounds c in omega arith
-
-part-letters-start : tie.Need-part-letters-start Inv-loop μ-loop
-part-letters-start c = let b = verbatim-bounds c in omega arith
-
-part-letters-end : tie.Need-part-letters-end Inv-loop μ-loop
-part-letters-end c = let b = verbatim-bounds c in omega arith
-
-sub-letters-2 : tie.Need-sub-letters-2 Inv-loop μ-loop
-sub-letters-2 c = let b = verbatim-bounds (c .before) in omega arith
-
-part-letters-start-2 : tie.Need-part-letters-start-2 Inv-loop μ-loop
-part-letters-start-2 c = let b = verbatim-bounds (c .before) in omega arith
-
-part-letters-end-2 : tie.Need-part-letters-end-2 Inv-loop μ-loop
-part-letters-end-2 c = let b = verbatim-bounds (c .before) in omega arith
+letters-requires : tie.Need-letters-requires Inv-loop μ-loop
+letters-requires c κs = let b = verbatim-bounds c in (omega arith, omega arith)
 
 add-s-2 : tie.Need-add-s-2 Inv-loop μ-loop
-add-s-2 c = let b = letters-bounds c in omega arith
+add-s-2 c = let b = c .letters .ensures .in-source in omega arith
 
 add-v-2 : tie.Need-add-v-2 Inv-loop μ-loop
-add-v-2 c = let b = letters-bounds c in omega arith
+add-v-2 c = let b = c .letters .ensures .in-value in omega arith
 
 loop-less : tie.Need-loop-less Inv-loop μ-loop
-loop-less c = let b = verbatim-bounds (c .before .before .before) in let l = letters-bounds c in omega arith
+loop-less c = let b = verbatim-bounds (c .before) in let l = c .letters .ensures in let in-source = l .in-source in let in-value = l .in-value in omega arith
 
 loop-again : tie.Need-loop-again Inv-loop μ-loop
 loop-again c =
-    let t = c .before .before .before in
+    let t = c .before in
     let i = t .before .before .before .before .before .before in
     let a = i .before .before .before .before .before .args in
     let w = i .before .loop in
     let k = t .before .t .given .0 .0 in
-    let b = letters-bounds c in
+    let l = c .letters .ensures in
     let g = on-verbatim _ _ _ _ _ _ (fair-here i) _ (w .s) (w .v) (w .from) (w .n) (w .inv .0) (i .loop-test .taken) k (is-verbatim t) in (
-      on-letters _ _ _ _ _ _ (fair-here i) _ (w .s + k) (w .v + k) (w .from) (w .n) (c .letters .result) g (b .1) (letters-steps (a .style) (a .column) (a .src .now) (a .value .now) (w .s + k) (w .v + k) (c .letters .result) (letters-here c)),
+      on-letters _ _ _ _ _ _ (fair-here i) _ (w .s + k) (w .v + k) (w .from) (w .n) (c .letters .result) g (l .in-value) (letters-steps (a .style) (a .column) (a .src .now) (a .value .now) (w .s + k) (w .v + k) (c .letters .result) (l .letters)),
       clear-on (a .src .now) (w .s) (w .s + k + c .letters .result) (t .before .before .before .before .known-after .result) (omega arith) (clear-here (t .before .before .before .before)),
     )
 
@@ -190,21 +149,17 @@ loop-again-2 c =
     let w = c .before .before .before .before .before .before .before .before .before .before .before .loop in
     (replaced c, clear-on (c .before .before .before .before .before .before .before .before .before .before .before .before .before .before .before .args .src .now) (w .s) (w .s + c .before .before .before .before .before .t2 .given .0 .0) (c .before .before .before .before .before .before .before .before .known-after .result) (omega arith) (clear-here (c .before .before .before .before .before .before .before .before)))
 
-clear-requires : tie.Need-clear-requires Inv-loop μ-loop
-clear-requires c κs = within-of _ _ _ (c .written-len .ensures)
-
 same-length : tie.Need-same-length Inv-loop μ-loop
-same-length c = c .before .before .clear .kept .0 ∙ c .before .before .before .before .before .before .before .before .before .before .before .loop .inv .0 .held .size
+same-length c = c .before .before .clear-pieces .kept .0 ∙ c .before .before .before .before .before .before .before .before .before .before .loop .inv .0 .held .size
 
 returns : tie.Need-returns Inv-loop μ-loop
 returns c =
-    let a = c .before .before .before .before .before .before .before .before .before .before .before .before .before .before .before .args in
-    let w = c .before .before .before .before .before .before .before .before .before .before .before .loop in
+    let a = c .before .before .before .before .before .before .before .before .before .before .before .before .before .before .args in
+    let w = c .before .before .before .before .before .before .before .before .before .before .loop in
     let g = w .inv .0 in
-    let k = c .before .before .before .written-len in
     ends-stuck (rulesOf (a .style) (a .column)) (style-fair (a .style)) (a .src .now) (a .value .now) (a .base) (length (a .pieces .now)) _ (w .s) (w .v) (w .from) (w .n) g
-    (c .before .before .before .before .before .before .before .before .before .before .loop-test .taken) (sym (c .before .before .before .before .before .before .before .step-at .ensures) ∙ c .before .before .before .before .before .enum-told .given .1)
-    (k .result) _ (k .ensures ∙ ap (λ (j : ℕ). writtenLen (w .n) j) (g .held .size)) (c .before .before .clear .ensures)
+    (c .before .before .before .before .before .before .before .before .before .loop-test .taken) (sym (c .before .before .before .before .before .before .step-at .ensures) ∙ c .before .before .before .before .enum-told .given .1)
+    _ _ (ap (λ (j : ℕ). writtenLen (w .n) j) (g .held .size)) (c .before .before .clear-pieces .ensures)
 
 put-open-requires : tie.Need-put-open-requires Inv-loop μ-loop
 put-open-requires c κs =
@@ -214,25 +169,21 @@ put-open-requires c κs =
     let few = g .few in
     (omega arith, omega arith, omega arith)
 
-clear-requires-2 : tie.Need-clear-requires-2 Inv-loop μ-loop
-clear-requires-2 c κs = within-of _ _ _ (c .written-len2 .ensures)
-
 same-length-2 : tie.Need-same-length-2 Inv-loop μ-loop
-same-length-2 c = c .before .before .clear2 .kept .0 ∙ c .before .before .before .before .before .before .before .before .before .put-open .kept .0 ∙ c .before .before .before .before .before .before .before .before .before .before .before .before .loop .inv .0 .held .size
+same-length-2 c = c .before .before .clear-pieces2 .kept .0 ∙ c .before .before .before .before .before .before .before .before .put-open .kept .0 ∙ c .before .before .before .before .before .before .before .before .before .before .before .loop .inv .0 .held .size
 
 returns-2 : tie.Need-returns-2 Inv-loop μ-loop
 returns-2 c =
-    let a = c .before .before .before .before .before .before .before .before .before .before .before .before .before .before .before .before .args in
-    let w = c .before .before .before .before .before .before .before .before .before .before .before .before .loop in
+    let a = c .before .before .before .before .before .before .before .before .before .before .before .before .before .before .before .args in
+    let w = c .before .before .before .before .before .before .before .before .before .before .before .loop in
     let g = w .inv .0 in
-    let o = c .before .before .before .before .before .before .before .before .before .put-open in
-    let k = c .before .before .before .written-len2 in
+    let o = c .before .before .before .before .before .before .before .before .put-open in
     let size : length (o .last .0) ≡ length (a .pieces .now) = o .kept .0 ∙ g .held .size in
-    let most = c .before .before .before .before .before .before .room .ensures in
-    let over = c .before .before .before .before .before .if1 .taken in
+    let most = c .before .before .before .before .before .room .ensures in
+    let over = c .before .before .before .before .if1 .taken in
     ends-full (rulesOf (a .style) (a .column)) (style-fair (a .style)) (a .src .now) (a .value .now) (a .base) (length (a .pieces .now)) _ (w .s) (w .v) (w .from) (w .n) g
-    (c .before .before .before .before .before .before .before .before .before .before .before .loop-test .left) (o .result) (o .last .0) (o .ensures .0) (o .ensures .1)
-    (omega arith) (k .result) _ (k .ensures ∙ ap (λ (j : ℕ). writtenLen (o .result) j) size) (c .before .before .clear2 .ensures)
+    (c .before .before .before .before .before .before .before .before .before .before .loop-test .left) (o .result) (o .last .0) (o .ensures .0) (o .ensures .1)
+    (omega arith) _ _ (ap (λ (j : ℕ). writtenLen (o .result) j) size) (c .before .before .clear-pieces2 .ensures)
 
 same-length-3 : tie.Need-same-length-3 Inv-loop μ-loop
 same-length-3 c = c .before .before .before .before .put-open .kept .0 ∙ c .before .before .before .before .before .before .before .loop .inv .0 .held .size
@@ -252,7 +203,6 @@ returns-3 c =
 pub walk-scalar-provenance-spec : {M : Type 1} → statement M
 walk-scalar-provenance-spec =
     tie.close
-    (tie.spec Inv-loop μ-loop loop-holds (λ c κs. tt) known-after-requires step-at-requires (λ c. search needs) add-s add-v sub-letters
-    part-letters-start part-letters-end sub-letters-2 part-letters-start-2 part-letters-end-2 (λ c κs. tt) add-s-2 add-v-2 loop-less loop-again
-    (λ c. search needs) put-replacement-requires add-s-3 add-v-3 loop-less-2 loop-again-2 (λ c. search needs) (λ c κs. tt) clear-requires same-length
-    returns put-open-requires (λ c κs. tt) (λ c κs. tt) clear-requires-2 same-length-2 returns-2 same-length-3 returns-3)
+    (tie.spec Inv-loop μ-loop loop-holds (λ c κs. tt) known-after-requires step-at-requires (λ c. search needs) add-s add-v letters-requires add-s-2
+    add-v-2 loop-less loop-again (λ c. search needs) put-replacement-requires add-s-3 add-v-3 loop-less-2 loop-again-2 (λ c. search needs)
+    (λ c κs. tt) same-length returns put-open-requires (λ c κs. tt) (λ c κs. tt) same-length-2 returns-2 same-length-3 returns-3)

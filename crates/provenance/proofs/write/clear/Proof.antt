@@ -1,48 +1,41 @@
--- `provenance::write::clear` meets its contract. The loop's invariant: zeros so far, then the buffer as it was. The measure is what is
--- left to clear. Assumes nothing.
+-- `provenance::write::clear` meets its contract: the first i numbers are zero, the others as they were; i goes up to the end.
 use mathlib.Core.Path.{_≡_, refl, ap, _∙_}
-use mathlib.Core.List.{List}
-use Prim.Native.Nat.{ℕ, _-_, _≤_}
-use lib.ListN.{length, set, length-set}
+use Prim.Native.Nat.{ℕ, _+_, _-_, _≤_, _<_, zero-le}
 use native.Mathlib.Omega.{arith}
-use borrow.Author.Fill.{fill-more}
-use Rattle.provenance.specs.Writing.{clearedTo}
+use mathlib.Core.List.{List, _++_, append-nil}
+use lib.ListN.{length, set, drop, replicate, length-set}
+use lib.Seq.{drop-length}
+use borrow.Author.Fill.{fill-none, fill-more}
+use borrow.Author.Needs.{needs}
 use Rattle.provenance.proofs.write.clear.Statement.{statement}
 use Rattle.provenance.proofs.write.clear.Tie as tie
 
--- `provenance::write::clear` meets its contract. The loop's invariant: zeros so far, then the buffer as it was. The measure is what is
-
 abbrev Inv-loop : tie.InvT-loop
-Inv-loop pieces₀ end i₀ pieces i = (pieces ≡ clearedTo i pieces₀) × (i ≤ end) × (length pieces ≡ length pieces₀)
+Inv-loop buffer₀ i₀ buffer i = (i ≤ length buffer₀) × (buffer ≡ replicate i 0 ++ drop i buffer₀) × (length buffer ≡ length buffer₀)
 
 abbrev μ-loop : tie.MeasureT-loop
-μ-loop pieces₀ end i₀ pieces i = end - i
+μ-loop buffer₀ i₀ buffer i = length buffer₀ - i
 
 loop-holds : tie.Need-loop-holds Inv-loop μ-loop
-loop-holds c = (refl, omega arith, refl)
-
-mul-pieces : tie.Need-mul-pieces Inv-loop μ-loop
-mul-pieces c = omega arith
-
-slice-write-pieces : tie.Need-slice-write-pieces Inv-loop μ-loop
-slice-write-pieces c = omega arith
-
-add-i : tie.Need-add-i Inv-loop μ-loop
-add-i c = omega arith
-
-loop-less : tie.Need-loop-less Inv-loop μ-loop
-loop-less c = omega arith
+loop-holds c = (zero-le, fill-none _ 0, refl)
 
 loop-again : tie.Need-loop-again Inv-loop μ-loop
-loop-again c = let l = c .before in (ap (λ (x : List ℕ). set x (l .loop .i) 0) (l .loop .inv .0) ∙ fill-more (l .loop .i) 0 (l .before .args .pieces .now) (omega arith), omega arith, simp length-set (omega arith))
+loop-again c =
+    let i = c .before .loop .i in
+    let b = c .before .before .args .buffer .now in
+    let l : i < length b = omega arith in
+    (omega arith, ap (λ (x : List ℕ). set x i 0) (c .before .loop .inv .1) ∙ fill-more i 0 b l, simp length-set (c .before .loop .inv .2))
 
 same-length : tie.Need-same-length Inv-loop μ-loop
 same-length c = c .before .loop .inv .2
 
 returns : tie.Need-returns Inv-loop μ-loop
-returns c = let e : c .before .loop .i ≡ c .before .before .args .end = omega arith in c .before .loop .inv .0 ∙ ap (λ (k : ℕ). clearedTo k (c .before .before .args .pieces .now)) e
+returns c =
+    let b = c .before .before .args .buffer .now in
+    let e : c .before .loop .i ≡ length b = omega arith in
+    c .before .loop .inv .1 ∙ ap (λ (k : ℕ). replicate k 0 ++ drop k b) e ∙ ap (λ (x : List ℕ). replicate (length b) 0 ++ x) (drop-length b) ∙ append-nil (replicate (length b) 0)
 
 pub clear-spec : {M : Type 1} → statement M
 clear-spec =
     tie.close
-    (tie.spec Inv-loop μ-loop loop-holds mul-pieces slice-write-pieces add-i loop-less loop-again same-length returns)
+    (tie.spec Inv-loop μ-loop loop-holds (λ c. search needs) (λ c. omega arith) (λ c. omega arith) (λ c. omega arith) loop-again same-length returns)

@@ -1,11 +1,9 @@
--- `provenance::write::put_open` meets its contract: it writes where there is something to write. Assumes nothing.
+-- `provenance::write::put_open` meets its contract: it writes where there is something to write.
 use borrow.Author.Tests.{lt-ltb, le-ltb}
 use Rattle.provenance.specs.Writing.{putOpen}
 use borrow.Author.Needs.{needs}
 use Rattle.provenance.proofs.write.put_open.Statement.{statement}
 use Rattle.provenance.proofs.write.put_open.Tie as tie
-
--- `provenance::write::put_open` meets its contract: it writes where there is something to write. Assumes nothing.
 
 returns : tie.Need-returns
 unfolding putOpen

@@ -1,4 +1,4 @@
--- `provenance::write::put_piece` meets its contract: four stores, where there is room. Assumes nothing.
+-- `provenance::write::put_piece` meets its contract: four stores, where there is room.
 use borrow.Author.Tests.{lt-ltb, le-ltb}
 use native.Mathlib.Omega.{arith}
 use lib.ListN.{length, length-set}

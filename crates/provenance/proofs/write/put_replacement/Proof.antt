@@ -1,4 +1,4 @@
--- `provenance::write::put_replacement` meets its contract: one write after the other. Assumes nothing.
+-- `provenance::write::put_replacement` meets its contract: one write after the other.
 use mathlib.Core.Path.{ap, _∙_}
 use native.Mathlib.Omega.{arith}
 use Prim.Native.Nat.{ℕ, _+_, _≤_}

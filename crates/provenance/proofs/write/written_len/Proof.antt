@@ -1,4 +1,4 @@
--- `provenance::write::written_len` meets its contract: the smaller of two numbers is what the test says. Assumes nothing.
+-- `provenance::write::written_len` meets its contract: the smaller of two numbers is what the test says.
 use mathlib.Core.Path.{ap}
 use borrow.Author.Tests.{lt-ltb, le-ltb}
 use native.Mathlib.Omega.{arith}
@@ -15,7 +15,7 @@ returns c = rw (lt-ltb (c .before .before .args .n) (room (c .before .before .ar
 
 returns-2 : tie.Need-returns-2
 unfolding writtenLen
-returns-2 c = rw (le-ltb (c .before .before .args .n) (room (c .before .before .args .size)) (let e = c .before .room .ensures in let h = c .if1 .left in omega arith)) (ap (λ (k : ℕ). k * 4) (c .before .room .ensures))
+returns-2 c = rw (le-ltb (c .before .before .args .n) (room (c .before .before .args .size)) (let e = c .before .room .ensures in let h = c .if1 .left in omega arith)) (ap (λ (k : ℕ). 4 * k) (c .before .room .ensures))
 
 pub written-len-spec : {M : Type 1} → statement M
 written-len-spec = tie.close (tie.spec (λ c κs. search needs) (λ c. search needs) returns (λ c. search needs) returns-2)

@@ -1,14 +1,14 @@
--- `quarto_yaml_scalar` is `scalar` in 32 bits: its counts are 1 and what is let in of pieces. Assumes nothing.
+-- `quarto_yaml_scalar` is `scalar` in 32 bits: its counts are 1 and what is let in of pieces.
 use mathlib.Core.Path.{ap, _∙_}
 use lib.ListN.{length}
 use native.Mathlib.Omega.{arith}
 use borrow.Author.Needs.{needs}
-use Rattle.parser.specs.Layout.{pieceLimit}
-use Rattle.parser.specs.Record.{nodeNumbers}
-use Rattle.parser.specs.Call.{readingScalar}
+use Rattle.records.specs.Layout.{pieceLimit}
+use Rattle.records.specs.Record.{nodeNumbers}
+use Rattle.spans.specs.Scalar.{mark}
 use Rattle.parser.specs.Bounds.{scalar-bounded}
 use Rattle.quarto_yaml.proofs.Rows.{told-fits}
-use Rattle.quarto_yaml.specs.Answer.{three}
+use Rattle.quarto_yaml.specs.Answer.{three, scalarOutcome}
 use Rattle.quarto_yaml.proofs.build.quarto_yaml_scalar.Statement.{statement}
 use Rattle.quarto_yaml.proofs.build.quarto_yaml_scalar.Tie as tie
 
@@ -16,9 +16,9 @@ of-answer-requires : tie.Need-of-answer-requires
 of-answer-requires c κs =
     let a = c .before .before .before .before .before .before .before .before .args in
     told-fits 1 pieceLimit
-    (readingScalar (a .text .now) (a .index) (a .column) (a .style) (a .empty-span) (a .value .now) (length (a .pieces .now))) _
+    (scalarOutcome (a .text .now) (a .index) (a .column) (a .style) (a .empty-span) (a .value .now) (a .pieces .now)) _
     (omega arith) (omega arith)
-    (scalar-bounded (a .text .now) (a .index) (a .column) (a .style) (a .empty-span) (a .value .now) (length (a .pieces .now)))
+    (scalar-bounded (a .text .now) (mark (a .index) (a .column) (a .style) (a .empty-span)) (a .value .now) (length (a .pieces .now)))
     (c .before .before .before .scalar .ensures .answer)
 
 returns : tie.Need-returns
@@ -31,5 +31,4 @@ returns c =
     }
 
 pub quarto-yaml-scalar-spec : {M : Type 1} → statement M
-quarto-yaml-scalar-spec =
-    tie.close (tie.spec (λ c κs. search needs) of-answer-requires (λ c κs. search needs) (λ c. search needs) returns)
+quarto-yaml-scalar-spec = tie.close (tie.spec (λ c κs. search needs) of-answer-requires (λ c κs. search needs) (λ c. search needs) returns)

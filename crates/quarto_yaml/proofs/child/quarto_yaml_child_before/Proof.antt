@@ -1,4 +1,4 @@
--- `quarto_yaml_child_before` is `child_before` in 32 bits: the record that it answers has a number of at most the one it is asked about. Assumes nothing.
+-- `quarto_yaml_child_before` is `child_before` in 32 bits: the record that it answers has a number of at most the one it is asked about.
 use mathlib.Core.Path.{ap, _∙_}
 use native.Mathlib.Omega.{arith}
 use borrow.Author.Needs.{needs}
@@ -13,8 +13,6 @@ or-none-requires c κs =
     fits (start .args .c) (omega arith) (c .child-before .ensures)
     (child-before-at-most (start .args .records .now) (start .args .c))
 
-returns : tie.Need-returns
-returns c = c .or-none .ensures ∙ ap orNone (c .before .child-before .ensures)
-
 pub quarto-yaml-child-before-spec : {M : Type 1} → statement M
-quarto-yaml-child-before-spec = tie.close (tie.spec (λ c κs. search needs) or-none-requires returns)
+quarto-yaml-child-before-spec =
+    tie.close (tie.spec (λ c κs. search needs) or-none-requires (λ c. c .or-none .ensures ∙ ap orNone (c .before .child-before .ensures)))

@@ -1,4 +1,4 @@
--- `quarto_yaml_get_array_item` is `get_array_item` in 32 bits: the record answered has a number of at most the one asked about. Assumes nothing.
+-- `quarto_yaml_get_array_item` is `get_array_item` in 32 bits: the record answered has a number of at most the one asked about.
 use mathlib.Core.Path.{ap, _∙_}
 use native.Mathlib.Omega.{arith}
 use borrow.Author.Needs.{needs}
@@ -13,9 +13,6 @@ or-none-requires c κs =
     fits (start .args .n) (omega arith) (c .get-array-item .ensures)
     (item-at-most (start .args .records .now) (start .args .n) (start .args .i))
 
-returns : tie.Need-returns
-returns c = c .or-none .ensures ∙ ap orNone (c .before .get-array-item .ensures)
-
 pub quarto-yaml-get-array-item-spec : {M : Type 1} → statement M
 quarto-yaml-get-array-item-spec =
-    tie.close (tie.spec (λ c κs. search needs) or-none-requires returns)
+    tie.close (tie.spec (λ c κs. search needs) or-none-requires (λ c. c .or-none .ensures ∙ ap orNone (c .before .get-array-item .ensures)))

@@ -1,4 +1,4 @@
--- `quarto_yaml_get_hash_value` is `get_hash_value` in 32 bits: the record answered has a number of at most the one asked about. Assumes nothing.
+-- `quarto_yaml_get_hash_value` is `get_hash_value` in 32 bits: the record answered has a number of at most the one asked about.
 use mathlib.Core.Path.{ap, _∙_}
 use native.Mathlib.Omega.{arith}
 use borrow.Author.Needs.{needs}
@@ -13,9 +13,6 @@ or-none-requires c κs =
     fits (start .args .n) (omega arith) (c .get-hash-value .ensures)
     (value-at-most (start .args .records .now) (start .args .events .now) (start .args .key .now) (start .args .n))
 
-returns : tie.Need-returns
-returns c = c .or-none .ensures ∙ ap orNone (c .before .get-hash-value .ensures)
-
 pub quarto-yaml-get-hash-value-spec : {M : Type 1} → statement M
 quarto-yaml-get-hash-value-spec =
-    tie.close (tie.spec (λ c κs. search needs) or-none-requires returns)
+    tie.close (tie.spec (λ c κs. search needs) or-none-requires (λ c. c .or-none .ensures ∙ ap orNone (c .before .get-hash-value .ensures)))

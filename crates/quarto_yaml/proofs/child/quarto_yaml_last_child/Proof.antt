@@ -1,4 +1,4 @@
--- `quarto_yaml_last_child` is `last_child` in 32 bits: the record that it answers has a number of at most the one it is asked about. Assumes nothing.
+-- `quarto_yaml_last_child` is `last_child` in 32 bits: the record that it answers has a number of at most the one it is asked about.
 use mathlib.Core.Path.{ap, _∙_}
 use native.Mathlib.Omega.{arith}
 use borrow.Author.Needs.{needs}
@@ -13,8 +13,6 @@ or-none-requires c κs =
     fits (start .args .n) (omega arith) (c .last-child .ensures)
     (last-at-most (start .args .records .now) (start .args .n))
 
-returns : tie.Need-returns
-returns c = c .or-none .ensures ∙ ap orNone (c .before .last-child .ensures)
-
 pub quarto-yaml-last-child-spec : {M : Type 1} → statement M
-quarto-yaml-last-child-spec = tie.close (tie.spec (λ c κs. search needs) or-none-requires returns)
+quarto-yaml-last-child-spec =
+    tie.close (tie.spec (λ c κs. search needs) or-none-requires (λ c. c .or-none .ensures ∙ ap orNone (c .before .last-child .ensures)))

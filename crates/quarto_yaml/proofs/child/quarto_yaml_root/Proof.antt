@@ -1,4 +1,4 @@
--- `quarto_yaml_root` is `root` in 32 bits: the record that it answers has a number of at most the one it is asked about. Assumes nothing.
+-- `quarto_yaml_root` is `record_before` in 32 bits: the record that it answers has a number of at most the one it is asked about.
 use mathlib.Core.Path.{ap, _∙_}
 use native.Mathlib.Omega.{arith}
 use borrow.Author.Needs.{needs}
@@ -10,11 +10,8 @@ use Rattle.quarto_yaml.proofs.child.quarto_yaml_root.Tie as tie
 or-none-requires : tie.Need-or-none-requires
 or-none-requires c κs =
     let start = c .before .before in
-    fits (start .args .nodes) (omega arith) (c .root .ensures)
+    fits (start .args .nodes) (omega arith) (c .record-before .ensures)
     (before-at-most (start .args .records .now) (start .args .nodes))
 
-returns : tie.Need-returns
-returns c = c .or-none .ensures ∙ ap orNone (c .before .root .ensures)
-
 pub quarto-yaml-root-spec : {M : Type 1} → statement M
-quarto-yaml-root-spec = tie.close (tie.spec (λ c κs. search needs) or-none-requires returns)
+quarto-yaml-root-spec = tie.close (tie.spec (λ c κs. search needs) or-none-requires (λ c. c .or-none .ensures ∙ ap orNone (c .before .record-before .ensures)))

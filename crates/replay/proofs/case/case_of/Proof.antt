@@ -1,4 +1,4 @@
--- `replay::case::case_of` meets its contract: each number is read where the numbers before it say. Assumes nothing.
+-- `replay::case::case_of` meets its contract: each number is read where the numbers before it say.
 use Rattle.replay.specs.Case.{layout}
 use borrow.Author.Needs.{needs}
 use Rattle.replay.proofs.case.case_of.Statement.{statement}

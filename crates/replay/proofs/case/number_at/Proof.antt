@@ -1,4 +1,4 @@
--- `replay::case::number_at` meets its contract: past the end all four bytes are 0. Assumes nothing.
+-- `replay::case::number_at` meets its contract: past the end all four bytes are 0.
 use Prim.Native.Nat.{_+_}
 use native.Mathlib.Omega.{arith}
 use lib.ListN.{List·getD-eq-default}

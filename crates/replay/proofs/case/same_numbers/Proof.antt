@@ -1,5 +1,5 @@
 -- `replay::case::same_numbers` meets its contract. The loop's invariant: the rest of the buffer and of the list compare as the whole
--- does. The measure is what is left of the buffer. Assumes nothing.
+-- does. The measure is what is left of the buffer.
 use borrow.Author.Needs.{needs}
 use mathlib.Core.Path.{_≡_, refl, sym, _∙_, ap}
 use Prim.Native.Nat.{ℕ, _+_, _-_}
@@ -16,12 +16,6 @@ Inv-loop buffer list i₀ at₀ i at = sameNumbers (drop i buffer) (drop at list
 abbrev μ-loop : tie.MeasureT-loop
 μ-loop buffer list i₀ at₀ i at = length buffer - i
 
-loop-holds : tie.Need-loop-holds Inv-loop μ-loop
-loop-holds c = refl
-
-shared-slice-read-if1 : tie.Need-shared-slice-read-if1 Inv-loop μ-loop
-shared-slice-read-if1 c = omega arith
-
 returns : tie.Need-returns Inv-loop μ-loop
 returns c =
     let buffer = c .before .before .before .before .before .before .before .args .buffer .now in
@@ -29,12 +23,6 @@ returns c =
     let i = c .before .before .before .before .loop .i in
     let at = c .before .before .before .before .loop .at in
     sym (numbers-differ buffer list i at (c .before .before .before .loop-test .taken) (λ e. c .if1 .taken (e ∙ sym (c .before .number-at .ensures)))) ∙ c .before .before .before .before .loop .inv
-
-add-i : tie.Need-add-i Inv-loop μ-loop
-add-i c = omega arith
-
-loop-less : tie.Need-loop-less Inv-loop μ-loop
-loop-less c = omega arith
 
 loop-again : tie.Need-loop-again Inv-loop μ-loop
 loop-again c =
@@ -57,5 +45,5 @@ returns-2 c =
 pub same-numbers-spec : {M : Type 1} → statement M
 same-numbers-spec =
     tie.close
-    (tie.spec Inv-loop μ-loop loop-holds (λ c. search needs) shared-slice-read-if1 (λ c κs. tt) returns add-i (λ c κs. tt) loop-less loop-again
-    returns-2)
+    (tie.spec Inv-loop μ-loop (λ c. refl) (λ c. search needs) (λ c. omega arith) (λ c κs. tt) returns (λ c. omega arith) (λ c κs. tt)
+    (λ c. omega arith) loop-again returns-2)

@@ -1,14 +1,8 @@
--- `replay::tally::more` meets its contract: each return by the test that leads to it. Assumes nothing.
+-- `replay::tally::more` meets its contract: each return by the test that leads to it.
 use borrow.Author.Tests.{lt-ltb, le-ltb}
 use borrow.Author.Needs.{needs}
 use Rattle.replay.proofs.tally.more.Statement.{statement}
 use Rattle.replay.proofs.tally.more.Tie as tie
 
-returns : tie.Need-returns
-returns c = rw (lt-ltb _ _ (c .if1 .taken))
-
-returns-2 : tie.Need-returns-2
-returns-2 c = rw (le-ltb _ _ (c .if1 .left))
-
 pub more-spec : {M : Type 1} → statement M
-more-spec = tie.close (tie.spec (λ c. search needs) returns returns-2)
+more-spec = tie.close (tie.spec (λ c. search needs) (λ c. rw (lt-ltb _ _ (c .if1 .taken))) (λ c. rw (le-ltb _ _ (c .if1 .left))))

@@ -1,4 +1,4 @@
--- `replay_accessors::matched::is_whole` meets its contract: by whether all was the same so far. Assumes nothing.
+-- `replay_accessors::matched::is_whole` meets its contract: by whether all was the same so far.
 use Rattle.replay_accessors.specs.Matched.{matchedWhole}
 use Rattle.replay_accessors.proofs.matched.is_whole.Statement.{statement}
 use Rattle.replay_accessors.proofs.matched.is_whole.Tie as tie

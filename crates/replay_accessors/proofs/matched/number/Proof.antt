@@ -1,4 +1,4 @@
--- `replay_accessors::matched::number` meets its contract: by whether all was the same so far. Assumes nothing.
+-- `replay_accessors::matched::number` meets its contract: by whether all was the same so far.
 use mathlib.Core.Path.{_∙_}
 use borrow.Author.Needs.{needs}
 use Rattle.replay_accessors.specs.Matched.{matchNumber}

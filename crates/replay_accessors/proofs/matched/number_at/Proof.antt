@@ -1,4 +1,4 @@
--- `replay_accessors::matched::number_at` meets its contract: each return by the tests that lead to it. Assumes nothing.
+-- `replay_accessors::matched::number_at` meets its contract: each return by the tests that lead to it.
 use mathlib.Core.Path.{_∙_, sym}
 use borrow.Author.Tests.{lt-ltb, le-ltb, eq-eqb, ne-eqb}
 use borrow.Author.Needs.{needs}

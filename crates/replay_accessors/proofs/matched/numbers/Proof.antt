@@ -1,4 +1,4 @@
--- `replay_accessors::matched::numbers` meets its contract: the first i numbers are matched; i goes up to their count. Assumes nothing.
+-- `replay_accessors::matched::numbers` meets its contract: the first i numbers are matched; i goes up to their count.
 use mathlib.Core.Path.{_≡_, refl, ap, _∙_}
 use Prim.Native.Nat.{_-_, _≤_, _<_, zero-le}
 use native.Mathlib.Omega.{arith}
@@ -17,18 +17,6 @@ Inv-loop list xs matched₀ i₀ matched i = (i ≤ length xs) × (matched ≡ m
 abbrev μ-loop : tie.MeasureT-loop
 μ-loop list xs matched₀ i₀ matched i = length xs - i
 
-loop-holds : tie.Need-loop-holds Inv-loop μ-loop
-loop-holds c = (zero-le, refl)
-
-shared-slice-read-number : tie.Need-shared-slice-read-number Inv-loop μ-loop
-shared-slice-read-number c = omega arith
-
-add-i : tie.Need-add-i Inv-loop μ-loop
-add-i c = omega arith
-
-loop-less : tie.Need-loop-less Inv-loop μ-loop
-loop-less c = omega arith
-
 loop-again : tie.Need-loop-again Inv-loop μ-loop
 loop-again c =
     let w = c .before .before .before .loop in
@@ -36,10 +24,8 @@ loop-again c =
     let more : w .i < length (a .xs .now) = omega arith in
     (omega arith, c .number .ensures ∙ ap (λ (m : Matched). matchNumber (a .list .now) m (getD (a .xs .now) (w .i) 0)) (w .inv .1) ∙ one-more (a .list .now) (a .m) (a .xs .now) (w .i) more)
 
-returns : tie.Need-returns Inv-loop μ-loop
-returns c = c .before .loop .inv .1 ∙ ap (matchAll _ _) (take-all (c .before .loop .i) _ (c .loop-test .left))
-
 pub numbers-spec : {M : Type 1} → statement M
 numbers-spec =
     tie.close
-    (tie.spec Inv-loop μ-loop loop-holds (λ c. search needs) shared-slice-read-number (λ c κs. tt) add-i loop-less loop-again returns)
+    (tie.spec Inv-loop μ-loop (λ c. (zero-le, refl)) (λ c. search needs) (λ c. omega arith) (λ c κs. tt) (λ c. omega arith) (λ c. omega arith)
+    loop-again (λ c. c .before .loop .inv .1 ∙ ap (matchAll _ _) (take-all (c .before .loop .i) _ (c .loop-test .left))))

@@ -1,15 +1,11 @@
--- `replay_accessors::matched::span` meets its contract: case by case. Assumes nothing.
+-- `replay_accessors::matched::span` meets its contract: case by case.
 use borrow.Author.Needs.{needs}
 use Rattle.replay_accessors.proofs.matched.span.Statement.{statement}
 use Rattle.replay_accessors.proofs.matched.span.Tie as tie
 
-returns : tie.Need-returns
-returns c = rw (c .before .before .before .answer .given .1, c .extent .ensures, c .before .number .ensures)
-
-returns-2 : tie.Need-returns-2
-returns-2 c = rw (c .before .enum-told .given .1, c .number2 .ensures)
-
 pub span-spec : {M : Type 1} → statement M
 span-spec =
     tie.close
-    (tie.spec (λ c. search needs) (λ c κs. search needs) (λ c κs. search needs) (λ c. search needs) (λ c κs. search needs) returns returns-2)
+    (tie.spec (λ c. search needs) (λ c κs. search needs) (λ c κs. search needs) (λ c. search needs) (λ c κs. search needs)
+    (λ c. rw (c .before .before .before .answer .given .1, c .two .ensures, c .before .number .ensures))
+    (λ c. rw (c .before .enum-told .given .1, c .number2 .ensures)))

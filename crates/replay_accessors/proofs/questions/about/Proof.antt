@@ -1,4 +1,4 @@
--- `replay_accessors::questions::about` meets its contract. Assumes nothing.
+-- `replay_accessors::questions::about` meets its contract.
 use mathlib.Core.Path.{sym, _∙_}
 use Rattle.replay_accessors.specs.Questions.{aboutRecord}
 use borrow.Author.Needs.{needs}

@@ -1,4 +1,4 @@
--- `replay_accessors::questions::about_children` meets its contract. The loop's invariant: the index past the last one and `back` before it were asked. The measure is what is left. Assumes nothing.
+-- `replay_accessors::questions::about_children` meets its contract. The loop's invariant: the index past the last one and `back` before it were asked. The measure is what is left.
 use mathlib.Core.Path.{_≡_, refl, ap}
 use Prim.Native.Nat.{_-_, _≤_, min}
 use native.Mathlib.Numerals.{add-one}
@@ -16,12 +16,6 @@ abbrev μ-loop : tie.MeasureT-loop
 loop-holds : tie.Need-loop-holds Inv-loop μ-loop
 unfolding fromLast
 loop-holds c = (omega arith, refl)
-
-add-back : tie.Need-add-back Inv-loop μ-loop
-add-back c = omega arith
-
-loop-less : tie.Need-loop-less Inv-loop μ-loop
-loop-less c = omega arith
 
 loop-again : tie.Need-loop-again Inv-loop μ-loop
 unfolding fromLast
@@ -43,4 +37,5 @@ returns c =
 pub about-children-spec : {M : Type 1} → statement M
 about-children-spec =
     tie.close
-    (tie.spec Inv-loop μ-loop (λ c κs. tt) (λ c κs. tt) (λ c κs. tt) loop-holds add-back (λ c κs. tt) (λ c κs. tt) loop-less loop-again returns)
+    (tie.spec Inv-loop μ-loop (λ c κs. tt) (λ c κs. tt) (λ c κs. tt) loop-holds (λ c. omega arith) (λ c κs. tt) (λ c κs. tt) (λ c. omega arith)
+    loop-again returns)

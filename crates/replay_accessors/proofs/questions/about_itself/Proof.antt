@@ -1,4 +1,4 @@
--- `replay_accessors::questions::about_itself` meets its contract. Assumes nothing.
+-- `replay_accessors::questions::about_itself` meets its contract.
 use mathlib.Core.Path.{_∙_, ap}
 use mathlib.Core.List.{_++_}
 use Rattle.node.specs.Record.{recordAt}

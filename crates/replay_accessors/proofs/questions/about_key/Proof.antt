@@ -1,4 +1,4 @@
--- `replay_accessors::questions::about_key` meets its contract. Assumes nothing.
+-- `replay_accessors::questions::about_key` meets its contract.
 use borrow.Author.Needs.{needs}
 use borrow.Author.Tests.{lt-ltb, le-ltb}
 use lib.ListN.{length}

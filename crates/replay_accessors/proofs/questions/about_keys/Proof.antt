@@ -1,4 +1,4 @@
--- `replay_accessors::questions::about_keys` meets its contract. The loop's invariant: the keys before `at` were asked. The measure is what is left. Assumes nothing.
+-- `replay_accessors::questions::about_keys` meets its contract. The loop's invariant: the keys before `at` were asked. The measure is what is left.
 use mathlib.Core.Path.{_≡_, refl}
 use Prim.Native.Nat.{suc, _+_, _-_, _*_, _/_, _≤_}
 use native.Mathlib.Omega.{arith}
@@ -16,12 +16,6 @@ abbrev μ-loop : tie.MeasureT-loop
 loop-holds : tie.Need-loop-holds Inv-loop μ-loop
 unfolding firstKeys
 loop-holds c = (refl, omega arith, refl)
-
-add-at : tie.Need-add-at Inv-loop μ-loop
-add-at c = omega arith
-
-loop-less : tie.Need-loop-less Inv-loop μ-loop
-loop-less c = omega arith
 
 loop-again : tie.Need-loop-again Inv-loop μ-loop
 unfolding firstKeys
@@ -41,6 +35,4 @@ returns c =
     rw (w .inv .2, k)
 
 pub about-keys-spec : {M : Type 1} → statement M
-about-keys-spec =
-    tie.close
-    (tie.spec Inv-loop μ-loop loop-holds (λ c κs. tt) add-at loop-less loop-again returns)
+about-keys-spec = tie.close (tie.spec Inv-loop μ-loop loop-holds (λ c κs. tt) (λ c. omega arith) (λ c. omega arith) loop-again returns)

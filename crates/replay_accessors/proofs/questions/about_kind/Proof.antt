@@ -1,4 +1,4 @@
--- `replay_accessors::questions::about_kind` meets its contract. Assumes nothing.
+-- `replay_accessors::questions::about_kind` meets its contract.
 use mathlib.Core.Path.{_∙_}
 use mathlib.Core.List.{_++_}
 use Rattle.node.specs.Kind.{isScalarAt, isArrayAt, isHashAt, lenAt, isEmptyAt}

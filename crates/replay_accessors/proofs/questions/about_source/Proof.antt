@@ -1,7 +1,7 @@
--- `replay_accessors::questions::about_source` meets its contract. Assumes nothing.
+-- `replay_accessors::questions::about_source` meets its contract.
 use mathlib.Core.Path.{_∙_}
 use mathlib.Core.List.{_++_}
-use Rattle.node.specs.Source.{spanAt, tagAt, pieceListAt}
+use Rattle.node.specs.Source.{spanAt, tagOf, pieceListAt}
 use Rattle.replay_accessors.specs.Matched.{matchAll, spanNumbers, tagNumbers, pieceNumbers}
 use Rattle.replay_accessors.proofs.Matching.{in-turn}
 use borrow.Author.Needs.{needs}
@@ -13,7 +13,7 @@ returns c =
     let a = c .before .before .before .before .before .before .before .before .args in
     let list = a .list .now in
     let span = spanNumbers (spanAt (a .records .now) (a .n)) in
-    let tag = tagNumbers (tagAt (a .records .now) (a .n)) in
+    let tag = tagNumbers (tagOf (a .records .now) (a .n)) in
     let pieces = pieceNumbers (pieceListAt (a .records .now) (a .n)) in
     rw (
       c .pieces .ensures,

@@ -1,6 +1,6 @@
--- `schema::form::begins_no_row` meets its contract: range by range. Assumes nothing.
+-- `schema::form::begins_no_row` meets its contract: range by range.
 use mathlib.Core.Path.{sym, _∙_}
-use Rattle.schema.specs.Form.{beginsNoRow}
+use Rattle.schema.specs.Automaton.{beginsNoRow}
 use borrow.Author.Needs.{needs}
 use Rattle.schema.proofs.form.begins_no_row.Statement.{statement}
 use Rattle.schema.proofs.form.begins_no_row.Tie as tie

@@ -1,18 +1,14 @@
--- `schema::form::form_of` meets its contract: after a letter that no row begins with, the automaton awaits nothing. Assumes nothing.
+-- `schema::form::form_of` meets its contract: after a letter that no row begins with, the automaton awaits nothing.
 use mathlib.Core.Path.{sym, _∙_}
-use native.Mathlib.Omega.{arith}
-use lib.ListN.{getD}
-use Rattle.schema.proofs.Flags.{started, stopped, letter-stops}
+use Rattle.schema.proofs.Flags.{letter-stops}
 use borrow.Author.Needs.{needs}
 use Rattle.schema.proofs.form.form_of.Statement.{statement}
 use Rattle.schema.proofs.form.form_of.Tie as tie
 
 returns : tie.Need-returns
 returns c =
-    let value = c .before .before .before .before .before .args .value .now in
-    let byte = c .before .before .shared-slice-known2 .given 0 in
-    stopped value 0 3 (c .before .before .before .if1 .taken) (omega arith) (λ k. c .before .before .shared-slice-known2 .given k .fits) (started value)
-    (letter-stops (getD value 0 0) (byte .fits) (sym (c .before .begins-no-row .ensures) ∙ c .if2 .taken))
+    letter-stops _ (c .before .before .before .if1 .taken) (λ k. c .before .before .shared-slice-known2 .given k .fits)
+    (sym (c .before .begins-no-row .ensures) ∙ c .if2 .taken)
 
 pub form-of-spec : {M : Type 1} → statement M
 form-of-spec =

@@ -1,4 +1,4 @@
--- `schema::form::is_between` meets its contract: each return by the test that leads to it. Assumes nothing.
+-- `schema::form::is_between` meets its contract: each return by the test that leads to it.
 use borrow.Author.Tests.{le-leb, lt-leb}
 use Rattle.schema.proofs.form.is_between.Statement.{statement}
 use Rattle.schema.proofs.form.is_between.Tie as tie

@@ -1,4 +1,4 @@
--- `schema::integer::decimal` meets its contract: by the first byte, a minus, a plus or neither. Assumes nothing.
+-- `schema::integer::decimal` meets its contract: by the first byte, a minus, a plus or neither.
 use borrow.Author.Needs.{needs}
 use mathlib.Core.Path.{_∙_, ap}
 use Rattle.schema.specs.Integer.{held}

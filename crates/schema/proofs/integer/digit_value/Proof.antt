@@ -1,4 +1,4 @@
--- `schema::integer::digit_value` meets its contract: the tests on the way are the definition's. Assumes nothing.
+-- `schema::integer::digit_value` meets its contract: the tests on the way are the definition's.
 use borrow.Author.Needs.{needs}
 use Rattle.schema.proofs.Digits.{decimal-digit, upper-digit, lower-digit, before-digits, before-upper, before-lower, past-lower}
 use Rattle.schema.proofs.integer.digit_value.Statement.{statement}

@@ -1,7 +1,7 @@
 -- `schema::integer::gather` meets its contract. The loop's invariant: the sum is the negative of a number m that 64 signed
 -- bits hold, and the digits left, after m, write what all of them write. The measure is what is left of the value. Where a
 -- test stops the loop, m with one digit more is past the lowest integer, and a number only grows with its digits.
--- Assumes nothing.
+--
 use borrow.Author.Needs.{needs}
 use mathlib.Core.Path.{_≡_, refl, _∙_, ap, sym, subst}
 use Prim.Native.Nat.{ℕ, _+_, _*_, _/_, _-_, _^_, _≤_, _<_}

@@ -1,4 +1,4 @@
--- `schema::integer::integer_of` meets its contract: each arm reads the integer of its form. Assumes nothing.
+-- `schema::integer::integer_of` meets its contract: each arm reads the integer of its form.
 use borrow.Author.Needs.{needs}
 use mathlib.Core.Path.{_∙_, ap, sym}
 use Rattle.schema.specs.Form.{integerOf}

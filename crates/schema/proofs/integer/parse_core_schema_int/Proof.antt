@@ -1,5 +1,5 @@
 -- `schema::integer::parse_core_schema_int` meets its contract: a scalar has one integer form at most, so the first form
--- that it has decides. Assumes nothing.
+-- that it has decides.
 use borrow.Author.Needs.{needs}
 use mathlib.Core.Path.{_∙_, ap, sym}
 use Rattle.schema.specs.Form.{integerOf}

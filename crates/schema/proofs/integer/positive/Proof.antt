@@ -1,5 +1,5 @@
 -- `schema::integer::positive` meets its contract: what was gathered below zero is turned about, the lowest integer apart,
--- which has no positive. Assumes nothing.
+-- which has no positive.
 use borrow.Author.Needs.{needs}
 use mathlib.Core.Path.{_∙_, sym}
 use Prim.Native.Nat.{ℕ, _^_, _≤_}

@@ -1,4 +1,4 @@
--- `schema::plain::integer_or` meets its contract. Assumes nothing.
+-- `schema::plain::integer_or` meets its contract.
 use borrow.Author.Needs.{needs}
 use mathlib.Core.Path.{_∙_, ap, sym}
 use mir.Facts.{toZ-ofZ}

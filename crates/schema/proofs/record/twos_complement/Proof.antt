@@ -1,5 +1,5 @@
 -- `schema::record::twos_complement` meets its contract. A number below zero is moved up by one and turned about before it
--- is cast, so that the lowest integer needs no wider type. Assumes nothing.
+-- is cast, so that the lowest integer needs no wider type.
 use mathlib.Core.Path.{_≡_, refl, _∙_, ap, sym}
 use mathlib.Core.Bool.{true, false}
 use Prim.Native.Nat.{ℕ, suc, _+_, _-_, _^_, _<_}

@@ -1,5 +1,4 @@
--- `schema::tag::resolve_scalar` meets its contract: a standard tag's name decides, and without one the style. Assumes
--- nothing.
+-- `schema::tag::resolve_scalar` meets its contract: a standard tag's name decides, and without one the style.
 use borrow.Author.Needs.{needs}
 use mathlib.Core.Path.{_∙_, ap, sym}
 use mathlib.Core.List.{List}

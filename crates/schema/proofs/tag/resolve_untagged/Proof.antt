@@ -1,4 +1,4 @@
--- `schema::tag::resolve_untagged` meets its contract. Assumes nothing.
+-- `schema::tag::resolve_untagged` meets its contract.
 use borrow.Author.Needs.{needs}
 use mathlib.Core.Path.{_∙_}
 use Rattle.schema.proofs.Tags.{when-plain, when-not-plain}

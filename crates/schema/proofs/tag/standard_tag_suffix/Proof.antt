@@ -1,9 +1,9 @@
--- `schema::tag::standard_tag_suffix` meets its contract: its tests are the definition's. Assumes nothing.
+-- `schema::tag::standard_tag_suffix` meets its contract: its tests are the definition's.
 use borrow.Author.Needs.{needs}
 use mathlib.Core.Path.{_≡_, _∙_, sym}
 use lib.ListN.{take}
 use lib.Seq.{length-take-le}
-use Rattle.schema.specs.Ascii.{sameBytes}
+use Rattle.utf8.specs.Ascii.{sameBytes}
 use Rattle.schema.specs.Tag.{standardHandle}
 use Rattle.schema.proofs.Tags.{told, by-handle, by-suffix, other-suffix, short-suffix, other-handle}
 use Rattle.schema.proofs.tag.standard_tag_suffix.Statement.{statement}

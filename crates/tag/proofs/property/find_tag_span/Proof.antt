@@ -1,19 +1,19 @@
 -- `tag::property::find_tag_span` meets its contract: the property's span lies within the text, and its part is handed back.
--- Assumes nothing.
 use mathlib.Core.Path.{_≡_, ap}
 use mathlib.Core.List.{List}
 use Prim.Native.Nat.{ℕ}
 use native.Mathlib.Omega.{arith}
 use borrow.Author.Needs.{needs}
-use Rattle.text.specs.Utf8.{Utf8}
-use Rattle.text.specs.Boundary.{Boundary}
-use Rattle.tag.specs.declared.property.Span.{Span}
-use Rattle.tag.specs.Tag.{propertySpan, part, tagProperty}
-use Rattle.tag.specs.TagLaws.{Within, property-within}
+use Rattle.utf8.specs.Utf8.{Utf8}
+use Rattle.utf8.specs.Boundary.{Boundary}
+use Rattle.tag.specs.declared.property.TagSpan.{TagSpan}
+use Rattle.tag.specs.Tag.{propertySpan, spanBytes, tagProperty}
+use Rattle.tag.specs.Proved.{SpanWithin}
+use Rattle.tag.proofs.TagLaws.{property-within}
 use Rattle.tag.proofs.property.find_tag_span.Statement.{statement}
 use Rattle.tag.proofs.property.find_tag_span.Tie as tie
 
-inside : {s : List ℕ} {i : ℕ} {p : Span} → Utf8 s → Boundary s i → p ≡ propertySpan s i → Within s p
+inside : {s : List ℕ} {i : ℕ} {p : TagSpan} → Utf8 s → Boundary s i → p ≡ propertySpan s i → SpanWithin s p
 inside u b is = rw is (property-within u b)
 
 sub-result : tie.Need-sub-result
@@ -30,8 +30,8 @@ part-result-end c =
     omega arith
 
 returns : tie.Need-returns
-unfolding tagProperty part
-returns c = ap (part (c .before .before .before .args .text .now)) (c .before .find-property .ensures)
+unfolding tagProperty spanBytes
+returns c = ap (spanBytes (c .before .before .before .args .text .now)) (c .before .find-property .ensures)
 
 pub find-tag-span-spec : {M : Type 1} → statement M
 find-tag-span-spec =

@@ -1,15 +1,15 @@
 -- `tag::property::make_tag_info` meets its contract: a part that is not empty is the property from its offset on; else the guess is
--- compared with the text left before it is added. Assumes nothing.
+-- compared with the text left before it is added.
 use mathlib.Core.Path.{_≡_, _∙_, ap}
 use mathlib.Core.List.{List}
 use Prim.Native.Nat.{ℕ, _+_, _-_, _≤_, _<_, min}
 use native.Mathlib.Omega.{arith}
 use borrow.Author.Needs.{needs}
 use lib.ListN.{length}
-use Rattle.text.specs.Utf8.{Utf8}
-use Rattle.text.specs.Boundary.{Boundary}
+use Rattle.utf8.specs.Utf8.{Utf8}
+use Rattle.utf8.specs.Boundary.{Boundary}
 use Rattle.tag.specs.Tag.{span, tagProperty, tagOffset, guess, tagSpan}
-use Rattle.tag.specs.TagLaws.{part-within, part-found, part-empty}
+use Rattle.tag.proofs.TagLaws.{part-within, part-found, part-empty}
 use Rattle.tag.proofs.property.make_tag_info.Statement.{statement}
 use Rattle.tag.proofs.property.make_tag_info.Tie as tie
 

@@ -1,4 +1,4 @@
--- `tag::token::is_opening` meets its contract: the tests are the definition's. Assumes nothing.
+-- `tag::token::is_opening` meets its contract: the tests are the definition's.
 use borrow.Author.Tests.{ne-eqb}
 use Rattle.tag.proofs.token.is_opening.Statement.{statement}
 use Rattle.tag.proofs.token.is_opening.Tie as tie

@@ -1,5 +1,5 @@
 -- `tag::token::opening_len` meets its contract. The loop's invariant: `i` and those from `i` on make those of the whole token. The
--- measure is what is left of the token. Assumes nothing.
+-- measure is what is left of the token.
 use mathlib.Core.Path.{_≡_, sym, _∙_}
 use Prim.Native.Nat.{_+_, _-_, _≤_}
 use native.Mathlib.Omega.{arith}
@@ -24,8 +24,10 @@ shared-slice-read-is-opening c = omega arith
 
 returns : tie.Need-returns Inv-loop μ-loop
 returns c =
-    let here = openings-here (c .before .before .before .before .before .before .args .token .now) (c .before .before .before .before .loop .i) (c .before .before .before .loop-test .taken) (sym (c .before .is-opening .ensures) ∙ not-true _ (c .if1 .taken)) in
-    let inv = c .before .before .before .before .loop .inv .1 in
+    let at-loop = c .before .before .before .before in
+    let byte = sym (c .before .is-opening .ensures) ∙ not-true _ (c .if1 .taken) in
+    let here = openings-here (at-loop .before .before .args .token .now) (at-loop .loop .i) (c .before .before .before .loop-test .taken) byte in
+    let inv = at-loop .loop .inv .1 in
     omega arith
 
 add-i : tie.Need-add-i Inv-loop μ-loop
@@ -36,8 +38,10 @@ loop-less c = omega arith
 
 loop-again : tie.Need-loop-again Inv-loop μ-loop
 loop-again c =
-    let on = openings-on (c .before .before .before .before .before .before .args .token .now) (c .before .before .before .before .loop .i) (c .before .before .before .loop-test .taken) (sym (c .before .is-opening .ensures) ∙ not-false _ (c .if1 .left)) in
-    let inv = c .before .before .before .before .loop .inv .1 in
+    let at-loop = c .before .before .before .before in
+    let byte = sym (c .before .is-opening .ensures) ∙ not-false _ (c .if1 .left) in
+    let on = openings-on (at-loop .before .before .args .token .now) (at-loop .loop .i) (c .before .before .before .loop-test .taken) byte in
+    let inv = at-loop .loop .inv .1 in
     (omega arith, omega arith)
 
 returns-2 : tie.Need-returns-2 Inv-loop μ-loop

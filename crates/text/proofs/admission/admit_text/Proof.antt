@@ -1,4 +1,4 @@
--- `text::admission::admit_text` meets its contract. Assumes nothing.
+-- `text::admission::admit_text` meets its contract.
 use borrow.Author.Needs.{needs}
 use mathlib.Core.Path.{sym, _∙_}
 use borrow.Author.Tests.{lt-ltb, le-ltb}

@@ -1,5 +1,5 @@
 -- `text::offset::backward` meets its contract. The loop's invariant: the cursor stands, not before the target. The measure is its
--- count of characters. Assumes nothing.
+-- count of characters.
 use mathlib.Core.Path.{_∙_, ap}
 use Prim.Native.Nat.{ℕ, _≤_}
 use native.Mathlib.Omega.{arith}

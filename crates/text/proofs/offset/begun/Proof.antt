@@ -1,4 +1,4 @@
--- `text::offset::begun` meets its contract. Assumes nothing.
+-- `text::offset::begun` meets its contract.
 use mathlib.Core.Path.{sym, _∙_}
 use borrow.Author.Needs.{needs}
 use Rattle.text.proofs.offset.begun.Statement.{statement}

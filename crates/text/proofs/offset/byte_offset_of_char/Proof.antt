@@ -1,6 +1,6 @@
 -- `text::offset::byte_offset_of_char` meets its contract: a walk of its MIR, by hand. The cursor is put into a local, which is lent to `move_cursor` for a lifetime that is made for the call; the lifetime is ended, and the local is taken back at the cursor's last value and returned.
 -- All that the proof knows of `move_cursor` is that it meets its contract.
--- Assumes nothing.
+--
 use mathlib.Core.Path.{_≡_, refl}
 use Prim.Native.Nat.{ℕ, _<_, _^_}
 use mathlib.Core.Bool.{Bool}
@@ -42,8 +42,8 @@ use denote.Triple.Spec.{Meets, tripleOf}
 use denote.Triple.Table.{entered, cited}
 use denote.Triple.Walked.{says, Stays, stay-none, stay-none-slice, walkOf, AllGo, goes-none, goes-none-slice, Walks, ends-at, walked, walk-meets}
 use denote.Exit.{yes}
-use Rattle.text.specs.Utf8.{Utf8}
-use Rattle.text.specs.Offset.{cursorAt, Stands, isAscii}
+use Rattle.utf8.specs.Utf8.{Utf8, isAscii}
+use Rattle.text.specs.Offset.{cursorAt, Stands}
 use Rattle.text.specs.declared.offset.Cursor.{Cursor}
 use Rattle.text.proofs.Lent.{IsCursor, well-typed, made, put-down, picked-up, learns, shows-all}
 use Rattle.text.proofs.offset.Cursor as T

@@ -1,10 +1,10 @@
 -- `text::offset::forward` meets its contract. The loop's invariant: the cursor stands, not past the target. The measure is how many
--- characters the target is away. Assumes nothing.
+-- characters the target is away.
 use mathlib.Core.Path.{_∙_, ap}
 use Prim.Native.Nat.{ℕ, _-_, _≤_}
 use native.Mathlib.Omega.{arith}
 use Rattle.text.specs.Offset.{cursorAt, Stands}
-use Rattle.text.specs.Utf8Laws.{char-room}
+use Rattle.utf8.specs.Utf8Laws.{char-room}
 use Rattle.text.specs.OffsetLaws.{stands-boundary, stands-next, stands-cursor, stands-end}
 use Rattle.text.proofs.offset.forward.Statement.{statement}
 use Rattle.text.proofs.offset.forward.Tie as tie

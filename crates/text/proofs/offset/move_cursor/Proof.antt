@@ -1,6 +1,6 @@
 -- `text::offset::move_cursor` meets its contract: a walk of its MIR, by hand. The borrow is opened, the cursor is read whole and goes to `moved_to`, what `moved_to` returned is stored in its place, the offset is read there, and the borrow is closed at the new cursor.
 -- All that the proof knows of `moved_to` is that it meets its contract.
--- Assumes nothing.
+--
 use mathlib.Core.Path.{_≡_, refl, ap}
 use Prim.Native.Nat.{ℕ, _<_, _^_}
 use mathlib.Core.Bool.{Bool}
@@ -42,8 +42,8 @@ use denote.Triple.Spec.{Meets, tripleOf}
 use denote.Triple.Table.{entered, cited}
 use denote.Triple.Walked.{says, Stays, stay-ref, stay-none, stay-none-slice, walkOf, AllGo, goes-ref, goes-none, goes-none-slice, Walks, ends-at, walked, walk-meets}
 use denote.Exit.{yes}
-use Rattle.text.specs.Utf8.{Utf8}
-use Rattle.text.specs.Offset.{cursorAt, Stands, isAscii}
+use Rattle.utf8.specs.Utf8.{Utf8, isAscii}
+use Rattle.text.specs.Offset.{cursorAt, Stands}
 use Rattle.text.specs.declared.offset.Cursor.{Cursor}
 use Rattle.text.proofs.Lent.{IsCursor, spelled, as-spelled, offset-fits, well-typed, made, learns, shows-all}
 use Rattle.text.proofs.offset.Cursor as T

@@ -1,5 +1,5 @@
 -- `text::offset::moved_to` meets its contract: in ASCII an index is its own offset, else the cursor moves there.
--- Assumes nothing.
+--
 use mathlib.Core.Path.{_≡_, sym, _∙_}
 use Prim.Native.Nat.{min}
 use native.Mathlib.Omega.{arith}

@@ -1,12 +1,12 @@
 -- `text::offset::next_boundary` meets its contract. The loop's invariant: no character begins on the way. The measure is what is left.
--- Assumes nothing.
+--
 use mathlib.Core.Path.{_≡_, refl, sym, _∙_, ap}
 use mathlib.Core.Bool.{Bool, true}
 use mathlib.Core.List.{List}
 use Prim.Native.Nat.{ℕ, _+_, _-_, _≤_, _<_}
 use native.Mathlib.Omega.{arith}
 use lib.ListN.{length, take, getD}
-use Rattle.text.specs.Class.{isContinuation}
+use Rattle.utf8.specs.Class.{isContinuation}
 use Rattle.text.specs.Starts.{starts}
 use Rattle.text.proofs.Starts.{goes-on}
 use Rattle.text.proofs.offset.next_boundary.Statement.{statement}

@@ -1,5 +1,5 @@
 -- `text::offset::over_chunks` meets its contract. The loop's invariant: `chars` characters begin before `offset`, and the target is not
--- passed. The measure is what is left of the text. Assumes nothing.
+-- passed. The measure is what is left of the text.
 use mathlib.Core.Path.{_≡_, _∙_, subst}
 use mathlib.Core.List.{List}
 use Prim.Native.Nat.{ℕ, _+_, _-_, _≤_}

@@ -1,5 +1,5 @@
 -- `text::offset::starts` meets its contract. The loop's invariant: `n` characters begin among the bytes passed. The measure is what is
--- left. Assumes nothing.
+-- left.
 use mathlib.Core.Path.{_≡_, refl, _∙_, ap}
 use Prim.Native.Nat.{_+_, _-_, _≤_}
 use native.Mathlib.Omega.{arith}
