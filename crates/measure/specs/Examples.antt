@@ -8,7 +8,7 @@ use Rattle.utf8.specs.Utf8.{encode, encodeAll}
 use Rattle.utf8.specs.Characters.{codes, charsAfter, firstChar, charOf, multiByte, twoBytes, threeBytes}
 use Rattle.utf8.specs.WhiteSpace.{whiteSpace, isIn, isWhiteSpace}
 use Rattle.measure.specs.Run.{whiteSpaceRun, afterRun, holdsNewline}
-use Rattle.utf8.specs.Ascii.{newline, blank, singleQuote, doubleQuote, backslash}
+use Rattle.utf8.specs.Ascii.{singleQuote, doubleQuote, backslash, bytes}
 use Rattle.measure.specs.Plain.{isFold, beginsWith, takesRun, plainReach, plainLen}
 use Rattle.measure.specs.Quoted.{passedTogether, toClosing, quotedLen, quotedOrValueLen}
 use Rattle.measure.specs.Block.{lines, isBlank, trimmedLen, endsBlock, laterReach, blockReach, blockLen}
@@ -20,84 +20,69 @@ a = 97
 abbrev b : ℕ
 b = 98
 
-abbrev i : ℕ
-i = 105
-
-abbrev s : ℕ
-s = 115
-
-abbrev t : ℕ
-t = 116
-
-abbrev return : ℕ
-return = 13
-
-abbrev bar : ℕ
-bar = 124
-
 -- the spans of document 01's cases
 pub record CaseSpans : Type 0 where
   -- `a`, blank, newline, two blanks, `b`; value `a b`: 0..6
-  pub k7 : scalarLen (a ∷ blank ∷ newline ∷ blank ∷ blank ∷ b ∷ []) (a ∷ blank ∷ b ∷ []) plain false 0 ≡ 6
+  pub k7 : scalarLen (bytes "a \n  b") (bytes "a b") plain false 0 ≡ 6
   -- `a`, three newlines, `b`; value `a`, two newlines, `b`: 0..4, since the second newline finds no run left
-  pub k8 : scalarLen (a ∷ newline ∷ newline ∷ newline ∷ b ∷ []) (a ∷ newline ∷ newline ∷ b ∷ []) plain false 0 ≡ 4
+  pub k8 : scalarLen (bytes "a\n\n\nb") (bytes "a\n\nb") plain false 0 ≡ 4
   -- `'it''s'`, value `it's`: 0..7
-  pub k9 : scalarLen (singleQuote ∷ i ∷ t ∷ singleQuote ∷ singleQuote ∷ s ∷ singleQuote ∷ []) (i ∷ t ∷ singleQuote ∷ s ∷ []) singleQuoted false 0 ≡ 7
+  pub k9 : scalarLen (bytes "'it''s'") (bytes "it's") singleQuoted false 0 ≡ 7
   -- the rest from index 7 is `b`, value `b` newline, column 2: 7..8
-  pub k11 : scalarLen (b ∷ []) (b ∷ newline ∷ []) literal false 2 ≡ 1
+  pub k11 : scalarLen (bytes "b") (bytes "b\n") literal false 2 ≡ 1
 
 -- white space goes by code points, not by bytes
 pub record WhiteSpaceByCodePoints : Type 0 where
   -- `b`, then a line of U+2003 alone, which is blank and left out
-  pub blank-line : scalarLen (b ∷ newline ∷ 0xe2 ∷ 0x80 ∷ 0x83 ∷ newline ∷ []) [] literal false 4 ≡ 1
+  pub blank-line : scalarLen (0x62 ∷ 0xa ∷ 0xe2 ∷ 0x80 ∷ 0x83 ∷ bytes "\n") [] literal false 4 ≡ 1
   -- `b` and U+00C5, whose second byte is 133: a letter, and the end of the line
   pub letter : scalarLen (b ∷ 0xc3 ∷ 0x85 ∷ []) [] literal false 0 ≡ 3
   -- U+2003 before `b` is three bytes of leading white space: enough for column 3, too few for 4
-  pub indent : scalarLen (a ∷ newline ∷ 0xe2 ∷ 0x80 ∷ 0x83 ∷ b ∷ []) [] literal false 3 ≡ 6
-  pub too-few : scalarLen (a ∷ newline ∷ 0xe2 ∷ 0x80 ∷ 0x83 ∷ b ∷ []) [] literal false 4 ≡ 1
+  pub indent : scalarLen (0x61 ∷ 0xa ∷ 0xe2 ∷ 0x80 ∷ 0x83 ∷ bytes "b") [] literal false 3 ≡ 6
+  pub too-few : scalarLen (0x61 ∷ 0xa ∷ 0xe2 ∷ 0x80 ∷ 0x83 ∷ bytes "b") [] literal false 4 ≡ 1
   -- a run of U+0085 and a newline becomes a blank
-  pub run : scalarLen (a ∷ 0xc2 ∷ 0x85 ∷ newline ∷ b ∷ []) (a ∷ blank ∷ b ∷ []) plain false 0 ≡ 5
+  pub run : scalarLen (0x61 ∷ 0xc2 ∷ 0x85 ∷ bytes "\nb") (bytes "a b") plain false 0 ≡ 5
 
 -- plain: a blank takes a run only if that holds a newline; the span ends after the last equal character
 pub record PlainPoints : Type 0 where
   -- two blanks in the text and two in the value are equal
-  pub equal-blanks : scalarLen (a ∷ blank ∷ blank ∷ b ∷ []) (a ∷ blank ∷ blank ∷ b ∷ []) plain false 0 ≡ 4
+  pub equal-blanks : scalarLen (bytes "a  b") (bytes "a  b") plain false 0 ≡ 4
   -- one in the value takes no run of two, and the value's length stands in
-  pub no-newline : scalarLen (a ∷ blank ∷ blank ∷ b ∷ []) (a ∷ blank ∷ b ∷ []) plain false 0 ≡ 3
+  pub no-newline : scalarLen (bytes "a  b") (bytes "a b") plain false 0 ≡ 3
   -- a run at the end is no part of the span
-  pub last-equal : scalarLen (a ∷ newline ∷ blank ∷ []) (a ∷ blank ∷ []) plain false 0 ≡ 1
-  pub empty-value : scalarLen (a ∷ []) [] plain false 0 ≡ 0
+  pub last-equal : scalarLen (bytes "a\n ") (bytes "a ") plain false 0 ≡ 1
+  pub empty-value : scalarLen (bytes "a") [] plain false 0 ≡ 0
 
 -- quoted: what is passed on the way to the closing mark
 pub record QuotedPoints : Type 0 where
   -- `"\""`: the escaped mark is passed
   pub escaped-mark : scalarLen (doubleQuote ∷ backslash ∷ doubleQuote ∷ doubleQuote ∷ []) (doubleQuote ∷ []) doubleQuoted false 0 ≡ 4
   -- `"a\`: the byte after the backslash lies past the text, no mark closes, and the value's length stands in
-  pub cut-off : scalarLen (doubleQuote ∷ a ∷ backslash ∷ []) (a ∷ []) doubleQuoted false 0 ≡ 1
+  pub cut-off : scalarLen (doubleQuote ∷ a ∷ backslash ∷ []) (bytes "a") doubleQuoted false 0 ≡ 1
   -- `'\'`: in single quotes a backslash passes nothing
   pub backslash-alone : scalarLen (singleQuote ∷ backslash ∷ singleQuote ∷ []) (backslash ∷ []) singleQuoted false 0 ≡ 3
   -- no opening mark
-  pub no-opening : scalarLen (a ∷ doubleQuote ∷ doubleQuote ∷ []) (a ∷ b ∷ []) doubleQuoted false 0 ≡ 2
+  pub no-opening : scalarLen (a ∷ doubleQuote ∷ doubleQuote ∷ []) (bytes "ab") doubleQuoted false 0 ≡ 2
 
 -- block: lines, the column, and where it ends
 pub record BlockPoints : Type 0 where
   -- the first line is not held against the column, the second is, up to the largest column
-  pub first-line : scalarLen (a ∷ newline ∷ blank ∷ b ∷ []) [] folded false 0xffff_ffff ≡ 1
+  pub first-line : scalarLen (bytes "a\n b") [] folded false 0xffff_ffff ≡ 1
   -- a carriage return ends no line, and is trimmed where it ends one
-  pub return-inside : scalarLen (a ∷ return ∷ b ∷ []) [] literal false 1 ≡ 3
-  pub return-trimmed : scalarLen (a ∷ return ∷ newline ∷ []) [] literal false 1 ≡ 1
+  pub return-inside : scalarLen (0x61 ∷ 0xd ∷ bytes "b") [] literal false 1 ≡ 3
+  pub return-trimmed : scalarLen (0x61 ∷ 0xd ∷ bytes "\n") [] literal false 1 ≡ 1
   -- at a header with nothing but a newline after it the header itself is measured
-  pub header : scalarLen (bar ∷ newline ∷ []) [] literal false 0 ≡ 1
+  pub header : scalarLen (bytes "|\n") [] literal false 0 ≡ 1
   -- blank lines between others count, at the end they do not
-  pub between : scalarLen (a ∷ newline ∷ newline ∷ blank ∷ b ∷ newline ∷ newline ∷ []) [] literal false 1 ≡ 5
-  pub all-blank : scalarLen (blank ∷ newline ∷ newline ∷ []) [] literal false 0 ≡ 0
-  pub empty-span : scalarLen (a ∷ []) [] literal true 0 ≡ 0
+  pub between : scalarLen (bytes "a\n\n b\n\n") [] literal false 1 ≡ 5
+  pub all-blank : scalarLen (bytes " \n\n") [] literal false 0 ≡ 0
+  pub empty-span : scalarLen (bytes "a") [] literal true 0 ≡ 0
 
 -- a length that falls back to the value's is cut to the text left, and may end inside a character
 pub record Fallbacks : Type 0 where
   -- U+00E9 is two bytes; the value `a` has one
-  pub inside-a-character : scalarLen (0xc3 ∷ 0xa9 ∷ []) (a ∷ []) plain false 0 ≡ 1
-  pub cut : scalarLen (doubleQuote ∷ []) (a ∷ b ∷ []) doubleQuoted false 0 ≡ 1
+  pub inside-a-character : scalarLen (0xc3 ∷ 0xa9 ∷ []) (bytes "a") plain false 0 ≡ 1
+  pub cut : scalarLen (doubleQuote ∷ []) (bytes "ab") doubleQuoted false 0 ≡ 1
 
 pub record Worked : Type 0 where
   pub spans : CaseSpans

@@ -7,7 +7,7 @@ use mathlib.Core.List.{List, [], _∷_, _++_}
 use borrow.Author.Tests.{lt-ltb}
 use lib.Dec.{ltb}
 use lib.ListN.{length}
-use Rattle.utf8.specs.Ascii.{sameBytes}
+use Rattle.utf8.specs.Ascii.{sameBytes, bytes}
 use Rattle.utf8.specs.Boundary.{isBoundary}
 use Rattle.text.specs.Offset.{byteOffset}
 use Rattle.utf8.specs.Utf8.{encode, encodeAll, isAscii}
@@ -104,14 +104,14 @@ pub record Rows : Type 0 where
   pub row-4-after-root : building [] (alias 0 ++ sequenceEnd 0) 24 0 ≡ refused 4 1
   pub row-5 : building [] (alias 0 ++ alias 0) 24 0 ≡ refused 5 1
   pub row-7 : building [] (alias 0) 11 0 ≡ refused 7 0
-  pub row-8 : building (97 ∷ []) (scalar 0 97) 12 3 ≡ refused 8 0
-  pub row-8-fits : building (97 ∷ []) (scalar 0 97) 12 4 ≡ built (letter 0 0 14 ∷ []) (piece verbatim 0 1 1 ∷ [])
+  pub row-8 : building (bytes "a") (scalar 0 97) 12 3 ≡ refused 8 0
+  pub row-8-fits : building (bytes "a") (scalar 0 97) 12 4 ≡ built (letter 0 0 14 ∷ []) (piece verbatim 0 1 1 ∷ [])
   pub row-9 : building [] [] 0 0 ≡ refused 9 0
   pub row-9-open : building [] (sequence 0) 0 0 ≡ refused 9 1
   -- 4 comes before 7 (a key without value, and no record left), 5 before 7, 7 before 8, and 3 before all
   pub order-4-7 : building [] (mapping 0 ++ alias 0 ++ mappingEnd 0) 12 0 ≡ refused 4 2
   pub order-5-7 : building [] (alias 0 ++ alias 0) 12 0 ≡ refused 5 1
-  pub order-7-8 : building (97 ∷ []) (scalar 0 97) 0 0 ≡ refused 7 0
+  pub order-7-8 : building (bytes "a") (scalar 0 97) 0 0 ≡ refused 7 0
   pub order-3-5 : building [] (alias 0 ++ (0 ∷ [])) 12 0 ≡ refused 3 1
 
 pub rows : Rows
@@ -159,10 +159,10 @@ piece-room = (refl, refl)
 
 pub record Lists : Type 0 where
   -- the text `ab` with the value `ac`: the walk fails after a piece that would not fit, and that is no 8
-  pub failed-walk : building (97 ∷ 98 ∷ []) (scalar2 0 97 99) 12 0
+  pub failed-walk : building (bytes "ab") (scalar2 0 97 99) 12 0
       ≡ built (record { kind = 5; extent = extent 0 2; tag = noTag; subtree = 1; list = noList; payload = twoNumbers 14 2 } ∷ []) []
   -- the text `a`, and a sequence of `a` and an empty value behind it: the list of that has no pieces, and starts at the next free entry
-  pub next-free : building (97 ∷ []) (sequence 0 ++ scalar 0 97 ++ empty 1 ++ sequenceEnd 1) 36 4
+  pub next-free : building (bytes "a") (sequence 0 ++ scalar 0 97 ++ empty 1 ++ sequenceEnd 1) 36 4
       ≡ built
       (letter 0 0 22
       ∷ record { kind = 1; extent = extent 1 1; tag = noTag; subtree = 1; list = pieceList 1 0; payload = twoNumbers 0 0 }
@@ -170,7 +170,7 @@ pub record Lists : Type 0 where
       ∷ [])
       (piece verbatim 0 1 1 ∷ [])
   -- `:` as a key and a value: the value steps past the colon, the key does not; the mapping starts at its key
-  pub past-colon : building (58 ∷ []) (mapping 0 ++ empty 0 ++ empty 0 ++ mappingEnd 1) 36 0
+  pub past-colon : building (bytes ":") (mapping 0 ++ empty 0 ++ empty 0 ++ mappingEnd 1) 36 0
       ≡ built
       (record { kind = 1; extent = extent 0 0; tag = noTag; subtree = 1; list = pieceList 0 0; payload = twoNumbers 0 0 }
       ∷ record { kind = 1; extent = extent 1 1; tag = noTag; subtree = 1; list = pieceList 0 0; payload = twoNumbers 0 0 }
@@ -178,14 +178,14 @@ pub record Lists : Type 0 where
       ∷ [])
       []
   -- the call on one scalar: its value has the place 0, and its first piece the number 0
-  pub one : scalarCall (97 ∷ []) (mark 0 0 0 false) (97 ∷ []) 4 ≡ built (letter 0 0 0 ∷ []) (piece verbatim 0 1 1 ∷ [])
+  pub one : scalarCall (bytes "a") (mark 0 0 0 false) (bytes "a") 4 ≡ built (letter 0 0 0 ∷ []) (piece verbatim 0 1 1 ∷ [])
   -- newline and two blanks, the value a newline and a blank, literal in column 1: the column cuts what the newline takes to 0..2
-  pub column-cuts : scalarCall (10 ∷ 32 ∷ 32 ∷ []) (mark 0 1 3 false) (10 ∷ 32 ∷ []) 8
+  pub column-cuts : scalarCall (bytes "\n  ") (mark 0 1 3 false) (bytes "\n ") 8
       ≡ built
       (record { kind = 5; extent = extent 0 0; tag = noTag; subtree = 1; list = pieceList 0 2; payload = twoNumbers 0 2 } ∷ [])
       (piece replacement 0 2 1 ∷ piece verbatim 2 3 1 ∷ [])
   pub one-style : scalarCall [] (mark 0 0 5 false) [] 0 ≡ refused 3 0
-  pub one-room : scalarCall (97 ∷ []) (mark 0 0 0 false) (97 ∷ []) 3 ≡ refused 8 0
+  pub one-room : scalarCall (bytes "a") (mark 0 0 0 false) (bytes "a") 3 ≡ refused 8 0
 
 pub lists : Lists
 unfolding scalarCall oneScalar admissionOfBoth building runAll run ending rootDone beforeRoot withinDepth withinRoom completed onStart ended

@@ -2,7 +2,7 @@
 use mathlib.Core.Path.{_≡_, refl}
 use mathlib.Core.List.{[], _∷_}
 use mathlib.Core.Option.{none, some}
-use Rattle.utf8.specs.Ascii.{sameBytes}
+use Rattle.utf8.specs.Ascii.{sameBytes, bytes}
 use Rattle.utf8.specs.Boundary.{isBoundary}
 use Rattle.utf8.specs.Utf8.{encode}
 use Rattle.measure.specs.Plain.{isFold}
@@ -18,34 +18,34 @@ use Rattle.provenance.specs.Start.{atEmptyBlockHeader, beforeNewline, he
 
 pub record Worked : Type 0 where
   -- K7: `a`, blank, newline, two blanks, `b`; value `a b`
-  pub k7 : scalarList (97 ∷ 32 ∷ 10 ∷ 32 ∷ 32 ∷ 98 ∷ []) 0 6 (97 ∷ 32 ∷ 98 ∷ []) plain 0
+  pub k7 : scalarList (bytes "a \n  b") 0 6 (bytes "a b") plain 0
       ≡ some (piece verbatim 0 1 1 ∷ piece replacement 1 5 1 ∷ piece verbatim 5 6 1 ∷ [])
   -- K8: `a`, three newlines, `b`; value `a`, two newlines, `b`: the pieces reach 5
-  pub k8 : scalarList (97 ∷ 10 ∷ 10 ∷ 10 ∷ 98 ∷ []) 0 4 (97 ∷ 10 ∷ 10 ∷ 98 ∷ []) plain 0
+  pub k8 : scalarList (bytes "a\n\n\nb") 0 4 (bytes "a\n\nb") plain 0
       ≡ some (piece verbatim 0 1 1 ∷ piece replacement 1 4 2 ∷ piece verbatim 4 5 1 ∷ [])
   -- K9: `'it''s'`; value `it's`
-  pub k9 : scalarList (39 ∷ 105 ∷ 116 ∷ 39 ∷ 39 ∷ 115 ∷ 39 ∷ []) 0 7 (105 ∷ 116 ∷ 39 ∷ 115 ∷ []) singleQuoted 0
+  pub k9 : scalarList (bytes "'it''s'") 0 7 (bytes "it's") singleQuoted 0
       ≡ some (piece verbatim 1 3 2 ∷ piece replacement 3 5 1 ∷ piece verbatim 5 6 1 ∷ [])
   -- K10: `"\u20AC"`; value `A`: two past the value
-  pub k10 : scalarList (34 ∷ 92 ∷ 117 ∷ 50 ∷ 48 ∷ 65 ∷ 67 ∷ 34 ∷ []) 0 8 (65 ∷ []) doubleQuoted 0
+  pub k10 : scalarList (34 ∷ 92 ∷ 117 ∷ 50 ∷ 48 ∷ 65 ∷ 67 ∷ 34 ∷ []) 0 8 (bytes "A") doubleQuoted 0
       ≡ some (piece replacement 1 7 3 ∷ [])
   -- K11: `a: |`, newline, two blanks, `b`; value `b`, newline; at 7, column 2
-  pub k11 : scalarList (97 ∷ 58 ∷ 32 ∷ 124 ∷ 10 ∷ 32 ∷ 32 ∷ 98 ∷ []) 7 1 (98 ∷ 10 ∷ []) literal 2
+  pub k11 : scalarList (bytes "a: |\n  b") 7 1 (bytes "b\n") literal 2
       ≡ some (piece verbatim 7 8 1 ∷ piece replacement 8 8 1 ∷ [])
   -- an empty value has a list of no pieces, if its walk can start (N1); past the text it cannot
-  pub empty-value : scalarList (97 ∷ []) 0 0 [] plain 0 ≡ some []
-  pub quote-at-the-end : scalarList (97 ∷ []) 1 0 [] singleQuoted 0 ≡ none
+  pub empty-value : scalarList (bytes "a") 0 0 [] plain 0 ≡ some []
+  pub quote-at-the-end : scalarList (bytes "a") 1 0 [] singleQuoted 0 ≡ none
   -- a block header with only newlines as value starts at its line's newline, or at the span's end
-  pub header-line : walkStart (124 ∷ 45 ∷ 10 ∷ []) 0 1 [] literal ≡ 2
-  pub header-alone : walkStart (62 ∷ 45 ∷ []) 0 1 (10 ∷ []) folded ≡ 1
+  pub header-line : walkStart (bytes "|-\n") 0 1 [] literal ≡ 2
+  pub header-alone : walkStart (bytes ">-") 0 1 (bytes "\n") folded ≡ 1
   -- the value at a tab takes no content of a break, and the tab is then met by nothing
-  pub tab-takes-nothing : scalarList (10 ∷ 9 ∷ []) 0 0 (9 ∷ []) plain 0 ≡ none
+  pub tab-takes-nothing : scalarList (bytes "\n\t") 0 0 (bytes "\t") plain 0 ≡ none
   -- the column cuts the run after its newlines are counted: two newlines, one blank of indent, then a blank that is content
-  pub cut-after-count : scalarList (10 ∷ 10 ∷ 32 ∷ 32 ∷ 97 ∷ []) 0 0 (10 ∷ 10 ∷ 32 ∷ 97 ∷ []) literal 1
+  pub cut-after-count : scalarList (bytes "\n\n  a") 0 0 (bytes "\n\n a") literal 1
       ≡ some (piece replacement 0 3 2 ∷ piece verbatim 3 5 2 ∷ [])
   -- `\u+041` has the code 41; digits that cannot be read count 1; a cut-off escape claims its six bytes
-  pub plus-sign : doubleQuoteEscapes (92 ∷ 117 ∷ 43 ∷ 48 ∷ 52 ∷ 49 ∷ []) ≡ Takes 6 1
-  pub cut-off : scalarList (34 ∷ 92 ∷ 117 ∷ []) 0 3 (97 ∷ []) doubleQuoted 0 ≡ some (piece replacement 1 7 1 ∷ [])
+  pub plus-sign : doubleQuoteEscapes (0x5c ∷ bytes "u+041") ≡ Takes 6 1
+  pub cut-off : scalarList (0x22 ∷ 0x5c ∷ bytes "u") 0 3 (bytes "a") doubleQuoted 0 ≡ some (piece replacement 1 7 1 ∷ [])
   -- the pieces of K10 in a buffer with room for one, and with room for none
   pub k10-left : bufferOf 5 (some (piece replacement 1 7 3 ∷ [])) ≡ 2 ∷ 1 ∷ 7 ∷ 3 ∷ 0 ∷ []
   pub k10-no-room : answerOf 0 (some (piece replacement 1 7 3 ∷ [])) ≡ NoRoom

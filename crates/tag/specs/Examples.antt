@@ -2,6 +2,7 @@
 use Prim.Native.Nat.{ℕ}
 use mathlib.Core.Path.{_≡_, refl}
 use mathlib.Core.List.{List, [], _∷_}
+use Rattle.utf8.specs.Ascii.{bytes}
 use Rattle.utf8.specs.Utf8.{encode, encodeAll}
 use Rattle.utf8.specs.Characters.{codes, charsAfter, firstChar, charOf, multiByte, twoBytes, threeBytes, fourBytes}
 use Rattle.utf8.specs.WhiteSpace.{whiteSpace, isIn, isWhiteSpace}
@@ -15,31 +16,31 @@ Case s i n f p o t = (tagBefore s i ≡ f) × (tagProperty s i ≡ p) × (tagOff
 
 pub record Cases : Type 0 where
   -- K12, `[a,!t b]`: the tag stands within a token, so none is found; the guess reaches the text's end
-  pub k12 : Case (0x5b ∷ 0x61 ∷ 0x2c ∷ 0x21 ∷ 0x74 ∷ 0x20 ∷ 0x62 ∷ 0x5d ∷ []) 6 1 none [] 6 (span 6 8)
+  pub k12 : Case (bytes "[a,!t b]") 6 1 none [] 6 (span 6 8)
   -- `[!tag a]`: a bracket is no part of the property
-  pub bracket : Case (0x5b ∷ 0x21 ∷ 0x74 ∷ 0x61 ∷ 0x67 ∷ 0x20 ∷ 0x61 ∷ 0x5d ∷ []) 6 3 (found (span 1 5)) (0x21 ∷ 0x74 ∷ 0x61 ∷ 0x67 ∷ []) 1 (span 1 5)
+  pub bracket : Case (bytes "[!tag a]") 6 3 (found (span 1 5)) (bytes "!tag") 1 (span 1 5)
   -- `[{,!t a`: nor are several brackets and commas
-  pub openings : Case (0x5b ∷ 0x7b ∷ 0x2c ∷ 0x21 ∷ 0x74 ∷ 0x20 ∷ 0x61 ∷ []) 6 1 (found (span 3 5)) (0x21 ∷ 0x74 ∷ []) 3 (span 3 5)
+  pub openings : Case (bytes "[{,!t a") 6 1 (found (span 3 5)) (bytes "!t") 3 (span 3 5)
   -- `!t &a b`: an anchor after the tag, which is at the text's first byte
-  pub anchor-after : Case (0x21 ∷ 0x74 ∷ 0x20 ∷ 0x26 ∷ 0x61 ∷ 0x20 ∷ 0x62 ∷ []) 6 1 (found (span 0 2)) (0x21 ∷ 0x74 ∷ []) 0 (span 0 2)
+  pub anchor-after : Case (bytes "!t &a b") 6 1 (found (span 0 2)) (bytes "!t") 0 (span 0 2)
   -- `&a !t b`: an anchor before the tag
-  pub anchor-before : Case (0x26 ∷ 0x61 ∷ 0x20 ∷ 0x21 ∷ 0x74 ∷ 0x20 ∷ 0x62 ∷ []) 6 1 (found (span 3 5)) (0x21 ∷ 0x74 ∷ []) 3 (span 3 5)
+  pub anchor-before : Case (bytes "&a !t b") 6 1 (found (span 3 5)) (bytes "!t") 3 (span 3 5)
   -- `!t [&a b`: an anchor is passed over with its bracket
-  pub anchor-in-bracket : Case (0x21 ∷ 0x74 ∷ 0x20 ∷ 0x5b ∷ 0x26 ∷ 0x61 ∷ 0x20 ∷ 0x62 ∷ []) 7 1 (found (span 0 2)) (0x21 ∷ 0x74 ∷ []) 0 (span 0 2)
+  pub anchor-in-bracket : Case (bytes "!t [&a b") 7 1 (found (span 0 2)) (bytes "!t") 0 (span 0 2)
   -- `!t !s a`: of two tags the nearer one
-  pub two-tags : Case (0x21 ∷ 0x74 ∷ 0x20 ∷ 0x21 ∷ 0x73 ∷ 0x20 ∷ 0x61 ∷ []) 6 1 (found (span 3 5)) (0x21 ∷ 0x73 ∷ []) 3 (span 3 5)
+  pub two-tags : Case (bytes "!t !s a") 6 1 (found (span 3 5)) (bytes "!s") 3 (span 3 5)
   -- `!t`, U+2003, `a`: white space of three bytes
-  pub wide-space : Case (0x21 ∷ 0x74 ∷ 0xe2 ∷ 0x80 ∷ 0x83 ∷ 0x61 ∷ []) 5 1 (found (span 0 2)) (0x21 ∷ 0x74 ∷ []) 0 (span 0 2)
+  pub wide-space : Case (0x21 ∷ 0x74 ∷ 0xe2 ∷ 0x80 ∷ 0x83 ∷ bytes "a") 5 1 (found (span 0 2)) (bytes "!t") 0 (span 0 2)
   -- `!àt a`: the last byte of `à` is white space to the byte classes, but not to a tag
-  pub white-space-byte : Case (0x21 ∷ 0xc3 ∷ 0xa0 ∷ 0x74 ∷ 0x20 ∷ 0x61 ∷ []) 5 3 (found (span 0 4)) (0x21 ∷ 0xc3 ∷ 0xa0 ∷ 0x74 ∷ []) 0 (span 0 4)
+  pub white-space-byte : Case (0x21 ∷ 0xc3 ∷ 0xa0 ∷ bytes "t a") 5 3 (found (span 0 4)) (0x21 ∷ 0xc3 ∷ 0xa0 ∷ bytes "t") 0 (span 0 4)
   -- `!t a b`: a token that is no property ends the search; the guess is cut to the text left
-  pub word-between : Case (0x21 ∷ 0x74 ∷ 0x20 ∷ 0x61 ∷ 0x20 ∷ 0x62 ∷ []) 5 9 none [] 5 (span 5 6)
+  pub word-between : Case (bytes "!t a b") 5 9 none [] 5 (span 5 6)
   -- `!t [a`: so does a bracket with nothing behind it
-  pub bracket-alone : Case (0x21 ∷ 0x74 ∷ 0x20 ∷ 0x5b ∷ 0x61 ∷ []) 4 1 none [] 4 (span 4 5)
+  pub bracket-alone : Case (bytes "!t [a") 4 1 none [] 4 (span 4 5)
   -- `&a b`: before an anchor at the text's start there is no token
-  pub anchor-alone : Case (0x26 ∷ 0x61 ∷ 0x20 ∷ 0x62 ∷ []) 3 1 none [] 3 (span 3 4)
+  pub anchor-alone : Case (bytes "&a b") 3 1 none [] 3 (span 3 4)
   -- `!t` from its start: there is no token; the suffix is empty
-  pub text-start : Case (0x21 ∷ 0x74 ∷ []) 0 0 none [] 0 (span 0 1)
+  pub text-start : Case (bytes "!t") 0 0 none [] 0 (span 0 1)
 
 pub cases : Cases
 unfolding byteLength charsBefore withWord tokens tokensBefore openings property spanOf decide firstTag tagBefore propertySpan spanBytes
