@@ -84,7 +84,13 @@ pub record Fallbacks : Type 0 where
   pub inside-a-character : scalarLen (0xc3 ∷ 0xa9 ∷ []) (bytes "a") plain false 0 ≡ 1
   pub cut : scalarLen (doubleQuote ∷ []) (bytes "ab") doubleQuoted false 0 ≡ 1
 
+-- the styles by the numbers that an event has for them (E1); the cases above go by their names
+pub record StyleNumbers : Type 0 where
+  pub flow : (plain ≡ 0) × (singleQuoted ≡ 1) × (doubleQuoted ≡ 2)
+  pub block : (literal ≡ 3) × (folded ≡ 4)
+
 pub record Worked : Type 0 where
+  pub styles : StyleNumbers
   pub spans : CaseSpans
   pub white-space : WhiteSpaceByCodePoints
   pub plains : PlainPoints
@@ -98,6 +104,7 @@ unfolding scalarLen styleLen plainLen plainReach takesRun beginsWith isFold hold
     blockLen blockReach laterReach endsBlock trimmedLen isBlank lines
 worked =
     record {
+      styles = record { flow = (refl, refl, refl); block = (refl, refl) };
       spans = record { k7 = refl; k8 = refl; k9 = refl; k11 = refl };
       white-space = record { blank-line = refl; letter = refl; indent = refl; too-few = refl; run = refl };
       plains = record { equal-blanks = refl; no-newline = refl; last-equal = refl; empty-value = refl };

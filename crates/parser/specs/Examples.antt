@@ -79,11 +79,15 @@ either : (t : Bool) (o : Outcome) → o ≡ refused 1 0 → cond t (refused 1 0)
 either true o e = refl
 either false o e = e
 
-pub row-1-text : (text events : List ℕ) (n m : ℕ) → textLimit < length text → building text events n m ≡ refused 1 0
+pub row-1-text : (text events : List ℕ) (n m : ℕ) → 1_048_576 < length text → building text events n m ≡ refused 1 0
 unfolding building admission
 row-1-text text events n m h = either (ltb eventsLimit (length events)) _ (rw (lt-ltb textLimit (length text) h) refl)
 
-pub row-1-events : (text events : List ℕ) (n m : ℕ) → eventsLimit < length events → building text events n m ≡ refused 1 0
+-- and the limits are no lower
+pub limits : (textLimit ≡ 1_048_576) × (eventsLimit ≡ 4_194_304)
+limits = (refl, refl)
+
+pub row-1-events : (text events : List ℕ) (n m : ℕ) → 4_194_304 < length events → building text events n m ≡ refused 1 0
 unfolding building
 row-1-events text events n m h = rw (lt-ltb eventsLimit (length events) h) refl
 
