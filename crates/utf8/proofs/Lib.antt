@@ -1,6 +1,8 @@
 -- Lemmas that serve several functions of `utf8`, by subject.
--- a rule of a table or of all bytes, by one computed test
+-- a rule of all numbers below a bound, by one computed test; the classes of all bytes
 pub mod Table
+-- tests that are asked in turn
+pub mod Asked
 -- going back from a boundary to the start of a character
 pub mod Back
 -- texts of ASCII bytes

@@ -1,5 +1,5 @@
--- The classes of a byte, by the four questions that document 01 asks of it (S15). The table in `src/class.rt` is no part of
--- this: that each entry is `classOf` its place is proved. Numbers of 256 and more are no bytes and have the class 0.
+-- The classes of a byte, by the four questions that document 01 asks of it (S15). What each of the 256 bytes gets is spelt out in
+-- `ClassTable`. Numbers of 256 and more are no bytes and have the class 0.
 use Prim.Native.Nat.{ℕ, _+_}
 use mathlib.Core.Bool.{Bool, true, false, _&&_, _||_}
 use lib.Dec.{leb, eqb}

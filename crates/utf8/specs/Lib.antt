@@ -18,6 +18,8 @@ pub mod Characters
 pub mod Utf8Laws
 -- laws of tests
 pub mod Tests
+-- the classes of all bytes, spelt out
+pub mod ClassTable
 -- Arguments: the lemmas behind the statements.
 -- the bytes of one character, both ways
 pub mod Bytes

@@ -12,6 +12,7 @@ mod timing;
 
 use answers::Received;
 use cases::chapter::{self, Shape};
+use cases::run::{DOUBLE_QUOTED, one_scalar};
 use cases::script::SCRIPTS;
 use framing::Case;
 use framing::event::{Event, Scalar, encode};
@@ -31,6 +32,7 @@ fn main() {
     scripts(repeats);
     growth(repeats);
     runs(repeats);
+    classes(repeats);
 }
 
 fn scripts(repeats: usize) {
@@ -70,6 +72,22 @@ fn runs(repeats: usize) {
         let events = encode(&[Event::Scalar(Scalar { value: text.as_bytes(), ..Scalar::default() })]);
         let case = Case { text: text.into_bytes(), events, record_room: 12, piece_room: 64 };
         Bench::new(&case).figures(repeats.min(9)).print(&format!("{blanks} blanks"));
+    }
+}
+
+/// Scalars of which every step asks for the class of some bytes: the digits of an escape, the white space of a break.
+fn classes(repeats: usize) {
+    println!("\nEscapes and breaks alone");
+    Figures::heading();
+    for count in [2_000, 4_000, 8_000, 16_000] {
+        let value = "é".repeat(count);
+        let scalar = Scalar { style: DOUBLE_QUOTED, value: value.as_bytes(), ..Scalar::default() };
+        let case = one_scalar(&format!("\"{}\"", "\\u00e9".repeat(count)), scalar);
+        Bench::new(&case).figures(repeats).print(&format!("{count} escapes"));
+        let value = "a ".repeat(count) + "a";
+        let scalar = Scalar { value: value.as_bytes(), ..Scalar::default() };
+        let case = one_scalar(&("a\n  ".repeat(count) + "a"), scalar);
+        Bench::new(&case).figures(repeats).print(&format!("{count} breaks"));
     }
 }
 

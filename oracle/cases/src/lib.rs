@@ -5,6 +5,7 @@
 //! first of the random ones.
 
 pub mod chapter;
+mod classes;
 mod damaged;
 mod events;
 mod measures;
@@ -28,11 +29,12 @@ use run::Run;
 pub type Family = fn(&mut Run);
 
 /// The families that `build` answers, by their names.
-pub const FAMILIES: [(&str, Family); 7] = [
+pub const FAMILIES: [(&str, Family); 8] = [
     ("offsets", offsets::write),
     ("schema", schema::write),
     ("measures", measures::write),
     ("walks", walks::write),
+    ("classes", classes::write),
     ("tags", tags::write),
     ("events", events::write),
     ("trees", trees::write),

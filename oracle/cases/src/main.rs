@@ -8,7 +8,7 @@ use std::io::{self, BufWriter, Write};
 use std::process::ExitCode;
 
 const USAGE: &str =
-    "usage: cases offsets|schema|measures|walks|tags|events|trees|nodes|damaged|scan_errors sample|full [SEED]";
+    "usage: cases offsets|schema|measures|walks|classes|tags|events|trees|nodes|damaged|scan_errors sample|full [SEED]";
 
 fn main() -> ExitCode {
     answers::silence_listed_panic();

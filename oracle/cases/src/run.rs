@@ -48,6 +48,17 @@ pub fn ample(text: Vec<u8>, events: Vec<u8>, nodes: usize, value_bytes: usize) -
     Case { text, events, record_room: 12 * nodes as u32 + 7, piece_room: 4 * value_bytes as u32 + 40 }
 }
 
+/// What a short scalar of a style opens with, and the column it is given.
+pub fn opening(style: u8) -> (&'static str, u32) {
+    match style {
+        SINGLE_QUOTED => ("'", 0),
+        DOUBLE_QUOTED => ("\"", 0),
+        LITERAL => ("", 1),
+        FOLDED => ("", 2),
+        _ => ("", 0),
+    }
+}
+
 /// The index of a text's end.
 pub fn characters(text: &str) -> u32 {
     text.chars().count() as u32

@@ -1,6 +1,6 @@
 //! The walk: the pieces of a document of one scalar.
 
-use crate::run::{DOUBLE_QUOTED, FOLDED, LITERAL, Run, SINGLE_QUOTED, STYLES, characters, one_scalar};
+use crate::run::{DOUBLE_QUOTED, LITERAL, Run, SINGLE_QUOTED, STYLES, characters, one_scalar, opening};
 use crate::{source, words};
 use framing::Case;
 use framing::event::Scalar;
@@ -15,13 +15,7 @@ pub fn write(run: &mut Run) {
         let number = number / STYLES.len();
         let value = words::word(&letters(style), number % values);
         let source = words::word(&letters(style), number / values);
-        let (open, column) = match style {
-            SINGLE_QUOTED => ("'", 0),
-            DOUBLE_QUOTED => ("\"", 0),
-            LITERAL => ("", 1),
-            FOLDED => ("", 2),
-            _ => ("", 0),
-        };
+        let (open, column) = opening(style);
         let text = format!("{open}{source}");
         run.put(&case(&text, 0, column, style, &value));
     }

@@ -1,14 +1,51 @@
--- `utf8::class::class_of` meets its contract: the table's rule is one computed test over its 256 entries.
+-- `utf8::class::class_of` meets its contract: the four answers, each for its number. The sum is at most 15, so it fits.
+use mathlib.Core.Path.{_≡_}
+use mathlib.Core.Bool.{Bool, true, false}
+use Prim.Native.Nat.{ℕ, _≤_}
+use native.Mathlib.Omega.{arith}
 use borrow.Author.Needs.{needs}
-use Prim.Native.Nat.{_<_}
-use Rattle.utf8.specs.Class.{classOf}
-use Rattle.utf8.proofs.Table.{entry}
+use Rattle.utf8.specs.Class.{classOf, counts}
 use Rattle.utf8.proofs.class.class_of.Statement.{statement}
 use Rattle.utf8.proofs.class.class_of.Tie as tie
 
+counts-most : (x n : ℕ) (t : Bool) → x ≡ counts t n → x ≤ n
+counts-most x n true e = omega (arith, e)
+counts-most x n false e = omega (arith, e)
+
+-- the whole sum, and with it each part
+add-result-3 : tie.Need-add-result-3
+add-result-3 c =
+    let white-space = counts-most _ 1 (c .before .before .before .before .before .before .before .is-white-space-byte .result)
+    (c .before .before .before .before .before .before .counts .ensures) in
+    let decimal = counts-most _ 2 (c .before .before .before .before .before .is-decimal-digit .result)
+    (c .before .before .before .before .counts2 .ensures) in
+    let hex = counts-most _ 4 (c .before .before .before .is-hex-digit .result) (c .before .before .counts3 .ensures) in
+    let continuation = counts-most _ 8 (c .before .is-continuation .result) (c .counts4 .ensures) in
+    omega arith
+
+add-result : tie.Need-add-result
+add-result c = omega (arith, add-result-3 c)
+
+add-result-2 : tie.Need-add-result-2
+add-result-2 c = omega (arith, add-result-3 c)
+
 returns : tie.Need-returns
 unfolding classOf
-returns c = let h : c .args .b < 256 = search needs in let t : Unit {0} = tt in rw (entry classOf)
+returns c =
+    rw (
+      c .before .before .before .before .before .before .counts .ensures,
+      c .before .before .before .before .before .before .before .is-white-space-byte .ensures,
+      c .before .before .before .before .counts2 .ensures,
+      c .before .before .before .before .before .is-decimal-digit .ensures,
+      c .before .before .counts3 .ensures,
+      c .before .before .before .is-hex-digit .ensures,
+      c .counts4 .ensures,
+      c .before .is-continuation .ensures,
+    )
 
 pub class-of-spec : {M : Type 1} → statement M
-class-of-spec = tie.close (tie.spec (λ c. search needs) returns)
+class-of-spec =
+    tie.close
+    (tie.spec (λ c κs. search needs) (λ c κs. search needs) (λ c κs. search needs) (λ c κs. search needs)
+    (λ c κs. search needs) (λ c κs. search needs) (λ c κs. search needs) (λ c κs. search needs)
+    add-result add-result-2 add-result-3 returns)
