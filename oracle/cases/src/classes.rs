@@ -43,7 +43,12 @@ fn put_continuation(run: &mut Run, byte: u8) {
 
 /// Around a newline, in each style.
 fn put_white_space(run: &mut Run, letter: char) {
-    let sources = [format!("a{letter}\nb"), format!("a\n{letter}b"), format!("a {letter}\n {letter} b"), format!("a\\\n{letter}b")];
+    let sources = [
+        format!("a{letter}\nb"),
+        format!("a\n{letter}b"),
+        format!("a {letter}\n {letter} b"),
+        format!("a\\\n{letter}b"),
+    ];
     let values = ["a b".into(), "a\nb".into(), "ab".into(), format!("a{letter} b"), format!("a {letter}b")];
     for style in STYLES {
         for source in &sources {
