@@ -1,5 +1,5 @@
-//! Every byte at the places where its class is asked: white space in a break, a digit of an escape, the continuation of a
-//! character. Document 02 (d) leaves each class as it was, and the original is what it was.
+//! Every byte at the places where its class is asked: white space in a break, a digit of an escape, the continuation of
+//! a character. Document 02 (d) leaves each class as it was, so the original tells what is right.
 
 use crate::run::{DOUBLE_QUOTED, Run, STYLES, ample, one_scalar, opening};
 use framing::event::{Event, Scalar, encode};
@@ -17,8 +17,8 @@ pub fn write(run: &mut Run) {
     }
 }
 
-/// Every character of one byte and of two, and of the longer ones some by each first byte that end with 85 and A0. A sample has
-/// fewer of two bytes: by each first byte one, and every last byte.
+/// Every character of one byte and of two, and of the longer ones some by each first byte that end with 85 and A0. A
+/// sample has fewer of two bytes: by each first byte one, and every last byte.
 fn is_asked(code: u32, full: bool) -> bool {
     match code {
         0..0x100 => true,
