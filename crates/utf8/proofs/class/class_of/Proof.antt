@@ -15,11 +15,12 @@ counts-most x n false e = omega (arith, e)
 -- the whole sum, and with it each part
 add-result-3 : tie.Need-add-result-3
 add-result-3 c =
-    let white-space = counts-most _ 1 (c .before .before .before .before .before .before .before .is-white-space-byte .result)
-    (c .before .before .before .before .before .before .counts .ensures) in
-    let decimal = counts-most _ 2 (c .before .before .before .before .before .is-decimal-digit .result)
-    (c .before .before .before .before .counts2 .ensures) in
-    let hex = counts-most _ 4 (c .before .before .before .is-hex-digit .result) (c .before .before .counts3 .ensures) in
+    let at-hex = c .before .before in
+    let at-decimal = at-hex .before .before in
+    let at-white-space = at-decimal .before .before in
+    let white-space = counts-most _ 1 (at-white-space .before .is-white-space-byte .result) (at-white-space .counts .ensures) in
+    let decimal = counts-most _ 2 (at-decimal .before .is-decimal-digit .result) (at-decimal .counts2 .ensures) in
+    let hex = counts-most _ 4 (at-hex .before .is-hex-digit .result) (at-hex .counts3 .ensures) in
     let continuation = counts-most _ 8 (c .before .is-continuation .result) (c .counts4 .ensures) in
     omega arith
 
@@ -32,13 +33,16 @@ add-result-2 c = omega (arith, add-result-3 c)
 returns : tie.Need-returns
 unfolding classOf
 returns c =
+    let at-hex = c .before .before in
+    let at-decimal = at-hex .before .before in
+    let at-white-space = at-decimal .before .before in
     rw (
-      c .before .before .before .before .before .before .counts .ensures,
-      c .before .before .before .before .before .before .before .is-white-space-byte .ensures,
-      c .before .before .before .before .counts2 .ensures,
-      c .before .before .before .before .before .is-decimal-digit .ensures,
-      c .before .before .counts3 .ensures,
-      c .before .before .before .is-hex-digit .ensures,
+      at-white-space .counts .ensures,
+      at-white-space .before .is-white-space-byte .ensures,
+      at-decimal .counts2 .ensures,
+      at-decimal .before .is-decimal-digit .ensures,
+      at-hex .counts3 .ensures,
+      at-hex .before .is-hex-digit .ensures,
       c .counts4 .ensures,
       c .before .is-continuation .ensures,
     )
