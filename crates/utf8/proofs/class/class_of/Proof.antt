@@ -18,10 +18,10 @@ add-result-3 c =
     let at-hex = c .before .before in
     let at-decimal = at-hex .before .before in
     let at-white-space = at-decimal .before .before in
-    let white-space = counts-most _ 1 (at-white-space .before .is-white-space-byte .result) (at-white-space .counts .ensures) in
-    let decimal = counts-most _ 2 (at-decimal .before .is-decimal-digit .result) (at-decimal .counts2 .ensures) in
-    let hex = counts-most _ 4 (at-hex .before .is-hex-digit .result) (at-hex .counts3 .ensures) in
-    let continuation = counts-most _ 8 (c .before .is-continuation .result) (c .counts4 .ensures) in
+    let white-space = counts-most _ _ (at-white-space .before .is-white-space-byte .result) (at-white-space .counts .ensures) in
+    let decimal = counts-most _ _ (at-decimal .before .is-decimal-digit .result) (at-decimal .counts2 .ensures) in
+    let hex = counts-most _ _ (at-hex .before .is-hex-digit .result) (at-hex .counts3 .ensures) in
+    let continuation = counts-most _ _ (c .before .is-continuation .result) (c .counts4 .ensures) in
     omega arith
 
 add-result : tie.Need-add-result
