@@ -21,7 +21,8 @@ use Rattle.utf8.specs.declared.utf8.Char.{Char}
 use Rattle.measure.specs.Run.{bytesOf, whiteSpaceRun, afterRun, holdsNewline}
 use Rattle.measure.specs.Counted.{runOf, hasByte}
 use Rattle.utf8.specs.Ascii.{newline}
-use Rattle.measure.specs.Plain.{isFold, Reach, unmatched, reaches, pastEqual, pastRun, beginsWith, takesRun, plainReach, reachOr, plainLen}
+use Rattle.measure.specs.Plain.{isFold, Reach, unmatched, reaches, pastEqual, pastRun, beginsWith, takesRun, plainReach, measuredOr, plainMeasure}
+use Rattle.measure.specs.Length.{measured, assumed}
 use Rattle.measure.specs.Places.{onward, bytes-cons, run-split, run-goes-on, run-stops}
 use Rattle.measure.specs.declared.run.Run.{Run}
 use Rattle.letters.proofs.Chunks.{part-is}
@@ -178,10 +179,10 @@ match-begins {rest} {value} u w =
     }
 
 -- all of the value is matched
-pub match-at-end : {rest value : List ℕ} {at end known v : ℕ} → Matching rest value at end known v → length value ≤ v → end ≡ plainLen rest value
-unfolding plainReach plainLen
+pub match-at-end : {rest value : List ℕ} {at end known v : ℕ} → Matching rest value at end known v → length value ≤ v → measured end ≡ plainMeasure rest value
+unfolding plainReach plainMeasure
 match-at-end {rest} {value} {at} {end} {known} {v} r h =
-    ap (reachOr (length value)) (sym (ap (λ (cs : List ℕ). reachBy at end (plainReach cs (codes (drop at rest)))) (codes-end value v h)) ∙ r .same)
+    ap (measuredOr (length value)) (sym (ap (λ (cs : List ℕ). reachBy at end (plainReach cs (codes (drop at rest)))) (codes-end value v h)) ∙ r .same)
 
 -- the run m that was read of the part from a place on
 pub run-read : (s : List ℕ) (at : ℕ) {m : Run} → m ≡ runOf (codes (take (length s - at) (drop at s))) → m ≡ runOf (codes (drop at s))
@@ -266,11 +267,11 @@ module _ {rest value : List ℕ} {at end known v : ℕ} {k : Char} (u : Utf8 res
       }
 
   -- a byte differs
-  pub match-fails : (j : ℕ) → j < k .len → hasByte rest (at + j) (getD value (v + j) 0) ≡ false → length value ≡ plainLen rest value
-  unfolding plainLen
+  pub match-fails : (j : ℕ) → j < k .len → hasByte rest (at + j) (getD value (v + j) 0) ≡ false → assumed (length value) ≡ plainMeasure rest value
+  unfolding plainMeasure
   match-fails j h p =
       let m = r .matching in
-      ap (reachOr (length value)) (decides u w m a (reach-none (k .code) (codes (drop (v + k .len) value)) (codes (drop at rest)) (r .no-run) (other-char u (m .rest-place) w a j h p)))
+      ap (measuredOr (length value)) (decides u w m a (reach-none (k .code) (codes (drop (v + k .len) value)) (codes (drop at rest)) (r .no-run) (other-char u (m .rest-place) w a j h p)))
 
 -- ---- over letters
 

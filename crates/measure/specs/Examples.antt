@@ -9,10 +9,11 @@ use Rattle.utf8.specs.Characters.{codes, charsAfter, firstChar, charOf, multiBy
 use Rattle.utf8.specs.WhiteSpace.{whiteSpace, isIn, isWhiteSpace}
 use Rattle.measure.specs.Run.{whiteSpaceRun, afterRun, holdsNewline}
 use Rattle.utf8.specs.Ascii.{singleQuote, doubleQuote, backslash, bytes}
-use Rattle.measure.specs.Plain.{isFold, beginsWith, takesRun, plainReach, plainLen}
-use Rattle.measure.specs.Quoted.{passedTogether, toClosing, quotedLen, quotedOrValueLen}
+use Rattle.measure.specs.Length.{measured, assumed}
+use Rattle.measure.specs.Plain.{isFold, beginsWith, takesRun, plainReach, plainMeasure}
+use Rattle.measure.specs.Quoted.{passedTogether, toClosing, quotedLen, quotedMeasure}
 use Rattle.measure.specs.Block.{lines, isBlank, trimmedLen, endsBlock, laterReach, blockReach, blockLen}
-use Rattle.measure.specs.Scalar.{plain, singleQuoted, doubleQuoted, literal, folded, styleLen, scalarLen}
+use Rattle.measure.specs.Scalar.{plain, singleQuoted, doubleQuoted, literal, folded, blockMeasure, styleMeasure, scalarMeasure, scalarLen}
 
 abbrev a : ℕ
 a = 97
@@ -84,6 +85,28 @@ pub record Fallbacks : Type 0 where
   pub inside-a-character : scalarLen (0xc3 ∷ 0xa9 ∷ []) (bytes "a") plain false 0 ≡ 1
   pub cut : scalarLen (doubleQuote ∷ []) (bytes "ab") doubleQuoted false 0 ≡ 1
 
+-- whether a length was measured or assumed (02, (b))
+pub record Flags : Type 0 where
+  pub k7 : scalarMeasure (bytes "a \n  b") (bytes "a b") plain false 0 ≡ measured 6
+  pub k8 : scalarMeasure (bytes "a\n\n\nb") (bytes "a\n\nb") plain false 0 ≡ assumed 4
+  -- nothing of an empty value is left unmatched
+  pub empty-value : scalarMeasure (bytes "a") [] plain false 0 ≡ measured 0
+  -- the last character alone is not matched; the length happens to be right
+  pub last-unmatched : scalarMeasure (bytes "ab") (bytes "ac") plain false 0 ≡ assumed 2
+  -- nor is the text long enough, and the length is cut
+  pub text-ends : scalarMeasure (bytes "ab") (bytes "abc") plain false 0 ≡ assumed 2
+  -- a last blank takes the run that is left out
+  pub run-left-out : scalarMeasure (bytes "a\n ") (bytes "a ") plain false 0 ≡ measured 1
+  -- a line that begins with U+00A0: the blank takes it too
+  pub wide-blank : scalarMeasure (0x61 ∷ 0xa ∷ 0xc2 ∷ 0xa0 ∷ []) (0x61 ∷ 0x20 ∷ 0xc2 ∷ 0xa0 ∷ []) plain false 0 ≡ assumed 4
+  pub k9 : scalarMeasure (bytes "'it''s'") (bytes "it's") singleQuoted false 0 ≡ measured 7
+  pub no-opening : scalarMeasure (a ∷ doubleQuote ∷ doubleQuote ∷ []) (bytes "ab") doubleQuoted false 0 ≡ assumed 2
+  pub no-closing : scalarMeasure (bytes "'ab") (bytes "abc") singleQuoted false 0 ≡ assumed 3
+  -- the mark that would close is escaped
+  pub escaped : scalarMeasure (doubleQuote ∷ backslash ∷ doubleQuote ∷ []) (bytes "a") doubleQuoted false 0 ≡ assumed 1
+  pub block : scalarMeasure (bytes "a\n b") [] folded false 1 ≡ measured 4
+  pub empty-span : scalarMeasure (bytes "a") [] literal true 0 ≡ measured 0
+
 -- the styles by the numbers that an event has for them (E1); the cases above go by their names
 pub record StyleNumbers : Type 0 where
   pub flow : (plain ≡ 0) × (singleQuoted ≡ 1) × (doubleQuoted ≡ 2)
@@ -97,11 +120,12 @@ pub record Worked : Type 0 where
   pub quoted : QuotedPoints
   pub blocks : BlockPoints
   pub fallbacks : Fallbacks
+  pub flags : Flags
 
 pub worked : Worked
-unfolding scalarLen styleLen plainLen plainReach takesRun beginsWith isFold holdsNewline afterRun whiteSpaceRun isWhiteSpace isIn whiteSpace
-    codes charsAfter firstChar charOf multiByte twoBytes threeBytes encode encodeAll quotedOrValueLen quotedLen toClosing passedTogether
-    blockLen blockReach laterReach endsBlock trimmedLen isBlank lines
+unfolding scalarMeasure styleMeasure plainMeasure plainReach takesRun beginsWith isFold holdsNewline afterRun whiteSpaceRun isWhiteSpace isIn whiteSpace
+    codes charsAfter firstChar charOf multiByte twoBytes threeBytes encode encodeAll quotedMeasure quotedLen toClosing passedTogether
+    blockMeasure blockLen blockReach laterReach endsBlock trimmedLen isBlank lines
 worked =
     record {
       styles = record { flow = (refl, refl, refl); block = (refl, refl) };
@@ -112,4 +136,20 @@ worked =
       blocks =
           record { first-line = refl; return-inside = refl; return-trimmed = refl; header = refl; between = refl; all-blank = refl; empty-span = refl };
       fallbacks = record { inside-a-character = refl; cut = refl };
+      flags =
+          record {
+            k7 = refl;
+            k8 = refl;
+            empty-value = refl;
+            last-unmatched = refl;
+            text-ends = refl;
+            run-left-out = refl;
+            wide-blank = refl;
+            k9 = refl;
+            no-opening = refl;
+            no-closing = refl;
+            escaped = refl;
+            block = refl;
+            empty-span = refl;
+          };
     }

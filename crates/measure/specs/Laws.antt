@@ -21,7 +21,7 @@ use Rattle.utf8.specs.Ascii.{newline}
 use Rattle.measure.specs.Plain.{Reach, unmatched, reaches, pastEqual, pastRun, beginsWith, takesRun, plainReach}
 use Rattle.measure.specs.Quoted.{further, passedTogether, toClosing, quotedLen}
 use Rattle.measure.specs.Block.{ontoFirst, lines, isBlank, trimmedLen, endsBlock, pastLine, laterReach, blockReach, blockLen}
-use Rattle.measure.specs.Scalar.{scalarLen}
+use Rattle.measure.specs.Scalar.{scalarMeasure, scalarLen}
 use Rattle.measure.specs.Places.{prefix-boundary, bytes-append, run-split}
 use Rattle.measure.specs.declared.quoted.Quoted.{Quoted}
 use Rattle.measure.specs.declared.quoted.Quoted.the-variants.{Found, Missing}
@@ -29,7 +29,7 @@ use Rattle.measure.specs.declared.quoted.Quoted.the-variants.{Found, Mis
 -- ---- all styles
 
 pub scalar-within : (rest value : List ℕ) (style : ℕ) (emptySpan : Bool) (column : ℕ) → scalarLen rest value style emptySpan column ≤ length rest
-unfolding scalarLen
+unfolding scalarMeasure
 scalar-within rest value style emptySpan column = omega arith
 
 -- ---- quoted

@@ -1,6 +1,8 @@
 -- The definitions that the contracts of `measure` cite, in reading order, and the laws that callers go by.
 
 -- What it means: what contracts and theorems cite, from document 01 and the standards. To be believed.
+-- what a measure answers
+pub mod Length
 -- white-space runs
 pub mod Run
 -- the plain measure
@@ -14,6 +16,10 @@ pub mod Scalar
 -- Statements: theorems and laws that a caller may use, and worked cases. Proved; nothing here is to be believed.
 -- a length is within the text left; where it ends
 pub mod Laws
+-- what "measured" says, without the measures
+pub mod Measured
+-- the same, proved
+pub mod MeasuredLaws
 -- worked cases, by computation
 pub mod Examples
 -- For speed only: how fast paths are told. Nothing of 01 rests on them.

@@ -1,4 +1,4 @@
--- The plain measure (P3, S5). The value's characters are matched in turn with those of the rest. What a match says is how far the
+-- The plain measure (P3, S5; 02, (b)). The value's characters are matched in turn with those of the rest. What a match says is how far the
 -- span reaches from here: 0 bytes where no later character is equal, so that the span ends after the last equal one.
 use Prim.Native.Nat.{ℕ, zero, suc, _+_}
 use mathlib.Core.Bool.{Bool, false, _&&_, _||_, cond}
@@ -9,6 +9,8 @@ use Rattle.utf8.specs.Utf8.{encode}
 use Rattle.utf8.specs.Characters.{codes}
 use Rattle.measure.specs.Run.{bytesOf, whiteSpaceRun, afterRun, holdsNewline}
 use Rattle.utf8.specs.Ascii.{newline, blank}
+use Rattle.measure.specs.Length.{measured, assumed}
+use Rattle.measure.specs.declared.length.Measure.{Measure}
 
 -- a character that a folded line break can become: a blank or a newline (S5)
 unfoldable pub isFold : ℕ → Bool
@@ -48,11 +50,14 @@ plainReach (c ∷ cs) rest =
     (cond (beginsWith c rest) (pastEqual (length (encode c)) (plainReach cs (drop 1 rest)))
     unmatched)
 
--- how far it reaches, or else n
-abbrev pub reachOr : ℕ → Reach → ℕ
-reachOr n unmatched = n
-reachOr n (reaches m) = m
+-- how far it reaches, which is measured; or else n, which is assumed (02, (b))
+abbrev pub measuredOr : ℕ → Reach → Measure
+measuredOr n unmatched = assumed n
+measuredOr n (reaches m) = measured m
 
--- the length of a plain scalar; the value's where the two do not line up (P3)
-unfoldable pub plainLen : List ℕ → List ℕ → ℕ
-plainLen rest value = reachOr (length value) (plainReach (codes value) (codes rest))
+-- a plain scalar: the value's length where the two do not line up (P3)
+unfoldable pub plainMeasure : List ℕ → List ℕ → Measure
+plainMeasure rest value = measuredOr (length value) (plainReach (codes value) (codes rest))
+
+abbrev pub plainLen : List ℕ → List ℕ → ℕ
+plainLen rest value = plainMeasure rest value .len

@@ -1,4 +1,4 @@
--- The quoted measure (P4, S6), by bytes: from the opening mark to the closing one. The value's length stands in where either is
+-- The quoted measure (P4, S6; 02, (b)), by bytes: from the opening mark to the closing one. The value's length stands in where either is
 -- missing (S8). A backslash may be the text's last byte; then nothing is left to close the scalar.
 use Prim.Native.Nat.{ℕ, _+_}
 use mathlib.Core.Bool.{Bool, _&&_, _||_, cond}
@@ -6,6 +6,8 @@ use mathlib.Core.List.{List, [], _∷_}
 use lib.Dec.{eqb}
 use lib.ListN.{length}
 use Rattle.utf8.specs.Ascii.{singleQuote, doubleQuote, backslash}
+use Rattle.measure.specs.Length.{measured, assumed}
+use Rattle.measure.specs.declared.length.Measure.{Measure}
 use Rattle.measure.specs.declared.quoted.Quoted.{Quoted}
 use Rattle.measure.specs.declared.quoted.Quoted.the-variants.{Found, Missing}
 
@@ -32,10 +34,14 @@ unfoldable pub quotedLen : List ℕ → ℕ → Quoted
 quotedLen [] quote = Missing
 quotedLen (a ∷ s) quote = cond (eqb a quote) (further 1 (toClosing quote s)) Missing
 
-abbrev pub foundLenOr : ℕ → Quoted → ℕ
-foundLenOr n (Found m) = m
-foundLenOr n Missing = n
+-- found, which is measured; or else n, which is assumed (02, (b))
+abbrev pub foundOr : ℕ → Quoted → Measure
+foundOr n (Found m) = measured m
+foundOr n Missing = assumed n
 
--- the same, or the value's length where a mark is missing (S8)
-unfoldable pub quotedOrValueLen : List ℕ → List ℕ → ℕ → ℕ
-quotedOrValueLen rest value quote = foundLenOr (length value) (quotedLen rest quote)
+-- a quoted scalar: the value's length where a mark is missing (S8)
+unfoldable pub quotedMeasure : List ℕ → List ℕ → ℕ → Measure
+quotedMeasure rest value quote = foundOr (length value) (quotedLen rest quote)
+
+abbrev pub quotedOrValueLen : List ℕ → List ℕ → ℕ → ℕ
+quotedOrValueLen rest value quote = quotedMeasure rest value quote .len

@@ -1,6 +1,7 @@
-// The quoted measure. (01: Reading rules, Quoted; `quoted_scalar_len`; P4, S6, S8, F4.)
+// The quoted measure. (01: Reading rules, Quoted; `quoted_scalar_len`; P4, S6, S8, F4. 02: (b).)
 ghost use mathlib.Core.Path.{_≡_};
-ghost use Rattle.measure.specs.Quoted.{passedTogether, quotedLen, quotedOrValueLen};
+ghost use Rattle.measure.specs.Quoted.{passedTogether, quotedLen, quotedMeasure};
+use crate::length::Measure;
 use letters::mark::unmarked;
 use utf8::utf8::byte_at;
 
@@ -59,12 +60,18 @@ pub fn quoted_scalar_len(rest: &[u8], quote: u8) -> Quoted
     Quoted::Missing
 }
 
-// The same, with the value's length where a mark is missing.
-pub fn quoted_or_value_len(rest: &[u8], value: &[u8], quote: u8) -> usize
-    ensures { λ r. ⌜ r ≡ quotedOrValueLen (now (rest .entry)) (now (value .entry)) quote ⌝ }
+// The same, or, assumed, the value's length where a mark is missing.
+pub fn quoted_or_value_len(rest: &[u8], value: &[u8], quote: u8) -> Measure
+    ensures { λ r. ⌜ r ≡ quotedMeasure (now (rest .entry)) (now (value .entry)) quote ⌝ }
 {
     let Quoted::Found(n) = quoted_scalar_len(rest, quote) else {
-        return value.len();
+        return Measure {
+            len: value.len(),
+            measured: false,
+        };
     };
-    n
+    Measure {
+        len: n,
+        measured: true,
+    }
 }

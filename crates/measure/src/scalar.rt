@@ -1,8 +1,9 @@
-// The choice by style, and the cut to the text left. (01: Reading rules; S4, S8.)
+// The choice by style, and the cut to the text left. (01: Reading rules; S4, S8. 02: (b).)
 ghost use mathlib.Core.Path.{_≡_};
 ghost use Rattle.utf8.specs.Utf8.{Utf8};
-ghost use Rattle.measure.specs.Scalar.{styleLen, scalarLen};
+ghost use Rattle.measure.specs.Scalar.{blockMeasure, styleMeasure, scalarMeasure};
 use crate::block::block_scalar_len;
+use crate::length::Measure;
 use crate::plain::plain_scalar_len;
 use crate::quoted::DOUBLE_QUOTE;
 use crate::quoted::SINGLE_QUOTE;
@@ -19,11 +20,28 @@ pub const LITERAL: u8 = 3;
 
 pub const FOLDED: u8 = 4;
 
-// The length by style, before the cut.
-fn style_len(rest: &[u8], value: &[u8], style: u8, empty: bool, column: usize) -> usize
+// A block: always measured, on an empty span too.
+fn block_measure(rest: &[u8], empty: bool, column: usize) -> Measure
+    requires { ⌜ Utf8 (now rest) ⌝ }
+    ensures { λ r. ⌜ r ≡ blockMeasure (now (rest .entry)) empty column ⌝ }
+{
+    if empty {
+        return Measure {
+            len: 0,
+            measured: true,
+        };
+    }
+    Measure {
+        len: block_scalar_len(rest, column),
+        measured: true,
+    }
+}
+
+// The measure by style, before the cut.
+fn style_len(rest: &[u8], value: &[u8], style: u8, empty: bool, column: usize) -> Measure
     requires { ⌜ Utf8 (now rest) ⌝ }
     requires { ⌜ Utf8 (now value) ⌝ }
-    ensures { λ r. ⌜ r ≡ styleLen (now (rest .entry)) (now (value .entry)) style empty column ⌝ }
+    ensures { λ r. ⌜ r ≡ styleMeasure (now (rest .entry)) (now (value .entry)) style empty column ⌝ }
 {
     if style == PLAIN {
         return plain_scalar_len(rest, value);
@@ -34,21 +52,21 @@ fn style_len(rest: &[u8], value: &[u8], style: u8, empty: bool, column: usize) -
     if style == DOUBLE_QUOTED {
         return quoted_or_value_len(rest, value, DOUBLE_QUOTE);
     }
-    if empty {
-        return 0;
-    }
-    block_scalar_len(rest, column)
+    block_measure(rest, empty, column)
 }
 
-// The length in bytes of a scalar of any style that stands at the start of `rest`.
-pub fn scalar_len(rest: &[u8], value: &[u8], style: u8, empty: bool, column: usize) -> usize
+// The length in bytes of a scalar of any style that stands at the start of `rest`, and whether it was measured.
+pub fn scalar_len(rest: &[u8], value: &[u8], style: u8, empty: bool, column: usize) -> Measure
     requires { ⌜ Utf8 (now rest) ⌝ }
     requires { ⌜ Utf8 (now value) ⌝ }
-    ensures { λ r. ⌜ r ≡ scalarLen (now (rest .entry)) (now (value .entry)) style empty column ⌝ }
+    ensures { λ r. ⌜ r ≡ scalarMeasure (now (rest .entry)) (now (value .entry)) style empty column ⌝ }
 {
-    let len = style_len(rest, value, style, empty, column);
-    if len < rest.len() {
-        return len;
+    let found = style_len(rest, value, style, empty, column);
+    if found.len < rest.len() {
+        return found;
     }
-    rest.len()
+    Measure {
+        len: rest.len(),
+        measured: found.measured,
+    }
 }

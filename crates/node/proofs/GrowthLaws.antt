@@ -23,7 +23,7 @@ use Rattle.event.specs.declared.read.Event.{Event}
 use Rattle.event.specs.declared.read.Event.the-variants.{SequenceStart, SequenceEnd, MappingStart, MappingEnd, Scalar, Alias, Malformed}
 use Rattle.event.specs.declared.tag.YamlTag.{YamlTag}
 use Rattle.records.specs.Record.{withList, aliasNode}
-use Rattle.spans.specs.Scalar.{ScalarAt, listAt, suffixOf, tagInfo, resolvedBy, scalarNode, mark, scalarGiven, eventScalar, eventNode}
+use Rattle.spans.specs.Scalar.{ScalarAt, listAt, suffixOf, tagInfo, resolvedBy, scalarOver, scalarNode, mark, scalarGiven, eventScalar, eventNode}
 use Rattle.spans.specs.Collection.{withChild, awaitsValue, closes, members, collectionOver, collectionNode}
 use Rattle.parser.specs.Machine.{State, empty, Next, go, stop, Outcome, built, refused, rootDone, beforeRoot, withinDepth, withinRoom, completed, onStart, ended, onEnd, onAlias, keeping, scalarKept, onScalar, onEvent, nextPlace, ending, run, runAll}
 use Rattle.records.specs.Layout.{recordRoom, pieceRoom}
@@ -184,7 +184,7 @@ kind-bounds BadValue = (omega arith, omega arith)
 scalar-kept :
     (text events : List ℕ) (room : ℕ) (x : ScalarAt) (tag : YamlTag) (g : Progress) (st n : State) →
     Kept g (st .opens) (st .nodes) → rootDone st ≡ false → scalarKept text events room x tag st ≡ go n → Advance leaf g st n
-unfolding scalarKept eventNode scalarNode
+unfolding scalarKept eventNode scalarOver
 scalar-kept text events room x tag g st n k d e =
     let r = resolvedBy events (x .value) (x .style) tag in
     let y = scalarNode text x (tagInfo text (x .start) (suffixOf tag)) r in

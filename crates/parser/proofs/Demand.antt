@@ -18,10 +18,10 @@ use Rattle.text.specs.Admission.{textLimit, admission, admissionOfBoth}
 use Rattle.text.specs.declared.admission.Admission.{Admission}
 use Rattle.text.specs.declared.admission.Admission.the-variants.{Admitted, TooLong, NotUtf8}
 use Rattle.utf8.specs.Boundary.{Boundary}
-use Rattle.utf8.specs.Utf8Laws.{utf8-complete, boundary-is}
+use Rattle.utf8.specs.Utf8Laws.{utf8-complete}
 use Rattle.schema.specs.Tag.{resolveScalar}
 use Rattle.schema.specs.declared.plain.Resolved.{Resolved}
-use Rattle.measure.specs.Scalar.{folded}
+use Rattle.measure.specs.Scalar.{folded, scalarMeasure}
 use Rattle.utf8.specs.Ascii.{Bytes}
 use Rattle.event.specs.Read.{eventsLimit, part, partOf, readEvent}
 use Rattle.event.specs.Encode.{Tag, untagged, tagged, YamlEvent, sequenceStart, sequenceEnd, mappingStart, mappingEnd, scalar, alias, encodeTag, encodeEvent}
@@ -43,8 +43,8 @@ use Rattle.provenance.specs.DemandLaws.{listed-only, listed-if, demand3}
 use Rattle.provenance.specs.declared.step.Step.{Step}
 use Rattle.provenance.specs.declared.walk.Walked.{Walked}
 use Rattle.provenance.specs.declared.walk.Walked.the-variants.{NoRoom}
-use Rattle.records.specs.Record.{absent, noTag, noList, pieceList, withList}
-use Rattle.spans.specs.Scalar.{mark, startAt, scalarAt, spanLen, walkFirst, suffixOf, tagInfo, resolvedBy, scalarNode, eventNode}
+use Rattle.records.specs.Record.{absent, extent, noTag, noList, pieceList, withList}
+use Rattle.spans.specs.Scalar.{mark, startAt, scalarAt, walkFirst, suffixOf, tagInfo, resolvedBy, scalarOver, scalarNode, eventNode}
 use Rattle.spans.specs.Collection.{awaitsValue, closes}
 use Rattle.parser.specs.Machine.{State, empty, Next, go, stop, Outcome, built, refused, depthLimit, rootDone, beforeRoot, withinDepth, withinRoom, completed, onStart, ended, onEnd, onAlias, keeping}
 use Rattle.parser.specs.Machine.{scalarKept, onScalar, onEvent, follow, ending, run, runAll}
@@ -52,14 +52,16 @@ use Rattle.parser.specs.RunLaws.{stop-not-go, run-stopped, run-enough}
 use Rattle.parser.specs.EventRun.{reached, runEvents, malformed, EventsAsList}
 use Rattle.records.specs.Layout.{recordRoom, pieceRoom}
 use Rattle.parser.specs.Call as call
-use Rattle.parser.specs.Call.{recordOf, admitted, building, oneScalar, scalarCall}
-use Rattle.parser.specs.Demand.{resolvedAs, scalarOf, EntrySays, TagSays, walkedBy, readPieces, listIn, numberOf, walkedIn, ScalarDemand3, ScalarRecord, Consecutive, ScalarListed, ListsBuilt, NoRoomAt, BuildDemand3}
+use Rattle.parser.specs.Call.{recordOf, measuredAfter, admitted, building, oneScalar, scalarMeasured, scalarCall}
+use Rattle.parser.specs.Demand.{resolvedAs, scalarOf, EntrySays, TagSays, walkedBy, readPieces, listIn, numberOf, walkedIn, ScalarDemand3, ScalarRecord, ScalarFlag, Consecutive, ScalarListed, ListsBuilt, NoRoomAt, BuildDemand3}
 use Rattle.spans.specs.declared.scalar.ScalarMark.{ScalarMark}
 use Rattle.records.specs.declared.record.TagInfo.{TagInfo}
 use Rattle.records.specs.declared.record.Node.{Node}
 use Rattle.records.specs.declared.record.PieceList.{PieceList}
 use Rattle.spans.specs.declared.open.Open.{Open}
-use Rattle.spans.specs.SpanLaws.{start-boundary, pieces-are}
+use Rattle.spans.specs.SpanLaws.{start-boundary, span-from, pieces-are}
+use Rattle.measure.specs.MeasuredLaws.{scalar-says}
+use Rattle.measure.specs.declared.length.Measure.{Measure}
 use Rattle.parser.proofs.Pieces.{filled-none}
 use Rattle.parser.proofs.EventRun.{go-is, stop-is, refused-not-built, in-order, events-as-list, through-last, passing, StoppedAt, stopped-at}
 use Rattle.parser.proofs.Growths.{gate, past-root, past-room, Grown, run-grown}
@@ -77,11 +79,14 @@ module _ (text : List ℕ) (sound : AdmittedText text) (awaited : Bool) (m : Sca
   -- a record that differs from the machine's in its list only
   pub entry-says : (place : ℕ) (t : TagInfo) (r : Resolved) (x : Node) → withList x absent 0 ≡ withList (scalarNode text (scalarAt text awaited m value place) t r) absent 0
       → EntrySays text awaited m value r place t x
-  unfolding scalarNode spanLen
+  unfolding scalarOver
   entry-says place t r x e =
       record {
         kind = ap (λ (y : Node). y .kind) e;
-        span = ap (λ (y : Node). y .extent) e ∙ rw (boundary-is (start-boundary text (sound .utf8) awaited m value)) refl;
+        span =
+            ap (λ (y : Node). y .extent) e
+            ∙ ap (λ (k : Measure). extent (startAt text awaited m value) (startAt text awaited m value + k .len))
+            (span-from text (scalarAt text awaited m value place) (start-boundary text (sound .utf8) awaited m value));
         tag = ap (λ (y : Node). y .tag) e;
         subtree = ap (λ (y : Node). y .subtree) e;
         payload = ap (λ (y : Node). y .payload) e;
@@ -222,7 +227,7 @@ module _ (text : List ℕ) (sound : AdmittedText text) (m : ScalarMark) (value :
       (ap (keptAlone size aloneNode) (pieces-are text (sound .utf8) false m value 0))
 
   alone-no-list : aloneNode .list ≡ noList
-  unfolding scalarNode
+  unfolding scalarOver
   alone-no-list = refl
 
   -- rows 1, 2 and 3 let the call pass: demand 3 of its answer, its record and every number of its buffer
@@ -258,6 +263,19 @@ module _ (text : List ℕ) (sound : AdmittedText text) (m : ScalarMark) (value :
         entry = λ xs ps e. entry-says text sound false m value 0 noTag (resolveScalar value (m .style) false [] []) _
             (ap (λ (o : Outcome). withList (recordOf o) absent 0) scalar-is ∙ alone-same _ xs ps (sym scalar-is ∙ e));
         zero = λ number place e. ap recordOf e;
+      }
+
+  -- and its flag
+  pub scalar-flag : ScalarFlag text m value (scalarCall text m value size) (measuredAfter (scalarCall text m value size) (scalarMeasured text m value))
+  unfolding scalarMeasured
+  scalar-flag =
+      record {
+        says = λ xs ps e.
+            let rest = drop (startAt text false m value) text in
+            let is : scalarMeasured text m value ≡ scalarMeasure rest value (m .style) (m .empty) (m .column) .measured =
+            ap (λ (k : Measure). k .measured) (span-from text (scalarAt text false m value 0) (start-boundary text (sound .utf8) false m value)) in
+            rw (e, is) (scalar-says rest value (m .style) (m .empty) (m .column));
+        no = λ number place e. ap (λ (o : Outcome). measuredAfter o (scalarMeasured text m value)) e;
       }
 
 -- ---- a document: the calls' first rows
@@ -384,7 +402,7 @@ module _ (text events : List ℕ) (sound : AdmittedText text) (room most : ℕ) 
       (tagInfo text (startAt text awaited m value) (suffixOf tagAt)) (resolvedBy events value (m .style) tagAt)
 
   no-list-yet : nodeHere .list ≡ noList
-  unfolding scalarNode
+  unfolding scalarOver
   no-list-yet = refl
 
   abbrev foundHere : Option (List Piece)

@@ -17,7 +17,7 @@ use Rattle.event.specs.declared.tag.YamlTag.{YamlTag}
 use Rattle.event.specs.declared.read.Event.{Event}
 use Rattle.event.specs.declared.read.Event.the-variants.{SequenceStart, SequenceEnd, MappingStart, MappingEnd, Scalar, Alias, Malformed}
 use Rattle.records.specs.Record.{absent, noList, withList}
-use Rattle.spans.specs.Scalar.{ScalarAt, scalarNode, eventNode}
+use Rattle.spans.specs.Scalar.{ScalarAt, scalarOver, scalarNode, eventNode}
 use Rattle.spans.specs.Collection.{closes, collectionOver, collectionNode}
 use Rattle.parser.specs.Machine.{State, Next, go, stop, built, refused, depthLimit, rootDone, beforeRoot, withinDepth, withinRoom}
 use Rattle.parser.specs.Machine.{completed, onStart, ended, onEnd, onAlias, keeping, scalarKept, onScalar, onEvent, ending, follow}
@@ -155,7 +155,7 @@ module _ (text events : List ℕ) (room most : ℕ) (small : most < absent) wher
   alias-grown index st st′ e = subst (λ (s : State). Grown most st s) (go-is _ st′ (past-room room st _ st′ (past-root st _ st′ e .1) .1)) (grown-node most _ st _ refl refl refl)
 
   scalar-grown : (x : ScalarAt) (tag : YamlTag) (st st′ : State) → scalarKept text events most x tag st ≡ go st′ → Grown most st st′
-  unfolding scalarKept eventNode scalarNode
+  unfolding scalarKept eventNode scalarOver
   scalar-grown x tag st st′ e = grown-kept most _ _ st st′ small refl e
 
   pub step-grown : (e : Event) (st st′ : State) → onEvent text events room most e st ≡ go st′ → Grown most st st′

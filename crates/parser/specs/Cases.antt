@@ -19,10 +19,10 @@ use Rattle.schema.specs.Record.{twoNumbers}
 use Rattle.schema.specs.Tag.{standardTagSuffix, untagged, resolveScalar}
 use Rattle.schema.specs.declared.record.Payload.{Payload}
 use Rattle.measure.specs.Run.{whiteSpaceRun, afterRun, holdsNewline}
-use Rattle.measure.specs.Plain.{isFold, beginsWith, takesRun, plainReach, plainLen}
-use Rattle.measure.specs.Quoted.{passedTogether, toClosing, quotedLen, quotedOrValueLen}
+use Rattle.measure.specs.Plain.{isFold, beginsWith, takesRun, plainReach, plainMeasure}
+use Rattle.measure.specs.Quoted.{passedTogether, toClosing, quotedLen, quotedMeasure}
 use Rattle.measure.specs.Block.{lines, isBlank, trimmedLen, endsBlock, laterReach, blockReach, blockLen}
-use Rattle.measure.specs.Scalar.{plain, singleQuoted, doubleQuoted, literal, styleLen, scalarLen}
+use Rattle.measure.specs.Scalar.{plain, singleQuoted, doubleQuoted, literal, blockMeasure, styleMeasure, scalarMeasure}
 use Rattle.provenance.specs.Run.{whiteRun, newlinesIn, throughLast, cut, blankRun, onlyNewlines}
 use Rattle.provenance.specs.Escape.{digitsFrom, digits, radix16, codeContent, singleQuoteEscapes, isOneOf, oneByteEscapes, backslashEscape, doubleQuoteEscapes, escapesOf}
 use Rattle.provenance.specs.Grammar.{breakPair, opensBreak, breakStep, equalStep, endStep, step}
@@ -36,7 +36,7 @@ use Rattle.event.specs.Encode as event
 use Rattle.event.specs.Encode.{encodeString, encodeTag, encodeRest, encodeBody, encodeEvent}
 use Rattle.event.specs.Read.{readString, readTag, readStartTag, readScalar, readBody, readEvent}
 use Rattle.records.specs.Record.{extent, noTag, noList, pieceList}
-use Rattle.spans.specs.Scalar.{stepPast, scalarStart, spanLen, listAt, tagInfo, resolvedBy, scalarNode, eventNode, mark}
+use Rattle.spans.specs.Scalar.{stepPast, scalarStart, spanMeasure, listAt, tagInfo, resolvedBy, scalarOver, eventNode, mark}
 use Rattle.spans.specs.Collection.{closes, collectionEnd, collectionStart, members, collectionOver, collectionNode}
 use Rattle.parser.specs.Machine.{Outcome, built, rootDone, beforeRoot, withinDepth, withinRoom, completed, onStart, ended, keeping, scalarKept, onScalar, ending, run, runAll}
 use Rattle.parser.specs.Call.{building, oneScalar, scalarCall}
@@ -132,12 +132,12 @@ pub record WorkedCases : Type 0 where
 pub k1-to-k12 : WorkedCases
 unfolding scalarCall oneScalar admissionOfBoth admission isAscii isUtf8 allSome byteOffset codes charsAfter firstChar charOf multiByte twoBytes
     encode encodeAll building runAll run ending rootDone beforeRoot withinDepth withinRoom completed onStart ended keeping scalarKept onScalar
-    stepPast scalarStart tagInfo resolvedBy scalarNode eventNode closes collectionEnd collectionStart members collectionOver collectionNode highFirst
+    stepPast scalarStart tagInfo resolvedBy scalarOver eventNode closes collectionEnd collectionStart members collectionOver collectionNode highFirst
     numberAt encodeString encodeTag encodeRest encodeBody encodeEvent readString readTag readStartTag readScalar readBody readEvent
     standardTagSuffix resolveScalar untagged coreSchema table firstMatch accepts derivative nullable held inRange signedValue positional
-    digitValue byteLength charsBefore withWord tokens tokensBefore openings property spanOf decide firstTag tagBefore guess tagSpan spanLen listAt
-    isBoundary scalarLen styleLen plainLen plainReach takesRun beginsWith isFold holdsNewline afterRun whiteSpaceRun isWhiteSpace isIn
-    whiteSpace passedTogether toClosing quotedLen quotedOrValueLen lines isBlank trimmedLen endsBlock laterReach blockReach blockLen scalarList
+    digitValue byteLength charsBefore withWord tokens tokensBefore openings property spanOf decide firstTag tagBefore guess tagSpan spanMeasure listAt
+    isBoundary scalarMeasure styleMeasure plainMeasure plainReach takesRun beginsWith isFold holdsNewline afterRun whiteSpaceRun isWhiteSpace isIn
+    whiteSpace passedTogether toClosing quotedLen quotedMeasure blockMeasure lines isBlank trimmedLen endsBlock laterReach blockReach blockLen scalarList
     listFrom walkStart headerEnd beforeNewline atEmptyBlockHeader piecesIf piecesOf joined stepPieces readingOf readBy step endStep equalStep
     breakStep opensBreak breakPair sameBytes escapesOf doubleQuoteEscapes backslashEscape oneByteEscapes isOneOf singleQuoteEscapes codeContent
     radix16 digits digitsFrom whiteRun newlinesIn throughLast cut blankRun onlyNewlines

@@ -13,6 +13,7 @@ use Rattle.schema.specs.Tag.{resolveScalar}
 use Rattle.schema.specs.Record.{kindNumber, payloadOf}
 use Rattle.schema.specs.declared.plain.Resolved.{Resolved}
 use Rattle.measure.specs.Scalar.{scalarLen}
+use Rattle.measure.specs.Measured.{SaysMeasured}
 use Rattle.tag.specs.Tag.{tagSpan}
 use Rattle.event.specs.Read.{eventsLimit, part, partOf}
 use Rattle.event.specs.Encode.{Tag, untagged, tagged, YamlEvent, scalar}
@@ -108,6 +109,11 @@ pub record ScalarRecord (text : List ℕ) (m : ScalarMark) (value : List ℕ) (o
   pub entry : (xs : List Node) (ps : List Piece) → o ≡ built xs ps
       → EntrySays text false m value (resolvedAs untagged value (m .style)) 0 noTag (recordOf o)
   pub zero : (number place : ℕ) → o ≡ refused number place → recordOf o ≡ zeroNode
+
+-- and the flag: document 02's sentence where the scalar starts, and no on a refusal (02, (b))
+pub record ScalarFlag (text : List ℕ) (m : ScalarMark) (value : List ℕ) (o : Outcome) (t : Bool) : Type 0 where
+  pub says : (xs : List Node) (ps : List Piece) → o ≡ built xs ps → SaysMeasured (drop (startAt text false m value) text) value (m .style) t
+  pub no : (number place : ℕ) → o ≡ refused number place → t ≡ false
 
 -- ---- a document
 

@@ -15,10 +15,10 @@ use Rattle.utf8.specs.Characters.{codes, charsAfter, firstChar, charOf, multiBy
 use Rattle.utf8.specs.WhiteSpace.{whiteSpace, isIn, isWhiteSpace}
 use Rattle.schema.specs.CoreSchema.{coreSchema}
 use Rattle.measure.specs.Run.{whiteSpaceRun, afterRun, holdsNewline}
-use Rattle.measure.specs.Plain.{isFold, beginsWith, takesRun, plainReach, plainLen}
-use Rattle.measure.specs.Quoted.{passedTogether, toClosing, quotedLen, quotedOrValueLen}
+use Rattle.measure.specs.Plain.{isFold, beginsWith, takesRun, plainReach, plainMeasure}
+use Rattle.measure.specs.Quoted.{passedTogether, toClosing, quotedLen, quotedMeasure}
 use Rattle.measure.specs.Block.{lines, isBlank, trimmedLen, endsBlock, laterReach, blockReach, blockLen}
-use Rattle.measure.specs.Scalar.{styleLen, scalarLen}
+use Rattle.measure.specs.Scalar.{blockMeasure, styleMeasure, scalarMeasure}
 use Rattle.provenance.specs.Run.{whiteRun, newlinesIn, throughLast, cut, blankRun, onlyNewlines}
 use Rattle.provenance.specs.Escape.{digitsFrom, digits, radix16, codeContent, singleQuoteEscapes, isOneOf, oneByteEscapes, backslashEscape, doubleQuoteEscapes, escapesOf}
 use Rattle.provenance.specs.Grammar.{breakPair, opensBreak, breakStep, equalStep, endStep, step}
@@ -34,7 +34,7 @@ use Rattle.schema.specs.Record.{twoNumbers}
 use Rattle.event.specs.Number.{numberAt}
 use Rattle.event.specs.Read.{eventsLimit, readString, readTag, readStartTag, readScalar, readBody, readEvent}
 use Rattle.records.specs.Record.{extent, noTag, noList, pieceList, aliasNode}
-use Rattle.spans.specs.Scalar.{stepPast, scalarStart, spanLen, listAt, tagInfo, resolvedBy, scalarNode, eventNode, mark}
+use Rattle.spans.specs.Scalar.{stepPast, scalarStart, spanMeasure, listAt, tagInfo, resolvedBy, scalarOver, eventNode, mark}
 use Rattle.spans.specs.Collection.{closes, collectionEnd, collectionStart, members, collectionOver, collectionNode}
 use Rattle.parser.specs.Machine.{Outcome, built, refused, rootDone, beforeRoot, withinDepth, withinRoom, completed, onStart, ended, onAlias, keeping, scalarKept, onScalar, ending, run, runAll}
 use Rattle.records.specs.Layout.{pieceRoom}
@@ -120,11 +120,11 @@ pub record Rows : Type 0 where
 
 pub rows : Rows
 unfolding building runAll run ending rootDone beforeRoot withinDepth withinRoom completed onStart ended onAlias keeping scalarKept onScalar stepPast
-    scalarStart tagInfo resolvedBy scalarNode eventNode closes collectionEnd collectionStart members collectionOver collectionNode admission isAscii
+    scalarStart tagInfo resolvedBy scalarOver eventNode closes collectionEnd collectionStart members collectionOver collectionNode admission isAscii
     isUtf8 allSome byteOffset numberAt readString readTag readStartTag readScalar readBody readEvent resolveScalar untagged coreSchema table
-    firstMatch accepts derivative nullable held inRange signedValue positional digitValue spanLen listAt isBoundary scalarLen styleLen plainLen
+    firstMatch accepts derivative nullable held inRange signedValue positional digitValue spanMeasure listAt isBoundary scalarMeasure styleMeasure plainMeasure
     plainReach takesRun beginsWith isFold holdsNewline afterRun whiteSpaceRun isWhiteSpace isIn whiteSpace codes charsAfter firstChar charOf
-    multiByte encode encodeAll passedTogether toClosing quotedLen quotedOrValueLen lines isBlank trimmedLen endsBlock laterReach blockReach
+    multiByte encode encodeAll passedTogether toClosing quotedLen quotedMeasure blockMeasure lines isBlank trimmedLen endsBlock laterReach blockReach
     blockLen scalarList listFrom walkStart headerEnd beforeNewline atEmptyBlockHeader piecesIf piecesOf joined stepPieces readingOf readBy step
     endStep equalStep breakStep opensBreak breakPair sameBytes escapesOf doubleQuoteEscapes backslashEscape oneByteEscapes isOneOf
     singleQuoteEscapes codeContent radix16 digits digitsFrom whiteRun newlinesIn throughLast cut blankRun onlyNewlines
@@ -193,11 +193,11 @@ pub record Lists : Type 0 where
 
 pub lists : Lists
 unfolding scalarCall oneScalar admissionOfBoth building runAll run ending rootDone beforeRoot withinDepth withinRoom completed onStart ended
-    onAlias keeping scalarKept onScalar stepPast scalarStart tagInfo resolvedBy scalarNode eventNode closes collectionEnd collectionStart members
+    onAlias keeping scalarKept onScalar stepPast scalarStart tagInfo resolvedBy scalarOver eventNode closes collectionEnd collectionStart members
     collectionOver collectionNode admission isAscii isUtf8 allSome byteOffset numberAt readString readTag readStartTag readScalar readBody
     readEvent resolveScalar untagged coreSchema table firstMatch accepts derivative nullable held inRange signedValue positional digitValue
-    spanLen listAt isBoundary scalarLen styleLen plainLen plainReach takesRun beginsWith isFold holdsNewline afterRun whiteSpaceRun isWhiteSpace
-    isIn whiteSpace codes charsAfter firstChar charOf multiByte encode encodeAll passedTogether toClosing quotedLen quotedOrValueLen lines
+    spanMeasure listAt isBoundary scalarMeasure styleMeasure plainMeasure plainReach takesRun beginsWith isFold holdsNewline afterRun whiteSpaceRun isWhiteSpace
+    isIn whiteSpace codes charsAfter firstChar charOf multiByte encode encodeAll passedTogether toClosing quotedLen quotedMeasure blockMeasure lines
     isBlank trimmedLen endsBlock laterReach blockReach blockLen scalarList listFrom walkStart headerEnd beforeNewline atEmptyBlockHeader
     piecesIf piecesOf joined stepPieces readingOf readBy step endStep equalStep breakStep opensBreak breakPair sameBytes escapesOf
     doubleQuoteEscapes backslashEscape oneByteEscapes isOneOf singleQuoteEscapes codeContent radix16 digits digitsFrom whiteRun newlinesIn

@@ -189,13 +189,13 @@ Counted used NoRoom = Unit {0}
 Counted used NoList = Unit {0}
 
 -- what the call on one scalar answers, by the scalar's walk
-abbrev aloneBy : Node → Walked → ScalarAnswer
-aloneBy x (Listed n) = record { answer = Built 1 n; node = withList x 0 n }
-aloneBy x NoRoom = record { answer = Refused (walkedNumber NoRoom) 0; node = zeroNode }
-aloneBy x NoList = record { answer = Built 1 0; node = x }
+abbrev aloneBy : Node → Bool → Walked → ScalarAnswer
+aloneBy x t (Listed n) = record { answer = Built 1 n; node = withList x 0 n; measured = t }
+aloneBy x t NoRoom = record { answer = Refused (walkedNumber NoRoom) 0; node = zeroNode; measured = false }
+aloneBy x t NoList = record { answer = Built 1 0; node = x; measured = t }
 
 abbrev pub aloneAnswer : Entry → ScalarAnswer
-aloneAnswer x = aloneBy (x .node) (x .walked)
+aloneAnswer x = aloneBy (x .node) (x .measured) (x .walked)
 
 -- the scalar x is kept, its walk having left y in the free part of the pieces p, whatever its list o
 abbrev pub Keeps : Counts → Entry → List ℕ → List ℕ → Move → List ℕ → List ℕ → Type 0

@@ -20,7 +20,7 @@ fn same_span(
     if !utf8::utf8::is_utf8(value) {
         return false;
     }
-    let len = measure::scalar::scalar_len(rest, value, style, empty, column as usize);
+    let len = measure::scalar::scalar_len(rest, value, style, empty, column as usize).len;
     let start = replay::case::number_at(record, SPAN_AT);
     let end = replay::case::number_at(record, SPAN_AT + 4);
     if end < start {

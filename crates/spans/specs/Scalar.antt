@@ -11,7 +11,9 @@ use Rattle.text.specs.Offset.{byteOffset}
 use Rattle.schema.specs.Tag.{resolveScalar}
 use Rattle.schema.specs.Record.{kindNumber, payloadOf}
 use Rattle.schema.specs.declared.plain.Resolved.{Resolved}
-use Rattle.measure.specs.Scalar.{plain, scalarLen}
+use Rattle.measure.specs.Length.{assumed}
+use Rattle.measure.specs.Scalar.{plain, scalarMeasure, scalarLen}
+use Rattle.measure.specs.declared.length.Measure.{Measure}
 use Rattle.tag.specs.Tag.{tagSpan}
 use Rattle.tag.specs.declared.property.TagSpan.{TagSpan}
 use Rattle.provenance.specs.Reading.{Piece}
@@ -70,9 +72,13 @@ scalarAt text awaited m value place = scalarFrom (startAt text awaited m value) 
 
 -- ---- span and pieces: no length and no list where the start is past the text or inside a character (S1)
 
-unfoldable pub spanLen : List ℕ → ScalarAt → ℕ
-spanLen text x =
-    cond (isBoundary text (x .start)) (scalarLen (drop (x .start) text) (x .value) (x .style) (x .emptySpan) (x .column)) 0
+-- its span: how long it is, and whether that was measured (02, (b))
+unfoldable pub spanMeasure : List ℕ → ScalarAt → Measure
+spanMeasure text x =
+    cond (isBoundary text (x .start)) (scalarMeasure (drop (x .start) text) (x .value) (x .style) (x .emptySpan) (x .column)) (assumed 0)
+
+abbrev pub spanLen : List ℕ → ScalarAt → ℕ
+spanLen text x = spanMeasure text x .len
 
 -- its pieces, if its walk gives a list
 unfoldable pub listAt : List ℕ → ScalarAt → Option (List Piece)
@@ -105,17 +111,13 @@ unfoldable pub resolvedBy : List ℕ → List ℕ → ℕ → YamlTag → Resolv
 resolvedBy events value style Absent = resolveScalar value style false [] []
 resolvedBy events value style (Present h x) = resolveScalar value style true (partOf events h) (partOf events x)
 
--- the record of a scalar with no list
-unfoldable pub scalarNode : List ℕ → ScalarAt → TagInfo → Resolved → Node
-scalarNode text x tag r =
-    record {
-      kind = kindNumber r;
-      extent = extent (x .start) (x .start + spanLen text x);
-      tag = tag;
-      subtree = 1;
-      list = noList;
-      payload = payloadOf r (x .place) (length (x .value));
-    }
+-- the record of a scalar with no list: its bytes go from `start` to `end`, and its value, at `place`, has `len`
+unfoldable pub scalarOver : ℕ → ℕ → ℕ → ℕ → TagInfo → Resolved → Node
+scalarOver start end place len tag r =
+    record { kind = kindNumber r; extent = extent start end; tag = tag; subtree = 1; list = noList; payload = payloadOf r place len }
+
+abbrev pub scalarNode : List ℕ → ScalarAt → TagInfo → Resolved → Node
+scalarNode text x tag r = scalarOver (x .start) (x .start + spanLen text x) (x .place) (length (x .value)) tag r
 
 -- an event's scalar whose marker stands at byte i
 abbrev pub eventScalar : List ℕ → List ℕ → ℕ → Bool → ScalarEvent → ScalarAt

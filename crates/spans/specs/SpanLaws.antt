@@ -1,5 +1,5 @@
 -- Where spans start and end: at boundaries, within the text. And a scalar's pieces are those of the walk from document 01's first byte.
-use mathlib.Core.Path.{_≡_, refl, subst}
+use mathlib.Core.Path.{_≡_, refl, ap, _∙_, subst}
 use mathlib.Core.Bool.{Bool, true, false, _&&_, not, cond}
 use mathlib.Core.List.{List}
 use Prim.Native.Nat.{ℕ, _+_, _-_, _≤_, _<_}
@@ -18,7 +18,9 @@ use Rattle.text.specs.OffsetLaws.{offset-boundary}
 use Rattle.text.specs.Admission.{textLimit}
 use Rattle.text.specs.AdmissionLaws.{AdmittedText}
 use Rattle.schema.specs.declared.plain.Resolved.{Resolved}
-use Rattle.measure.specs.Scalar.{plain, scalarLen}
+use Rattle.measure.specs.Length.{assumed}
+use Rattle.measure.specs.Scalar.{plain, scalarMeasure}
+use Rattle.measure.specs.declared.length.Measure.{Measure}
 use Rattle.event.specs.Read.{eventsLimit, partOf}
 use Rattle.event.specs.Proved.{TextPart, TextParts}
 use Rattle.event.specs.declared.string.Part.{Part}
@@ -28,7 +30,7 @@ use Rattle.provenance.specs.Grammar.{rulesOf}
 use Rattle.provenance.specs.Start.{listFrom, scalarList}
 use Rattle.records.specs.declared.record.Node.{Node}
 use Rattle.records.specs.declared.record.TagInfo.{TagInfo}
-use Rattle.spans.specs.Scalar.{ScalarAt, stepPast, colon, scalarStart, startAt, scalarAt, spanLen, listAt, walkFirst, scalarNode, eventNode}
+use Rattle.spans.specs.Scalar.{ScalarAt, stepPast, colon, scalarStart, startAt, scalarAt, spanMeasure, spanLen, listAt, walkFirst, scalarOver, scalarNode, eventNode}
 use Rattle.spans.specs.Collection.{openBrace, closeBrace, closeBracket, collectionStart, collectionEnd, collectionOver, collectionNode}
 use Rattle.spans.specs.Fits.{TagFits}
 use Rattle.spans.specs.declared.open.Open.{Open}
@@ -85,10 +87,10 @@ collection-start-boundary text o a b = go (o .mapping && (ltb 0 (o .children) &&
 -- ---- spans
 
 pub span-within : (text : List ℕ) (x : ScalarAt) → x .start ≤ length text → x .start + spanLen text x ≤ length text
-unfolding spanLen scalarLen
+unfolding spanMeasure scalarMeasure
 span-within text x h = go (isBoundary text (x .start))
   where
-    go : (t : Bool) → x .start + cond t (scalarLen (drop (x .start) text) (x .value) (x .style) (x .emptySpan) (x .column)) 0 ≤ length text
+    go : (t : Bool) → x .start + cond t (scalarMeasure (drop (x .start) text) (x .value) (x .style) (x .emptySpan) (x .column)) (assumed 0) .len ≤ length text
     go true = let l : length (drop (x .start) text) ≡ length text - x .start = length-drop (x .start) text in omega arith
     go false = omega arith
 
@@ -112,7 +114,7 @@ unfolding collectionNode collectionOver
 collection-node-boundary text o i n a b = collection-start-boundary text o a b
 
 pub event-node-boundary : (text events : List ℕ) (x : ScalarAt) (tag : YamlTag) → Boundary text (x .start) → Boundary text (eventNode text events x tag .extent .start)
-unfolding eventNode scalarNode
+unfolding eventNode scalarOver
 event-node-boundary text events x tag on = on
 
 -- a scalar's record spans its measure
@@ -121,7 +123,7 @@ pub record Spans (text : List ℕ) (x : ScalarAt) (y : Node) : Type 0 where
   pub to : y .extent .end ≡ x .start + spanLen text x
 
 pub scalar-spans : (text : List ℕ) (x : ScalarAt) (t : TagInfo) (r : Resolved) → Spans text x (scalarNode text x t r)
-unfolding scalarNode
+unfolding scalarOver
 scalar-spans text x t r = record { from = refl; to = refl }
 
 -- ---- parts of the event bytes
@@ -151,8 +153,8 @@ unfolding listAt
 list-from text x on = rw (boundary-is on) refl
 
 pub span-from : (text : List ℕ) (x : ScalarAt) → Boundary text (x .start)
-    → spanLen text x ≡ scalarLen (drop (x .start) text) (x .value) (x .style) (x .emptySpan) (x .column)
-unfolding spanLen
+    → spanMeasure text x ≡ scalarMeasure (drop (x .start) text) (x .value) (x .style) (x .emptySpan) (x .column)
+unfolding spanMeasure
 span-from text x on = rw (boundary-is on) refl
 
 module _ (text : List ℕ) (utf8 : Utf8 text) (awaited : Bool) (m : ScalarMark) (value : List ℕ) where
@@ -161,5 +163,8 @@ module _ (text : List ℕ) (utf8 : Utf8 text) (awaited : Bool) (m : ScalarMark) 
 
   -- the pieces are those of the walk from document 01's first byte on
   pub pieces-are : (place : ℕ) → listAt text (scalarAt text awaited m value place) ≡ listFrom (rulesOf (m .style) (m .column)) text (walkFirst text awaited m value) value
-  unfolding listAt spanLen scalarList walkFirst
-  pieces-are place = rw (boundary-is start-boundary) refl
+  unfolding scalarList walkFirst
+  pieces-are place =
+      let x = scalarAt text awaited m value place in
+      list-from text x start-boundary
+      ∙ ap (λ (k : Measure). scalarList text (x .start) (k .len) (x .value) (x .style) (x .column)) (span-from text x start-boundary)

@@ -1,13 +1,14 @@
-// Scalars: their start, span, tag and pieces, what they are, and their record without pieces. (01: Reading rules, Start; S1, N1, E2.)
+// Scalars: their start, span, tag and pieces, what they are, and their record without pieces. (01: Reading rules, Start; S1, N1, E2. 02: (b).)
 ghost use mathlib.Core.Path.{_≡_};
 ghost use Prim.Native.Nat.{_+_, _≤_};
 ghost use lib.ListN.{length};
 ghost use Rattle.utf8.specs.Boundary.{Boundary};
+ghost use Rattle.text.specs.Admission.{textLimit};
 ghost use Rattle.text.specs.AdmissionLaws.{AdmittedText};
 ghost use Rattle.event.specs.Proved.{TextParts};
 ghost use Rattle.provenance.specs.Layout.{room, zeros, bufferOf};
 ghost use Rattle.spans.specs.Scalar.{stepPast, scalarStart, scalarFrom, listAt, suffixOf, tagInfo, resolvedBy};
-ghost use Rattle.spans.specs.Scalar.{scalarNode, eventScalar};
+ghost use Rattle.spans.specs.Scalar.{scalarOver, eventScalar};
 ghost use Rattle.spans.specs.Fits.{TagFits, EventFits, scalarEntry, eventEntry};
 use crate::open::Suffix;
 use event::string::Part;
@@ -43,9 +44,10 @@ pub struct ScalarEvent {
     pub value: Part,
 }
 
-// A scalar's record, with no list yet, and what its walk answered.
+// A scalar's record, with no list yet, whether its span was measured, and what its walk answered.
 pub struct Entry {
     pub node: Node,
+    pub measured: bool,
     pub walked: Walked,
 }
 
@@ -134,35 +136,32 @@ fn resolve(events: &[u8], value: &[u8], style: u8, tag: YamlTag) -> Resolved
     }
 }
 
-// The record of a scalar that starts at `start`, its value at `place`, with no list.
+// The record of a scalar whose bytes go from `start` to `end`, its value of `len` bytes at `place`, with no list.
 fn scalar_node(
-    text: &[u8],
     start: usize,
-    m: ScalarMark,
-    value: &[u8],
+    end: usize,
     place: u32,
+    len: usize,
     tag: TagInfo,
     resolved: Resolved,
 ) -> Node
-    requires { ⌜ AdmittedText (now text) × AdmittedText (now value) ⌝ }
-    requires { ⌜ Boundary (now text) start ⌝ }
-    ensures { λ r. ⌜ r ≡ scalarNode (now (text .entry)) (scalarFrom start m (now (value .entry)) place) tag resolved ⌝ }
+    requires { ⌜ (start ≤ textLimit) × (end ≤ textLimit) × (len ≤ textLimit) ⌝ }
+    ensures { λ r. ⌜ r ≡ scalarOver start end place len tag resolved ⌝ }
 {
-    let len = scalar_len(&text[start..], value, m.style, m.empty, m.column as usize);
     Node {
         kind: kind_number(resolved),
         extent: Extent {
             start: start as u32,
-            end: (start + len) as u32,
+            end: end as u32,
         },
         tag,
         subtree: 1,
         list: NO_LIST,
-        payload: payload_of(resolved, place, value.len() as u32),
+        payload: payload_of(resolved, place, len as u32),
     }
 }
 
-// A scalar that starts at `start`: its record, and its walk, which leaves its pieces in a buffer that is lent zero.
+// A scalar that starts at `start`: its record, whether its span was measured, and its walk, which leaves its pieces in a buffer that is lent zero.
 pub fn walk_scalar(
     text: &[u8],
     start: usize,
@@ -179,10 +178,15 @@ pub fn walk_scalar(
     ensures { λ r. ⌜ r ≡ scalarEntry (room (length (now (pieces .entry)))) (now (text .entry)) (scalarFrom start m (now (value .entry)) place) tag resolved ⌝ }
     ensures { λ r. ⌜ now (pieces .exit) ≡ bufferOf (length (now (pieces .entry))) (listAt (now (text .entry)) (scalarFrom start m (now (value .entry)) place)) ⌝ }
 {
-    let node = scalar_node(text, start, m, value, place, tag, resolved);
-    let len = node.extent.end as usize - start;
+    let span = scalar_len(&text[start..], value, m.style, m.empty, m.column as usize);
+    let len = span.len;
+    let node = scalar_node(start, start + len, place, value.len(), tag, resolved);
     let walked = scalar_provenance(text, start, len, value, m.style, m.column as usize, pieces);
-    Entry { node, walked }
+    Entry {
+        node,
+        measured: span.measured,
+        walked,
+    }
 }
 
 // The scalar of an event whose marker stands at `at`, awaited as a mapping's value or not.

@@ -4,6 +4,7 @@
 use borrow.Author.Needs.{needs}
 use mathlib.Core.Path.{_≡_, refl, sym, _∙_}
 use mathlib.Core.Logic.{⊎-elim}
+use mathlib.Core.Bool.{true}
 use mathlib.Core.List.{List}
 use Prim.Native.Nat.{ℕ, _+_, _-_, _≤_}
 use native.Mathlib.Omega.{arith}
@@ -19,16 +20,16 @@ use Rattle.measure.proofs.plain.plain_scalar_len.Statement.{statement}
 use Rattle.measure.proofs.plain.plain_scalar_len.Tie as tie
 
 abbrev Inv-loop : tie.InvT-loop
-Inv-loop rest value at end₀ known v c k₀ end k = (k ≤ c .len) × (Equal rest at value v k)
+Inv-loop rest value at end₀ measured₀ known v c k₀ end measured k = (measured ≡ true) × (k ≤ c .len) × (Equal rest at value v k)
 
 abbrev μ-loop : tie.MeasureT-loop
-μ-loop rest value at end₀ known v c k₀ end k = c .len - k
+μ-loop rest value at end₀ measured₀ known v c k₀ end measured k = c .len - k
 
 abbrev Inv-characters : tie.InvT-characters
-Inv-characters rest value at₀ end₀ known₀ v₀ at end known v = Matching rest value at end known v
+Inv-characters rest value at₀ end₀ measured₀ known₀ v₀ at end measured known v = (measured ≡ true) × Matching rest value at end known v
 
 abbrev μ-characters : tie.MeasureT-characters
-μ-characters rest value at₀ end₀ known₀ v₀ at end known v = length value - v
+μ-characters rest value at₀ end₀ measured₀ known₀ v₀ at end measured known v = length value - v
 
 -- ---- what is known where
 
@@ -59,7 +60,7 @@ module _ (c : Read) where
   value-utf8 = c .before .before .before .before .before .pre .1
 
   char-here : Char-at value-now v-now (c .first-char .result)
-  char-here = char-read value-utf8 (c .before .before .characters .inv .value-place) (c .before .characters-test .taken) (c .first-char .ensures)
+  char-here = char-read value-utf8 (c .before .before .characters .inv .1 .value-place) (c .before .characters-test .taken) (c .first-char .ensures)
 
 -- the run of the rest was read
 module _ (c : tie.After-white-space-run Inv-loop μ-loop Inv-characters μ-characters) where
@@ -70,13 +71,13 @@ module _ (c : tie.After-white-space-run Inv-loop μ-loop Inv-characters μ-chara
   run-here = run-read (rest-now at-char) (at-now at-char) (c .white-space-run .ensures)
 
   run-room : at-now at-char + c .white-space-run .result .len ≤ length (rest-now at-char)
-  run-room = run-fits (rest-utf8 at-char) (at-char .before .before .characters .inv .rest-place) run-here
+  run-room = run-fits (rest-utf8 at-char) (at-char .before .before .characters .inv .1 .rest-place) run-here
 
 -- the next character takes no run, by one of three ways: the run was looked at now, it is no blank and no newline, or the run was
 -- looked at before
 comparing : (c : tie.Joined1 Inv-loop μ-loop Inv-characters μ-characters) → Comparing (rest-now (c .before)) (value-now (c .before)) (at-now (c .before)) (end-now (c .before)) (c .if1 .known) (v-now (c .before)) (c .before .first-char .result)
 comparing c =
-    let r = c .before .before .before .characters .inv in
+    let r = c .before .before .before .characters .inv .1 in
     ⊎-elim (λ w. rw (w .7) (compare-looked r (run-read (rest-now (c .before)) (at-now (c .before)) (w .4 .ensures)) (w .5 .left)))
     (λ w. ⊎-elim (λ x. rw (x .3) (compare-other r (sym (x .1 .ensures) ∙ x .2 .left))) (λ x. rw (x .1) (compare-known r (x .0 .left))) w)
     (c .if1 .came)
@@ -89,10 +90,10 @@ module _ (c : tie.After-struct-known5 Inv-loop μ-loop Inv-characters μ-charact
   equal-here : Equal (rest-now at-equal) (at-now at-equal) (value-now at-equal) (v-now at-equal) (at-equal .first-char .result .len)
   equal-here =
       let inner = c .before .before .before .loop in
-      equal-all (rest-now at-equal) (at-now at-equal) (value-now at-equal) (v-now at-equal) (inner .inv .1) (inner .inv .0) (c .before .if4 .left)
+      equal-all (rest-now at-equal) (at-now at-equal) (value-now at-equal) (v-now at-equal) (inner .inv .2) (inner .inv .1) (c .before .if4 .left)
 
   equal-room : at-now at-equal + at-equal .first-char .result .len ≤ length (rest-now at-equal)
-  equal-room = equal-char (rest-utf8 at-equal) (at-equal .before .before .characters .inv .rest-place) (value-utf8 at-equal) (char-here at-equal) equal-here .room
+  equal-room = equal-char (rest-utf8 at-equal) (at-equal .before .before .characters .inv .1 .rest-place) (value-utf8 at-equal) (char-here at-equal) equal-here .room
 
 -- and the letters after it
 module _ (c : tie.After-letters Inv-loop μ-loop Inv-characters μ-characters) where
@@ -105,10 +106,10 @@ module _ (c : tie.After-letters Inv-loop μ-loop Inv-characters μ-characters) w
 -- ---- the answers
 
 characters-holds : tie.Need-characters-holds Inv-loop μ-loop Inv-characters μ-characters
-characters-holds c = match-begins (c .before .before .pre .0) (c .before .before .pre .1)
+characters-holds c = (refl, match-begins (c .before .before .pre .0) (c .before .before .pre .1))
 
 sub-white-space-run : tie.Need-sub-white-space-run Inv-loop μ-loop Inv-characters μ-characters
-sub-white-space-run c = let b = c .before .before .before .before .before .characters .inv .rest-place .within in omega arith
+sub-white-space-run c = let b = c .before .before .before .before .before .characters .inv .1 .rest-place .within in omega arith
 
 part-white-space-run-start :
     tie.Need-part-white-space-run-start Inv-loop μ-loop Inv-characters μ-characters
@@ -120,7 +121,7 @@ part-white-space-run-end c = search needs
 
 white-space-run-requires :
     tie.Need-white-space-run-requires Inv-loop μ-loop Inv-characters μ-characters
-white-space-run-requires c κs = part-utf8 (c .before .before .before .before .before .before .before .before .before .pre .0) (c .before .before .before .before .before .before .characters .inv .rest-place)
+white-space-run-requires c κs = part-utf8 (c .before .before .before .before .before .before .before .before .before .pre .0) (c .before .before .before .before .before .before .characters .inv .1 .rest-place)
 
 add-at : tie.Need-add-at Inv-loop μ-loop Inv-characters μ-characters
 add-at c = let f = run-room (c .before .before) in omega arith
@@ -135,21 +136,24 @@ characters-again : tie.Need-characters-again Inv-loop μ-loop Inv-characters μ-
 characters-again c =
     let at = c .before .before .before .before .before .before .before .before in
     let fold = sym (c .before .before .before .before .before .before .is-fold .ensures) ∙ c .before .before .before .before .before .if2 .taken in
-    match-run (rest-utf8 at) (value-utf8 at) (at .before .before .characters .inv) (char-here at) (c .before .before .before .before .before .before .before .if1 .taken)
-    (run-here (c .before .before .before)) fold (c .before .before .if3 .taken)
+    let inv = at .before .before .characters .inv in (
+      inv .0,
+      match-run (rest-utf8 at) (value-utf8 at) (inv .1) (char-here at) (c .before .before .before .before .before .before .before .if1 .taken)
+          (run-here (c .before .before .before)) fold (c .before .before .if3 .taken),
+    )
 
 add-known : tie.Need-add-known Inv-loop μ-loop Inv-characters μ-characters
 add-known c = let f = run-room (c .before .before) in omega arith
 
 loop-holds : tie.Need-loop-holds Inv-loop μ-loop Inv-characters μ-characters
-loop-holds c = (omega arith, refl)
+loop-holds c = (c .before .before .before .characters .inv .0, omega arith, refl)
 
 add-has-byte : tie.Need-add-has-byte Inv-loop μ-loop Inv-characters μ-characters
 add-has-byte c =
     let at = c .before .before .before .before in
     let start = at .before .before .before .before .before in
     let a = char-here at in
-    let b = at .before .before .characters .inv .rest-place .within in
+    let b = at .before .before .characters .inv .1 .rest-place .within in
     let l = start .good .0 .1 in
     let m = start .good .1 .0 .1 in
     omega arith
@@ -167,12 +171,12 @@ loop-again c =
     let inner = c .before .before .before .before .before .loop in
     let a = char-here at in
     let same = sym (c .before .has-byte .ensures) ∙ not-false _ (c .if5 .left) in
-    (omega arith, equal-more (rest-now at) (at-now at) (value-now at) (v-now at) (inner .k) (inner .inv .1) (omega arith) same)
+    (inner .inv .0, omega arith, equal-more (rest-now at) (at-now at) (value-now at) (v-now at) (inner .k) (inner .inv .2) (omega arith) same)
 
 add-at-2 : tie.Need-add-at-2 Inv-loop μ-loop Inv-characters μ-characters
 add-at-2 c =
     let at = c .before .before .before .before .before in
-    let b = equal-char (rest-utf8 at) (at .before .before .characters .inv .rest-place) (value-utf8 at) (char-here at) (equal-here c) in
+    let b = equal-char (rest-utf8 at) (at .before .before .characters .inv .1 .rest-place) (value-utf8 at) (char-here at) (equal-here c) in
     omega arith
 
 add-v-2 : tie.Need-add-v-2 Inv-loop μ-loop Inv-characters μ-characters
@@ -197,10 +201,10 @@ characters-again-2 : tie.Need-characters-again-2 Inv-loop μ-loop Inv-characters
 characters-again-2 c =
     let at = at-char-of c in
     let r = match-equal (rest-utf8 at) (value-utf8 at) (comparing (at-joined c)) (char-here at) (equal-here (c .before .before)) in
-    match-letters (rest-utf8 at) (value-utf8 at) r (c .letters .ensures .letters)
+    (c .before .before .before .before .before .loop .inv .0, match-letters (rest-utf8 at) (value-utf8 at) r (c .letters .ensures .letters))
 
 returns : tie.Need-returns Inv-loop μ-loop Inv-characters μ-characters
-returns c = match-at-end (c .before .characters .inv) (c .characters-test .left)
+returns c = let inv = c .before .characters .inv in rw (inv .0) (match-at-end (inv .1) (c .characters-test .left))
 
 returns-2 : tie.Need-returns-2 Inv-loop μ-loop Inv-characters μ-characters
 returns-2 c =

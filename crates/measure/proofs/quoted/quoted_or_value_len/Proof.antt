@@ -2,17 +2,17 @@
 use borrow.Author.Needs.{needs}
 use mathlib.Core.Path.{sym, _∙_, ap}
 use lib.ListN.{length}
-use Rattle.measure.specs.Quoted.{foundLenOr, quotedOrValueLen}
+use Rattle.measure.specs.Quoted.{foundOr, quotedMeasure}
 use Rattle.measure.proofs.quoted.quoted_or_value_len.Statement.{statement}
 use Rattle.measure.proofs.quoted.quoted_or_value_len.Tie as tie
 
 returns : tie.Need-returns
-unfolding quotedOrValueLen
-returns c = ap (foundLenOr (length (c .before .before .before .before .before .args .value .now))) (sym (c .enum-told .given .1) ∙ c .before .before .quoted-scalar-len .ensures)
+unfolding quotedMeasure
+returns c = ap (foundOr (length (c .before .before .before .before .before .args .value .now))) (sym (c .enum-told .given .1) ∙ c .before .before .quoted-scalar-len .ensures)
 
 returns-2 : tie.Need-returns-2
-unfolding quotedOrValueLen
-returns-2 c = ap (foundLenOr (length (c .before .before .before .before .before .before .args .value .now))) (sym (c .before .n .given .1) ∙ c .before .before .before .quoted-scalar-len .ensures)
+unfolding quotedMeasure
+returns-2 c = ap (foundOr (length (c .before .before .before .before .before .before .args .value .now))) (sym (c .before .n .given .1) ∙ c .before .before .before .quoted-scalar-len .ensures)
 
 pub quoted-or-value-len-spec : {M : Type 1} → statement M
 quoted-or-value-len-spec =
