@@ -10,11 +10,13 @@ const BLOCKS: [u8; 2] = [LITERAL, FOLDED];
 
 pub fn write(run: &mut Run) {
     put_worked(run);
+    put_white_space(run);
+    put_stretches(run);
     put_refused(run);
     put_plain_words(run);
     put_quoted_words(run);
     put_block_words(run);
-    for _ in 0..run.sized(900, 500_000) {
+    for _ in 0..run.sized(850, 500_000) {
         put_random(run);
     }
 }
@@ -102,6 +104,34 @@ fn put_worked(run: &mut Run) {
         for (index, value) in [(0, "a"), (0, ""), (1, "it's")] {
             put(run, text, index, SINGLE_QUOTED, value);
             put(run, text, index, DOUBLE_QUOTED, value);
+        }
+    }
+}
+
+/// The characters of Unicode's White_Space, and those next to them, on both sides of a newline.
+fn put_white_space(run: &mut Run) {
+    for letter in ('\0'..='\u{10000}').filter(|letter| is_next_to_white_space(*letter)) {
+        put(run, &format!("a{letter}\nb"), 0, PLAIN, "a b");
+        put(run, &format!("a\n{letter}b"), 0, PLAIN, "a\nb");
+    }
+}
+
+fn is_next_to_white_space(letter: char) -> bool {
+    let code = u32::from(letter);
+    (code.saturating_sub(1)..=code + 1).filter_map(char::from_u32).any(char::is_whitespace)
+}
+
+/// Letters in a row, of which the last is wrong or the closing mark is missing. The port passes over many bytes at a time.
+fn put_stretches(run: &mut Run) {
+    let letters = ["a", "b", "c", "d", "e", "é", "f", "g"].repeat(5);
+    for length in 1..=34 {
+        let stretch = letters[..length].concat();
+        put(run, &format!("{stretch} g"), 0, PLAIN, &stretch);
+        put(run, &format!("{stretch} g"), 0, PLAIN, &format!("{}g", letters[..length - 1].concat()));
+        for style in [SINGLE_QUOTED, DOUBLE_QUOTED] {
+            let (quote, other) = quotes(style);
+            put(run, &format!("{quote}{stretch}{quote} g"), 0, style, "");
+            put(run, &format!("{quote}{stretch}{other} g"), 0, style, "");
         }
     }
 }
