@@ -44,6 +44,8 @@ pub struct Sent {
 
 pub struct Flags {
     program: Program,
+    /// So many that differ are searched for.
+    wanted: u64,
     batch: Vec<Sent>,
     batch_bytes: usize,
     counts: Counts,
@@ -77,9 +79,10 @@ struct Tally {
 }
 
 impl Flags {
-    pub fn new(program: Program) -> Self {
+    pub fn new(program: Program, wanted: u64) -> Self {
         Self {
             program,
+            wanted,
             batch: Vec::new(),
             batch_bytes: 0,
             counts: Counts::default(),
@@ -90,8 +93,8 @@ impl Flags {
         }
     }
 
-    /// Sends the scalars of a case. So many different ones are searched for.
-    pub fn add(&mut self, of: u64, case: &Case, wanted: u64) {
+    /// Sends the scalars of the case of a number.
+    pub fn add(&mut self, of: u64, case: &Case) {
         if self.failure.is_some() {
             return;
         }
@@ -105,28 +108,36 @@ impl Flags {
             self.batch.push(Sent { of, case, answer });
         }
         if self.batch_bytes >= BATCH {
-            self.hold(wanted);
+            self.hold();
         }
     }
 
     /// Has the program read what has been sent.
-    pub fn hold(&mut self, wanted: u64) {
+    fn hold(&mut self) {
         self.batch_bytes = 0;
         let batch = mem::take(&mut self.batch);
-        if let Err(failure) = self.hold_batch(batch, wanted) {
+        if let Err(failure) = self.hold_batch(batch) {
             self.failure = Some(failure);
         }
     }
 
-    fn hold_batch(&mut self, batch: Vec<Sent>, wanted: u64) -> Result<(), String> {
+    fn hold_batch(&mut self, batch: Vec<Sent>) -> Result<(), String> {
         if batch.is_empty() {
             return Ok(());
         }
         let Tally { same, different } = replay(self.program, &batch)?;
         self.held += same + different;
         self.different += different;
-        let missing = wanted.saturating_sub(self.found.len() as u64).min(different);
+        let missing = self.wanted.saturating_sub(self.found.len() as u64).min(different);
         search(self.program, batch, missing, &mut self.found)
+    }
+
+    /// Has the rest read. That none was sent at all is a failure too.
+    pub fn finish(&mut self) {
+        self.hold();
+        if self.held == 0 && self.failure.is_none() {
+            self.failure = Some("there was none to send".into());
+        }
     }
 
     pub fn print(&self) {

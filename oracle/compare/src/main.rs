@@ -101,7 +101,7 @@ impl Comparison {
             panicked: 0,
             different: 0,
             other_calls: 0,
-            flags: program.map(Flags::new),
+            flags: program.map(|program| Flags::new(program, PRINTED)),
         }
     }
 
@@ -153,7 +153,7 @@ impl Comparison {
         self.panicked += u64::from(answer.returned[0] == Answer::PANICKED);
         self.coverage.add(case, &answer);
         if let Some(flags) = &mut self.flags {
-            flags.add(self.cases, case, PRINTED);
+            flags.add(self.cases, case);
         }
         if !calls::agree(case, &answer, self.memory) {
             self.other_calls += 1;
@@ -200,7 +200,7 @@ impl Comparison {
         let Some(flags) = &mut self.flags else {
             return println!("\nMeasured and assumed spans: left out with --exact");
         };
-        flags.hold(PRINTED);
+        flags.finish();
         for sent in &flags.found {
             println!("case {}: the flag of a scalar differs", sent.of);
             show::print_flag(sent);

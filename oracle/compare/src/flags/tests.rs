@@ -57,15 +57,15 @@ fn sequence(text: &[u8], count: usize, value: &[u8]) -> Case {
 /// Random cases of every family, and after each hundred of them one of the cases given, whose numbers are 1001 and on.
 fn held(program: Program, among: &[Case], wanted: u64) -> Flags {
     answers::silence_listed_panic();
-    let mut flags = Flags::new(program);
+    let mut flags = Flags::new(program, wanted);
     let mut number = 0;
     let mut put = |case: &Case| {
         number += 1;
-        flags.add(number, case, wanted);
+        flags.add(number, case);
         if number % 100 == 0
             && let Some(case) = among.get(number as usize / 100 - 1)
         {
-            flags.add(1_000 + number / 100, case, wanted);
+            flags.add(1_000 + number / 100, case);
         }
     };
     for (_, random) in RANDOM {
@@ -74,7 +74,7 @@ fn held(program: Program, among: &[Case], wanted: u64) -> Flags {
             random(&mut run);
         }
     }
-    flags.hold(wanted);
+    flags.finish();
     flags
 }
 
@@ -112,10 +112,10 @@ fn the_first_turned_flags_are_found() {
 
 #[test]
 fn a_missing_refusal_is_found() {
-    let mut flags = Flags::new(never_refusing);
-    flags.add(1, &case(b"\xFF", &[plain(0, b"")]), 5);
-    flags.add(2, &case(b"a", &[plain(0, b"")]), 5);
-    flags.hold(5);
+    let mut flags = Flags::new(never_refusing, 5);
+    flags.add(1, &case(b"\xFF", &[plain(0, b"")]));
+    flags.add(2, &case(b"a", &[plain(0, b"")]));
+    flags.finish();
     assert_eq!((flags.counts.refused, flags.different, flags.found[0].of), (1, 1, 1));
 }
 
@@ -130,14 +130,17 @@ fn a_program_that_does_not_answer_is_told() {
         |_| Ok("2 the same\n0 not answered by the original\n0 different\n1 too large for this program\n".into()),
     ];
     for program in programs {
-        let mut flags = Flags::new(program);
-        flags.add(1, &sequence(b"a", 2, b"a"), 5);
-        flags.hold(5);
+        let mut flags = Flags::new(program, 5);
+        flags.add(1, &sequence(b"a", 2, b"a"));
+        flags.finish();
         assert!(flags.failure.is_some());
         // Nothing is sent after that.
-        flags.add(2, &sequence(b"a", 2, b"a"), 5);
+        flags.add(2, &sequence(b"a", 2, b"a"));
         assert_eq!((sent(&flags), flags.held), (2, 0));
     }
+    let mut flags = Flags::new(right, 5);
+    flags.finish();
+    assert!(flags.failure.is_some());
 }
 
 #[test]
