@@ -61,6 +61,18 @@ pub fn event(bytes: &[u8], place: usize) -> Option<(Event, usize)> {
     complete.then_some((Event { place, index, body }, header.left.start))
 }
 
+/// The style of a number, or none where row 3 refuses.
+pub fn style(number: u8) -> Option<ScalarStyle> {
+    match number {
+        0 => Some(ScalarStyle::Plain),
+        1 => Some(ScalarStyle::SingleQuoted),
+        2 => Some(ScalarStyle::DoubleQuoted),
+        3 => Some(ScalarStyle::Literal),
+        4 => Some(ScalarStyle::Folded),
+        _ => None,
+    }
+}
+
 /// The fields of a header or a body; each read is none where too little is left.
 struct Fields<'a> {
     bytes: &'a [u8],
@@ -103,14 +115,7 @@ impl Fields<'_> {
     }
 
     fn style(&mut self) -> Option<ScalarStyle> {
-        match self.byte()? {
-            0 => Some(ScalarStyle::Plain),
-            1 => Some(ScalarStyle::SingleQuoted),
-            2 => Some(ScalarStyle::DoubleQuoted),
-            3 => Some(ScalarStyle::Literal),
-            4 => Some(ScalarStyle::Folded),
-            _ => None,
-        }
+        style(self.byte()?)
     }
 
     fn utf8(&mut self, length: usize) -> Option<Range<usize>> {

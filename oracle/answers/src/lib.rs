@@ -6,6 +6,8 @@ mod admit;
 mod buffer;
 mod damaged;
 pub mod decode;
+mod flags;
+pub mod measured;
 mod nodes;
 mod original;
 mod record;
@@ -13,6 +15,8 @@ mod scan_errors;
 mod tree;
 
 pub use damaged::damaged;
+use decode::{Body, Scalar};
+pub use flags::measured;
 use framing::{Answer, Case};
 pub use nodes::nodes;
 use original::Panicked;
@@ -69,6 +73,16 @@ pub fn answer(case: &Case) -> Answer {
 pub fn received(events: &[u8]) -> Vec<Received> {
     let admitted = admit::admit(events, usize::MAX);
     admitted.events.iter().map(|event| original::received(event, events)).collect()
+}
+
+/// The scalars that document 01's table lets through, with their marker indices. The rooms are not looked at.
+pub fn scalars(events: &[u8]) -> Vec<(u32, Scalar)> {
+    let admitted = admit::admit(events, usize::MAX);
+    let scalars = admitted.events.into_iter().filter_map(|event| match event.body {
+        Body::Scalar(scalar) => Some((event.index, scalar)),
+        _ => None,
+    });
+    scalars.collect()
 }
 
 /// The answer where the original panics on the event at a place: row 8 may refuse one of those before it.

@@ -11,6 +11,7 @@ fn main() -> io::Result<()> {
     let answer = match env::args().nth(1).as_deref() {
         Some("nodes") => answers::nodes,
         Some("damaged") => answers::damaged,
+        Some("measured") => answers::measured,
         Some("scan_errors") => answers::scan_errors,
         _ => answers::answer,
     };

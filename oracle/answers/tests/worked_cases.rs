@@ -212,3 +212,24 @@ fn an_error_covers_one_character() {
     assert_eq!(refusal(b"\xc3".to_vec()), [2, 0, 0]);
     assert_eq!(refusal(vec![0xFF; 1_048_577]), [1, 0, 0]);
 }
+
+#[test]
+fn flags_of_one_scalar() {
+    let flag = |text: &[u8], scalar: Scalar| {
+        let answer = answers::measured(&Case { text: text.into(), ..case("", &[Event::Scalar(scalar)]) });
+        assert!(answer.records.len() == 1 && answer.pieces.is_empty());
+        (answer.returned[0], answer.records[0])
+    };
+    assert_eq!(flag(b"a \n  b", scalar(PLAIN, "a b")), (0, 1));
+    assert_eq!(flag(b"a\n\n\nb", scalar(PLAIN, "a\n\nb")), (0, 0));
+    assert_eq!(flag("é: a".as_bytes(), Scalar { index: 3, ..scalar(PLAIN, "a") }), (0, 1));
+    assert_eq!(flag(b"'it''s'", scalar(SINGLE_QUOTED, "it's")), (0, 1));
+    assert_eq!(flag(b"\"a\\\"", scalar(DOUBLE_QUOTED, "a")), (0, 0));
+    assert_eq!(flag(b"", scalar(LITERAL, "a")), (0, 1));
+    // Rows 1, 2 and 3, in this order.
+    assert_eq!(flag(&[0xFF; 1_048_577], scalar(5, "")), (1, 0));
+    assert_eq!(flag(&[b'a'; 1_048_576], scalar(PLAIN, "a")), (0, 1));
+    assert_eq!(flag(b"\xFF", scalar(5, "")), (2, 0));
+    assert_eq!(flag(b"", Scalar { value: b"\xFF", ..scalar(5, "") }), (2, 0));
+    assert_eq!(flag(b"", scalar(5, "")), (3, 0));
+}

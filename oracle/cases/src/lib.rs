@@ -8,6 +8,7 @@ pub mod chapter;
 mod classes;
 mod damaged;
 mod events;
+mod measured;
 mod measures;
 mod nodes;
 mod offsets;
@@ -29,10 +30,11 @@ use run::Run;
 pub type Family = fn(&mut Run);
 
 /// The families that `build` answers, by their names.
-pub const FAMILIES: [(&str, Family); 8] = [
+pub const FAMILIES: [(&str, Family); 9] = [
     ("offsets", offsets::write),
     ("schema", schema::write),
     ("measures", measures::write),
+    ("measured", measured::write),
     ("walks", walks::write),
     ("classes", classes::write),
     ("tags", tags::write),
@@ -45,10 +47,11 @@ pub const ACCESSOR_FAMILIES: [(&str, Family); 3] =
     [("nodes", nodes::write), ("damaged", damaged::write), ("scan_errors", scan_errors::write)];
 
 /// Puts the next random cases of a family.
-pub const RANDOM: [(&str, Family); 8] = [
+pub const RANDOM: [(&str, Family); 9] = [
     ("offsets", offsets::put_random),
     ("schema", schema::put_random),
     ("measures", measures::put_random),
+    ("measured", measured::put_random),
     ("walks", walks::put_random),
     ("breaks", walks::put_breaks),
     ("stretches", stretches::put_random),

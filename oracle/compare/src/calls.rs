@@ -1,10 +1,10 @@
 //! The two other calls that read a text, on what a case has for them: its scalar, where it is a single one without a tag, and the
 //! marker of its first event.
 
+use crate::flags::style_number;
 use crate::held::{BEFORE, BEFORE_BYTE, Lent, Memory, holds};
 use answers::decode::{self, Body, Event, Scalar};
 use framing::{Answer, Case};
-use saphyr_parser::ScalarStyle;
 
 const RECORD_NUMBERS: usize = 12;
 /// The kinds whose payload is the place and the length of the value.
@@ -51,16 +51,6 @@ fn scalar_agrees(case: &Case, event: &Event, scalar: &Scalar, answer: &Answer, m
         && text.is_guarded(BEFORE_BYTE)
         && value.is_guarded(BEFORE_BYTE)
         && lent.is_guarded(BEFORE)
-}
-
-fn style_number(style: ScalarStyle) -> u8 {
-    match style {
-        ScalarStyle::Plain => 0,
-        ScalarStyle::SingleQuoted => 1,
-        ScalarStyle::DoubleQuoted => 2,
-        ScalarStyle::Literal => 3,
-        ScalarStyle::Folded => 4,
-    }
 }
 
 fn scan_error_agrees(case: &Case, index: u32) -> bool {

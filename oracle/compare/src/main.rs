@@ -4,9 +4,13 @@
 //! First the sample of each family with the corpus, or with `--full` its full list; then sizes at the limits and chapters;
 //! then CASES random ones. `--exact` puts each input and buffer into an allocation of its exact size, for a memory checker,
 //! and leaves out what is large. A case that differs is shrunk and printed; the exit status says whether there was one.
+//!
+//! What the port says of each scalar's span, measured or assumed, is held to a second implementation, by a program of its own;
+//! not with `--exact`.
 
 mod calls;
 mod coverage;
+mod flags;
 mod held;
 mod show;
 mod shrink;
@@ -19,6 +23,7 @@ use cases::run::Run;
 use cases::script::SCRIPTS;
 use cases::{FAMILIES, LIMITS, RANDOM, SEED};
 use coverage::Coverage;
+use flags::{Flags, Program};
 use framing::{Answer, Case};
 use held::{Build, Memory, outcome};
 use std::env;
@@ -45,6 +50,7 @@ struct Comparison {
     different: u64,
     /// Cases on which one of the two other calls differs.
     other_calls: u64,
+    flags: Option<Flags>,
 }
 
 fn main() -> ExitCode {
@@ -53,7 +59,8 @@ fn main() -> ExitCode {
         eprintln!("usage: compare [--exact|--full] [CASES] [SEED]");
         return ExitCode::FAILURE;
     };
-    let mut comparison = Comparison::new(port::build, options.memory);
+    let program: Option<Program> = (options.memory == Memory::Guarded).then_some(flags::child);
+    let mut comparison = Comparison::new(port::build, options.memory, program);
     comparison.families(options.full);
     if options.memory == Memory::Guarded {
         comparison.family("limits", LIMITS, false, SEED);
@@ -84,8 +91,18 @@ fn options() -> Option<Options> {
 }
 
 impl Comparison {
-    fn new(build: Build, memory: Memory) -> Self {
-        Self { build, memory, coverage: Coverage::new(), cases: 0, panicked: 0, different: 0, other_calls: 0 }
+    /// Without a program the flags are left out.
+    fn new(build: Build, memory: Memory, program: Option<Program>) -> Self {
+        Self {
+            build,
+            memory,
+            coverage: Coverage::new(),
+            cases: 0,
+            panicked: 0,
+            different: 0,
+            other_calls: 0,
+            flags: program.map(|program| Flags::new(program, PRINTED)),
+        }
     }
 
     fn families(&mut self, full: bool) {
@@ -135,6 +152,9 @@ impl Comparison {
         self.cases += 1;
         self.panicked += u64::from(answer.returned[0] == Answer::PANICKED);
         self.coverage.add(case, &answer);
+        if let Some(flags) = &mut self.flags {
+            flags.add(self.cases, case);
+        }
         if !calls::agree(case, &answer, self.memory) {
             self.other_calls += 1;
             if self.other_calls <= PRINTED {
@@ -157,16 +177,35 @@ impl Comparison {
         show::print(&small, &outcome(build, &small, memory), &answers::answer(&small));
     }
 
-    fn report(&self) -> ExitCode {
+    fn report(&mut self) -> ExitCode {
         println!("\nHow often each rule was met:");
         self.coverage.print();
         let missing = self.coverage.missing();
         if missing > 0 {
             println!("{missing} RULES WERE NEVER MET");
         }
+        self.report_flags();
         println!("\n{} cases, {} of them not answered by the original", self.cases, self.panicked);
-        println!("{} different", self.different + self.other_calls);
-        if self.different + self.other_calls == 0 { ExitCode::SUCCESS } else { ExitCode::FAILURE }
+        let flags = self.flags.as_ref();
+        let different = self.different + self.other_calls + flags.map_or(0, |flags| flags.different);
+        println!("{different} different");
+        if let Some(failure) = flags.and_then(|flags| flags.failure.as_ref()) {
+            println!("NOT ALL FLAGS WERE HELD: {failure}");
+            return ExitCode::FAILURE;
+        }
+        if different == 0 { ExitCode::SUCCESS } else { ExitCode::FAILURE }
+    }
+
+    fn report_flags(&mut self) {
+        let Some(flags) = &mut self.flags else {
+            return println!("\nMeasured and assumed spans: left out with --exact");
+        };
+        flags.finish();
+        for sent in &flags.found {
+            println!("case {}: the flag of a scalar differs", sent.of);
+            show::print_flag(sent);
+        }
+        flags.print();
     }
 }
 

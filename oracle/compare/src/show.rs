@@ -1,13 +1,12 @@
 //! A case in a form to paste.
 
+use crate::flags::Sent;
 use crate::held::Outcome;
 use answers::decode::{self, Body};
 use framing::{Answer, Case};
 
 pub fn print(case: &Case, outcome: &Outcome, answer: &Answer) {
-    println!("  text    b\"{}\"", case.text.escape_ascii());
-    println!("  events  {}", hexadecimal(&case.events));
-    print_events(&case.events);
+    print_case(case);
     println!("  rooms   {} records numbers, {} piece numbers", case.record_room, case.piece_room);
     println!("  returned: original {:?}, port {:?}", answer.returned, outcome.returned);
     print_numbers("records", 12, &answer.records, &outcome.records);
@@ -15,6 +14,23 @@ pub fn print(case: &Case, outcome: &Outcome, answer: &Answer) {
     if !outcome.kept {
         println!("  a guard, the text or the events were written to");
     }
+}
+
+/// A scalar whose flag, or whose refusal, is another.
+pub fn print_flag(sent: &Sent) {
+    print_case(&sent.case);
+    let expected = match (sent.answer.returned[0], sent.answer.records[0]) {
+        (0, 0) => "assumed".into(),
+        (0, _) => "measured".into(),
+        (row, _) => format!("refused by row {row}"),
+    };
+    println!("  second implementation: {expected}; the port says otherwise");
+}
+
+fn print_case(case: &Case) {
+    println!("  text    b\"{}\"", case.text.escape_ascii());
+    println!("  events  {}", hexadecimal(&case.events));
+    print_events(&case.events);
 }
 
 fn hexadecimal(bytes: &[u8]) -> String {

@@ -80,7 +80,7 @@ fn a_differing_case_is_made_small() {
 
 #[test]
 fn every_sound_case_is_counted() {
-    let mut comparison = Comparison::new(port::build, Memory::Exact);
+    let mut comparison = Comparison::new(port::build, Memory::Exact, None);
     for case in random("walks", 7, 500) {
         comparison.compare(&case);
     }
