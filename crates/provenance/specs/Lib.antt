@@ -42,3 +42,7 @@ pub mod RunLaws
 pub mod StepLaws
 -- pieces
 pub mod PieceLaws
+-- scratch
+pub mod Alike
+pub mod PlainSteps
+pub mod MeasuredLaws

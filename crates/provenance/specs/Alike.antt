@@ -1,0 +1,57 @@
+-- Where the walk of a plain scalar goes along with its measure. The measure goes by code points and the walk by bytes (W1), so they part at
+-- white space of two or more bytes: the walk sees of a run only the ASCII characters before it. And they part at a tab of the value,
+-- which is equal to the measure and begins a break to the walk. What is said of them with these definitions is in `Measured`.
+use Prim.Native.Nat.{ℕ, _+_}
+use mathlib.Core.Bool.{Bool, true, not, _&&_, _||_, cond}
+use mathlib.Core.List.{List, [], _∷_}
+use mathlib.Core.Option.{Option, none, some}
+use lib.Dec.{ltb, eqb}
+use lib.ListN.{length, drop}
+use Rattle.utf8.specs.Ascii.{tab}
+use Rattle.utf8.specs.Utf8.{isAscii}
+use Rattle.measure.specs.Run.{whiteSpaceRun, afterRun, holdsNewline}
+use Rattle.measure.specs.Plain.{beginsWith, takesRun}
+use Rattle.provenance.specs.declared.step.Step.{Step}
+use Rattle.provenance.specs.Reading.{sourceLen}
+
+-- the ASCII characters that a run begins with
+unfoldable pub asciiFront : List ℕ → List ℕ
+asciiFront [] = []
+asciiFront (c ∷ cs) = cond (ltb c 0x80) (c ∷ asciiFront cs) []
+
+-- how many bytes of a run the walk takes for the value's character c: its ASCII front, if that holds a newline; else c alone, if the
+-- run begins with it; else none
+unfoldable pub runTaken : ℕ → List ℕ → ℕ
+runTaken c run = cond (holdsNewline (asciiFront run)) (length (asciiFront run)) (cond (beginsWith c run) 1 0)
+
+-- whether the walk goes along over a run that the value's character c takes, before the characters cs: the run is ASCII throughout,
+-- or nothing comes after c and the walk takes something of the run
+unfoldable pub runAlike : ℕ → List ℕ → List ℕ → Bool
+runAlike c cs run = isAscii run || (eqb (length cs) 0 && ltb 0 (runTaken c run))
+
+-- whether it goes along over an equal character c: not over a tab before a newline, be there ASCII white space between them
+unfoldable pub equalAlike : ℕ → List ℕ → Bool
+equalAlike c rest = not (eqb c tab && holdsNewline (asciiFront (whiteSpaceRun rest)))
+
+-- whether the walk goes along to the value's end: of the value's characters and the rest's, where the measure finds the value
+unfoldable pub readsAlike : List ℕ → List ℕ → Bool
+readsAlike [] rest = true
+readsAlike (c ∷ cs) rest =
+    cond (takesRun c rest) (runAlike c cs (whiteSpaceRun rest) && readsAlike cs (afterRun rest))
+    (equalAlike c rest && readsAlike cs (drop 1 rest))
+
+-- how many bytes the walk takes past the span: what it takes of the run for the value's last character
+unfoldable pub pastSpan : List ℕ → List ℕ → ℕ
+pastSpan [] rest = 0
+pastSpan (c ∷ []) rest = cond (takesRun c rest) (runTaken c (whiteSpaceRun rest)) 0
+pastSpan (c ∷ d ∷ cs) rest = cond (takesRun c rest) (pastSpan (d ∷ cs) (afterRun rest)) (pastSpan (d ∷ cs) (drop 1 rest))
+
+-- how many source bytes steps take
+unfoldable pub sourceLens : List Step → ℕ
+sourceLens [] = 0
+sourceLens (t ∷ ts) = sourceLen t + sourceLens ts
+
+-- and a reading, if there is one
+abbrev pub sourceTaken : Option (List Step) → Option ℕ
+sourceTaken none = none
+sourceTaken (some ts) = some (sourceLens ts)
