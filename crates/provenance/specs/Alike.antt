@@ -2,17 +2,18 @@
 -- white space of two or more bytes: the walk sees of a run only the ASCII characters before it. And they part at a tab of the value,
 -- which is equal to the measure and begins a break to the walk. What is said of them with these definitions is in `Measured`.
 use Prim.Native.Nat.{ℕ, _+_}
-use mathlib.Core.Bool.{Bool, true, not, _&&_, _||_, cond}
+use mathlib.Core.Bool.{Bool, true, false, not, _&&_, _||_, cond}
 use mathlib.Core.List.{List, [], _∷_}
 use mathlib.Core.Option.{Option, none, some}
 use lib.Dec.{ltb, eqb}
 use lib.ListN.{length, drop}
 use Rattle.utf8.specs.Ascii.{tab}
 use Rattle.utf8.specs.Utf8.{isAscii}
+use Rattle.utf8.specs.WhiteSpace.{isWhiteSpace}
 use Rattle.measure.specs.Run.{whiteSpaceRun, afterRun, holdsNewline}
 use Rattle.measure.specs.Plain.{beginsWith, takesRun}
 use Rattle.provenance.specs.declared.step.Step.{Step}
-use Rattle.provenance.specs.Reading.{sourceLen}
+use Rattle.provenance.specs.Reading.{sourceLen, Piece}
 
 -- the ASCII characters that a run begins with
 unfoldable pub asciiFront : List ℕ → List ℕ
@@ -24,12 +25,13 @@ asciiFront (c ∷ cs) = cond (ltb c 0x80) (c ∷ asciiFront cs) []
 unfoldable pub runTaken : ℕ → List ℕ → ℕ
 runTaken c run = cond (holdsNewline (asciiFront run)) (length (asciiFront run)) (cond (beginsWith c run) 1 0)
 
--- whether the walk goes along over a run that the value's character c takes, before the characters cs: the run is ASCII throughout,
--- or nothing comes after c and the walk takes something of the run
+-- whether the walk goes along over a run that the value's character c takes, before the characters cs: all of it is ASCII. At the value's
+-- end it is enough that the walk takes something of it
 unfoldable pub runAlike : ℕ → List ℕ → List ℕ → Bool
-runAlike c cs run = isAscii run || (eqb (length cs) 0 && ltb 0 (runTaken c run))
+runAlike c [] run = ltb 0 (runTaken c run)
+runAlike c (d ∷ cs) run = isAscii run
 
--- whether it goes along over an equal character c: not over a tab before a newline, be there ASCII white space between them
+-- whether it goes along over an equal character c: not over a tab where the ASCII white space from it on holds a newline
 unfoldable pub equalAlike : ℕ → List ℕ → Bool
 equalAlike c rest = not (eqb c tab && holdsNewline (asciiFront (whiteSpaceRun rest)))
 
@@ -55,3 +57,21 @@ sourceLens (t ∷ ts) = sourceLen t + sourceLens ts
 abbrev pub sourceTaken : Option (List Step) → Option ℕ
 sourceTaken none = none
 sourceTaken (some ts) = some (sourceLens ts)
+
+-- where pieces end that begin at the place `first` of the text
+unfoldable pub piecesEnd : ℕ → List Piece → ℕ
+piecesEnd first [] = first
+piecesEnd first (p ∷ ps) = piecesEnd (p .end) ps
+
+abbrev pub isSome : {A : Type 0} → Option A → Bool
+isSome none = false
+isSome (some x) = true
+
+-- what is enough for it to go along: no tab in the value, and no white space of two or more bytes in the rest
+unfoldable pub noTabs : List ℕ → Bool
+noTabs [] = true
+noTabs (c ∷ cs) = not (eqb c tab) && noTabs cs
+
+unfoldable pub narrowSpaces : List ℕ → Bool
+narrowSpaces [] = true
+narrowSpaces (c ∷ cs) = (not (isWhiteSpace c) || ltb c 0x80) && narrowSpaces cs

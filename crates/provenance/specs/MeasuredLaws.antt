@@ -1,250 +1,44 @@
 -- What a plain scalar's walk takes where the measure finds the value, by induction over the value's characters. Source and value are the
--- encodings of their characters, so what is left of them is again an encoding, or begins inside of a character that differs.
+-- encodings of their characters, so what is left of them is again an encoding, or they differ within the next character.
 use mathlib.Core.Path.{_≡_, refl, sym, ap, _∙_, subst}
-use mathlib.Core.Bool.{Bool, true, false, not, _&&_, _||_, cond}
-use mathlib.Core.List.{List, [], _∷_, _++_, append-assoc, append-nil}
-use mathlib.Core.Logic.{_⊎_, inl, inr, ⊎-elim}
-use mathlib.Core.Option.{Option, none, some}
-use Prim.{Unit, tt}
-use Prim.Native.Nat.{ℕ, zero, suc, _+_, _-_, _/_, _%_, _≤_, _<_}
-use native.Mathlib.Nat.{zero-add, add-zero}
+use mathlib.Core.Bool.{Bool, true, false, _&&_, _||_, cond}
+use mathlib.Core.List.{List, [], _∷_, _++_}
+use mathlib.Core.Logic.{⊎-elim}
+use mathlib.Core.Option.{Option, none, some, Option·none-ne-some, Option·some-injective}
+use Prim.Native.Nat.{ℕ, zero, suc, _+_, _<_}
+use native.Mathlib.Nat.{zero-add, add-zero, add-assoc}
 use native.Mathlib.Omega.{arith}
-use borrow.Author.Tests.{lt-ltb, le-ltb, ltb-true, ltb-false, lt-leb, le-leb, eqb-true, eqb-false, eq-eqb, ne-eqb, not-true, not-false}
-use lib.Dec.{ltb, leb, eqb}
-use lib.ListN.{length, take, drop, getD, length-append}
-use lib.Seq.{drop-append-seam, drop-at, drop-nil, take-nil}
-use Rattle.utf8.specs.Ascii.{tab, newline, blank}
-use Rattle.utf8.specs.Class.{inside, isWhiteSpaceByte}
+use borrow.Author.Tests.{lt-ltb, ltb-true, eqb-true, eqb-false, eq-eqb, not-true, not-false}
+use lib.Dec.{ltb, eqb}
+use lib.ListN.{length, drop}
+use lib.Seq.{drop-append-seam, take-nil}
+use Rattle.utf8.specs.Ascii.{tab, newline}
 use Rattle.utf8.specs.Utf8.{ScalarValue, ScalarValues, encode, encodeAll, isAscii}
+use Rattle.utf8.specs.Boundary.{Boundary}
 use Rattle.utf8.specs.Characters.{character, firstChar}
-use Rattle.utf8.specs.WhiteSpace.{whiteSpace, isIn, isWhiteSpace}
-use Rattle.utf8.specs.Utf8Laws.{read, encodeAll-append, scalars-back}
-use Rattle.utf8.specs.Tests.{clash, by-order, below-inside, above-inside, is-inside, and-left, and-right}
+use Rattle.utf8.specs.WhiteSpace.{isWhiteSpace}
+use Rattle.utf8.specs.Utf8Laws.{read, encodeAll-append, scalars-back, boundary-is}
+use Rattle.utf8.specs.Tests.{clash, by-order, and-left, and-right}
 use Rattle.utf8.specs.declared.utf8.Char.{Char}
 use Rattle.measure.specs.Run.{bytesOf, whiteSpaceRun, afterRun, holdsNewline}
 use Rattle.measure.specs.Plain.{isFold, Reach, unmatched, reaches, pastEqual, pastRun, beginsWith, takesRun, plainReach}
-use Rattle.measure.specs.Places.{run-split, run-goes-on, run-stops, encode-takes}
+use Rattle.measure.specs.Scalar.{plain}
+use Rattle.measure.specs.Places.{run-split, encode-takes}
+use Rattle.provenance.specs.declared.step.Step.{Step}
+use Rattle.provenance.specs.declared.step.Step.the-variants.{Verbatim, Replacement, NoStep}
 use Rattle.provenance.specs.Run.{whiteRun, newlinesIn, blankRun}
-use Rattle.provenance.specs.Grammar.{isBreakByte}
+use Rattle.provenance.specs.Escape.{EscapeReach}
+use Rattle.provenance.specs.EscapeLaws.{FairTable}
+use Rattle.provenance.specs.Grammar.{Rules, isBreakByte, stepAt, rulesOf}
+use Rattle.provenance.specs.Reading.{IsReading, readingOf, Piece, stepPieces, bothVerbatim, joinOn, joined, piecesOf}
+use Rattle.provenance.specs.ReadingLaws.{found-is-reading}
+use Rattle.provenance.specs.Layout.{piecesIf}
+use Rattle.provenance.specs.Start.{walkStart, listFrom, scalarList}
 use Rattle.provenance.specs.Tests.{by-test, by-answer, and-no}
-use Rattle.provenance.specs.Alike.{asciiFront, runTaken, runAlike, equalAlike, readsAlike, pastSpan}
-use Rattle.provenance.specs.PlainSteps.{further, plainTaken, taken-end, taken-break, taken-same, taken-other, taken-nothing, Quiet, taken-copied, copied-or-none, newlines-held}
-
--- ---- the bytes of a character
-
-ascii-bytes : (c : ℕ) → c < 0x80 → encode c ≡ c ∷ []
-unfolding encode
-ascii-bytes c h = rw (lt-ltb c 0x80 h)
-
-quiet-high : (b : ℕ) → 0x80 ≤ b → isBreakByte b ≡ false
-unfolding isFold
-quiet-high b h = rw (ne-eqb b 32 (λ e. omega arith), ne-eqb b 10 (λ e. omega arith), ne-eqb b 9 (λ e. omega arith))
-
--- beyond ASCII the first byte is no white space, and none begins a break
-record Wide (c : ℕ) : Type 0 where
-  begin : ℕ
-  more : List ℕ
-  is : encode c ≡ begin ∷ more
-  high : 0xc0 ≤ begin
-  quiet : Quiet (begin ∷ more)
-
-wide : (c : ℕ) → 0x80 ≤ c → Wide c
-unfolding encode
-wide c h =
-    by-answer (ltb c 0x800)
-    (λ e.
-    record {
-      begin = 0xc0 + c / 64;
-      more = (0x80 + c % 64) ∷ [];
-      is = rw (le-ltb c 0x80 h, e);
-      high = omega arith;
-      quiet = (quiet-high _ (omega arith), (quiet-high _ (omega arith), tt));
-    })
-    (λ e.
-    by-answer (ltb c 0x1_0000)
-    (λ f.
-    record {
-      begin = 0xe0 + c / 4096;
-      more = (0x80 + c / 64 % 64) ∷ (0x80 + c % 64) ∷ [];
-      is = rw (le-ltb c 0x80 h, e, f);
-      high = omega arith;
-      quiet = (quiet-high _ (omega arith), (quiet-high _ (omega arith), (quiet-high _ (omega arith), tt)));
-    })
-    (λ f.
-    record {
-      begin = 0xf0 + c / 262144;
-      more = (0x80 + c / 4096 % 64) ∷ (0x80 + c / 64 % 64) ∷ (0x80 + c % 64) ∷ [];
-      is = rw (le-ltb c 0x80 h, e, f);
-      high = omega arith;
-      quiet = (quiet-high _ (omega arith), (quiet-high _ (omega arith), (quiet-high _ (omega arith), (quiet-high _ (omega arith), tt))));
-    }))
-
--- a character that is no blank, newline or tab
-quiet-bytes : (c : ℕ) → isBreakByte c ≡ false → Quiet (encode c)
-quiet-bytes c e =
-    by-order c 0x80
-    (λ lt. rw (ascii-bytes c lt) (e, tt))
-    (λ le. let w = wide c le in rw (w .is) (w .quiet))
-
--- ---- white space by bytes and by code points
-
-not-white-high : (b : ℕ) → 0xc0 ≤ b → isWhiteSpaceByte b ≡ false
-not-white-high b h = rw (above-inside 9 13 b (omega arith), ne-eqb b 32 (λ e. omega arith), ne-eqb b 133 (λ e. omega arith), ne-eqb b 160 (λ e. omega arith))
-
-only-inside : (a b : ℕ) → inside a a b ≡ eqb b a
-only-inside a b =
-    by-answer (eqb b a)
-    (λ e. let f : b ≡ a = eqb-true b a e in is-inside a a b (omega arith) (omega arith) ∙ sym e)
-    (λ e.
-    let n = eqb-false b a e in
-    by-order b a
-    (λ lt. below-inside a a b lt ∙ sym e)
-    (λ le. above-inside a a b (differ le n) ∙ sym e))
-  where
-    differ : a ≤ b → (b ≡ a → ⊥) → a < b
-    differ le n = by-order a b (λ lt. lt) (λ ge. absurd (n (omega arith)))
-
--- of ASCII the two are the same
-white-ascii : (c : ℕ) → c < 0x80 → isWhiteSpace c ≡ isWhiteSpaceByte c
-unfolding isWhiteSpace isIn whiteSpace
-white-ascii c h =
-    rw (
-      only-inside 32 c,
-      below-inside 133 133 c (omega arith),
-      below-inside 160 160 c (omega arith),
-      below-inside 5760 5760 c (omega arith),
-      below-inside 8192 8202 c (omega arith),
-      below-inside 8232 8232 c (omega arith),
-      below-inside 8233 8233 c (omega arith),
-      below-inside 8239 8239 c (omega arith),
-      below-inside 8287 8287 c (omega arith),
-      below-inside 12288 12288 c (omega arith),
-      ne-eqb c 133 (λ e. omega arith),
-      ne-eqb c 160 (λ e. omega arith),
-    )
-
--- what the walk sees of a run
-walk-run : (cs : List ℕ) → whiteRun (encodeAll cs) ≡ asciiFront (whiteSpaceRun cs)
-unfolding encodeAll whiteRun whiteSpaceRun asciiFront
-walk-run [] = refl
-walk-run (c ∷ cs) =
-    by-order c 0x80
-    (λ lt.
-    by-answer (isWhiteSpace c)
-    (λ e. let f : isWhiteSpaceByte c ≡ true = sym (white-ascii c lt) ∙ e in rw (ascii-bytes c lt, e, f, lt-ltb c 0x80 lt) (ap (λ (l : List ℕ). c ∷ l) (walk-run cs)))
-    (λ e. let f : isWhiteSpaceByte c ≡ false = sym (white-ascii c lt) ∙ e in rw (ascii-bytes c lt, e, f)))
-    (λ le.
-    let w = wide c le in
-    by-answer (isWhiteSpace c)
-    (λ e. rw (w .is, not-white-high (w .begin) (w .high), e, le-ltb c 0x80 le))
-    (λ e. rw (w .is, not-white-high (w .begin) (w .high), e)))
-
--- a blank, a newline or a tab is white space
-break-white : (c : ℕ) → isWhiteSpace c ≡ false → isBreakByte c ≡ false
-unfolding isWhiteSpace isIn whiteSpace isFold
-break-white c e = rw (ne-eqb c 32 (λ f. clash (rw f at e)), ne-eqb c 10 (λ f. clash (rw f at e)), ne-eqb c 9 (λ f. clash (rw f at e)))
-
--- ---- characters
-
-module _ (column : ℕ) where
-  -- where source and value go on with different characters, of which the value's is no white space
-  taken-apart : (d e : ℕ) (src val : List ℕ) → ScalarValue d → ScalarValue e → isWhiteSpace d ≡ false → (e ≡ d → ⊥) → plainTaken column (encode e ++ src) (encode d ++ val) ≡ none
-  taken-apart d e src val vd ve w n =
-      ⊎-elim
-      (λ z. z)
-      (λ z.
-      let f : character e (length (encode e)) ≡ character d (length (encode d)) = sym (read e src ve) ∙ ap firstChar z ∙ read d (drop (length (encode d)) (encode e ++ src)) vd in
-      absurd (n (ap (λ (k : Char). k .code) f)))
-      (copied-or-none column (encode d) (encode e ++ src) val (quiet-bytes d (break-white d w)))
-
--- ---- runs
-
-held-some : (l : List ℕ) → holdsNewline l ≡ true → 0 < length l
-unfolding holdsNewline
-held-some [] h = absurd (clash (sym h))
-held-some (c ∷ cs) h = omega arith
-
--- what a front holds, all of it holds
-front-held : (l : List ℕ) → holdsNewline (asciiFront l) ≡ true → holdsNewline l ≡ true
-unfolding asciiFront holdsNewline
-front-held [] h = h
-front-held (c ∷ cs) h =
-    by-answer (ltb c 0x80)
-    (λ e. by-answer (eqb c newline) (λ f. rw f) (λ f. rw f (front-held cs (rw (e, f) at h))))
-    (λ e. absurd (clash (sym (rw e at h))))
-
-front-all : (l : List ℕ) → isAscii l ≡ true → asciiFront l ≡ l
-unfolding asciiFront isAscii
-front-all [] h = refl
-front-all (c ∷ cs) h = rw (and-left (ltb c 0x80) (isAscii cs) h) (ap (λ (l : List ℕ). c ∷ l) (front-all cs (and-right (ltb c 0x80) (isAscii cs) h)))
-
-bytes-all : (l : List ℕ) → isAscii l ≡ true → encodeAll l ≡ l
-unfolding encodeAll isAscii
-bytes-all [] h = refl
-bytes-all (c ∷ cs) h =
-    rw (ascii-bytes c (ltb-true c 0x80 (and-left (ltb c 0x80) (isAscii cs) h))) (ap (λ (l : List ℕ). c ∷ l) (bytes-all cs (and-right (ltb c 0x80) (isAscii cs) h)))
-
--- some characters go on with white space
-record Whitens (cs : List ℕ) : Type 0 where
-  first : ℕ
-  others : List ℕ
-  are : cs ≡ first ∷ others
-  white : isWhiteSpace first ≡ true
-
-run-some : (cs : List ℕ) → holdsNewline (whiteSpaceRun cs) ≡ true → Whitens cs
-unfolding whiteSpaceRun holdsNewline
-run-some [] h = absurd (clash (sym h))
-run-some (c ∷ cs) h =
-    by-answer (isWhiteSpace c)
-    (λ e. record { first = c; others = cs; are = refl; white = e })
-    (λ e. absurd (clash (sym (rw e at h))))
-
--- a run that is not all ASCII: its ASCII front, and then white space of more bytes
-record Parted (cs : List ℕ) : Type 0 where
-  first : ℕ
-  others : List ℕ
-  bytes : encodeAll cs ≡ asciiFront (whiteSpaceRun cs) ++ encodeAll (first ∷ others)
-  white : isWhiteSpace first ≡ true
-  scalar : ScalarValue first
-
-run-parts : (cs : List ℕ) → ScalarValues cs → isAscii (whiteSpaceRun cs) ≡ false → Parted cs
-unfolding whiteSpaceRun isAscii asciiFront encodeAll
-run-parts [] v h = absurd (clash h)
-run-parts (c ∷ cs) v h =
-    by-answer (isWhiteSpace c)
-    (λ e.
-    by-order c 0x80
-    (λ lt.
-    let p = run-parts cs (v .1) (rw (e, lt-ltb c 0x80 lt) at h) in
-    record {
-      first = p .first;
-      others = p .others;
-      bytes = rw (e, lt-ltb c 0x80 lt, ascii-bytes c lt) (ap (λ (l : List ℕ). c ∷ l) (p .bytes));
-      white = p .white;
-      scalar = p .scalar;
-    })
-    (λ le. record { first = c; others = cs; bytes = rw (e, le-ltb c 0x80 le); white = e; scalar = v .0 }))
-    (λ e. absurd (clash (rw e at h)))
-
--- after a run of bytes comes none
-run-over : (src : List ℕ) → whiteRun (drop (length (whiteRun src)) src) ≡ []
-unfolding whiteRun
-run-over [] = refl
-run-over (b ∷ src) = by-answer (isWhiteSpaceByte b) (λ e. rw e (run-over src)) (λ e. rw (e, e))
-
--- blanks and newlines of a value end before any other character
-no-blanks : (bs val : List ℕ) → Quiet bs → 0 < length bs → blankRun (bs ++ val) ≡ []
-unfolding blankRun
-no-blanks [] val q h = absurd (omega arith)
-no-blanks (b ∷ bs) val q h = rw (or-left (isFold b) (eqb b tab) (q .0))
-  where
-    or-left : (a b : Bool) → a || b ≡ false → a ≡ false
-    or-left true b e = e
-    or-left false b e = refl
-
-take-one : (n c : ℕ) → 0 < n → take n (c ∷ []) ≡ c ∷ []
-take-one zero c h = absurd (omega arith)
-take-one (suc n) c h = ap (λ (l : List ℕ). c ∷ l) (take-nil n)
+use Rattle.provenance.specs.Alike.{asciiFront, runTaken, equalAlike, readsAlike, pastSpan, sourceLens, sourceTaken, piecesEnd, isSome}
+use Rattle.provenance.specs.AlikeLaws.{takes-only, alike-equal, alike-run, alike-last}
+use Rattle.provenance.specs.PlainRuns.{ascii-bytes, wide, quiet-bytes, walk-run, break-white, held-some, front-held, front-all, bytes-all, run-some, run-parts, run-over, or-left, no-blanks, take-one}
+use Rattle.provenance.specs.PlainSteps.{further, plainTaken, taken-end, taken-break, taken-same, taken-other, taken-nothing, taken-copied, copied-or-none, newlines-held}
 
 -- ---- steps at a character
 
@@ -287,6 +81,16 @@ module _ (column : ℕ) where
   tab-takes src val h =
       taken-break column src tab val [] refl h (take-nil (newlinesIn (whiteRun src)))
       ∙ rw (tab-stuck (drop (length (whiteRun src)) src) val (run-over src))
+
+  -- where source and value go on with different characters, of which the value's is no white space
+  taken-apart : (d e : ℕ) (src val : List ℕ) → ScalarValue d → ScalarValue e → isWhiteSpace d ≡ false → (e ≡ d → ⊥) → plainTaken column (encode e ++ src) (encode d ++ val) ≡ none
+  taken-apart d e src val vd ve w n =
+      ⊎-elim
+      (λ z. z)
+      (λ z.
+      let f : character e (length (encode e)) ≡ character d (length (encode d)) = sym (read e src ve) ∙ ap firstChar z ∙ read d (drop (length (encode d)) (encode e ++ src)) vd in
+      absurd (n (ap (λ (k : Char). k .code) f)))
+      (copied-or-none column (encode d) (encode e ++ src) val (quiet-bytes d (break-white d w)))
 
 -- ---- how far the measure reaches
 
@@ -350,45 +154,9 @@ further-if : (k m : ℕ) (t : Bool) → further k (cond t (some m) none) ≡ con
 further-if k m true = refl
 further-if k m false = refl
 
--- the equations of what goes along
-alike-equal : (c : ℕ) (vs cs : List ℕ) → takesRun c (c ∷ cs) ≡ false → (readsAlike (c ∷ vs) (c ∷ cs) ≡ equalAlike c (c ∷ cs) && readsAlike vs cs) × (pastSpan (c ∷ vs) (c ∷ cs) ≡ pastSpan vs cs)
-unfolding readsAlike pastSpan
-alike-equal c [] cs t = (rw t, rw t)
-alike-equal c (d ∷ vs) cs t = (rw t, rw t)
-
-alike-run : (c d : ℕ) (vs cs : List ℕ) → takesRun c cs ≡ true
-    → (readsAlike (c ∷ d ∷ vs) cs ≡ isAscii (whiteSpaceRun cs) && readsAlike (d ∷ vs) (afterRun cs)) × (pastSpan (c ∷ d ∷ vs) cs ≡ pastSpan (d ∷ vs) (afterRun cs))
-unfolding readsAlike pastSpan runAlike
-alike-run c d vs cs t = (rw (t, ne-eqb (suc (length vs)) 0 (λ e. omega arith)) (or-none (isAscii (whiteSpaceRun cs))), rw t)
-  where
-    or-none : (a : Bool) → (a || false) && readsAlike (d ∷ vs) (afterRun cs) ≡ a && readsAlike (d ∷ vs) (afterRun cs)
-    or-none true = refl
-    or-none false = refl
-
--- of a run that is ASCII throughout something is taken
-all-taken : (c : ℕ) (run : List ℕ) → holdsNewline run ≡ true → isAscii run ≡ true → ltb 0 (runTaken c run) ≡ true
-unfolding runTaken
-all-taken c run h e = rw (front-all run e, h) (lt-ltb 0 (length run) (held-some run h))
-
-alike-last : (c : ℕ) (cs : List ℕ) → takesRun c cs ≡ true → holdsNewline (whiteSpaceRun cs) ≡ true
-    → (readsAlike (c ∷ []) cs ≡ ltb 0 (runTaken c (whiteSpaceRun cs))) × (pastSpan (c ∷ []) cs ≡ runTaken c (whiteSpaceRun cs))
-unfolding readsAlike pastSpan runAlike
-alike-last c cs t h = (rw t (by-answer (isAscii run) (λ e. rw (e, all-taken c run h e)) (λ e. rw e (and-yes (ltb 0 (runTaken c run))))), rw t)
-  where
-    run : List ℕ
-    run = whiteSpaceRun cs
-
-    and-yes : (a : Bool) → a && true ≡ a
-    and-yes true = refl
-    and-yes false = refl
-
 fold-ascii : (c : ℕ) → isFold c ≡ true → c < 0x80
 unfolding isFold
 fold-ascii c f = by-answer (eqb c 32) (λ e. let g = eqb-true c 32 e in omega arith) (λ e. let g = eqb-true c 10 (rw e at f) in omega arith)
-
-run-taken : (c : ℕ) (cs : List ℕ) → takesRun c cs ≡ true → (isFold c ≡ true) × (holdsNewline (whiteSpaceRun cs) ≡ true)
-unfolding takesRun
-run-taken c cs t = (and-left (isFold c) _ t, and-right (isFold c) _ t)
 
 module _ (column : ℕ) where
   -- an equal character
@@ -396,16 +164,12 @@ module _ (column : ℕ) where
       → plainTaken column (encodeAll (c ∷ cs)) (encode c ++ val) ≡ further (length (encode c)) (plainTaken column (encodeAll cs) val)
   unfolding encodeAll takesRun equalAlike
   same-char c cs val t a =
+      let run = whiteSpaceRun (c ∷ cs) in
+      let n : isBreakByte c && holdsNewline (asciiFront run) ≡ false = no-break (isFold c) (eqb c tab) (holdsNewline (asciiFront run)) (holdsNewline run) t (front-held run) (not-true _ a) in
       by-order c 0x80
-      (λ lt. rw (ascii-bytes c lt) (subst (λ (l : List ℕ). plainTaken column (l ++ encodeAll cs) (c ∷ val) ≡ further 1 (plainTaken column (encodeAll cs) val)) (ascii-bytes c lt) (ascii-step column c val c cs lt (no-break (isFold c) (eqb c tab) (holdsNewline front) (holdsNewline run) t (front-held run) (not-true _ a)) ∙ rw (eq-eqb c c refl))))
+      (λ lt. rw (ascii-bytes c lt) (rw (ascii-bytes c lt, eq-eqb c c refl) at (ascii-step column c val c cs lt n)))
       (λ le. let w = wide c le in taken-copied column (encode c) (encodeAll cs) val (rw (w .is) (w .quiet)))
     where
-      run : List ℕ
-      run = whiteSpaceRun (c ∷ cs)
-
-      front : List ℕ
-      front = asciiFront run
-
       no-break : (f t h l : Bool) → f && l ≡ false → (h ≡ true → l ≡ true) → t && h ≡ false → (f || t) && h ≡ false
       no-break f t false l p q e = and-no (f || t)
       no-break true t true l p q e = absurd (clash (sym (q refl) ∙ p))
@@ -421,10 +185,10 @@ module _ (column : ℕ) where
       let f : encode c ≡ tab ∷ [] = ascii-bytes c (omega arith) ∙ ap (λ (x : ℕ). x ∷ []) e in
       rw f (tab-takes column (encodeAll (c ∷ cs)) val h)
 
-  equal-told : (c : ℕ) (vs cs : List ℕ) (m n : ℕ) → takesRun c (c ∷ cs) ≡ false → n ≡ length (encode c) + m
+  over-equal : (c : ℕ) (vs cs : List ℕ) (m n : ℕ) → takesRun c (c ∷ cs) ≡ false → n ≡ length (encode c) + m
       → plainTaken column (encodeAll cs) (encodeAll vs) ≡ alikeTaken vs cs m
       → plainTaken column (encodeAll (c ∷ cs)) (encode c ++ encodeAll vs) ≡ alikeTaken (c ∷ vs) (c ∷ cs) n
-  equal-told c vs cs m n t s r =
+  over-equal c vs cs m n t s r =
       let a = alike-equal c vs cs t in
       let k : length (encode c) + (m + pastSpan vs cs) ≡ n + pastSpan vs cs = omega arith in
       rw (a .0, a .1)
@@ -444,11 +208,11 @@ module _ (column : ℕ) where
       (λ e. absurd (clash (sym (rw e at r))))
 
   -- the last character takes a run
-  last-told : (c : ℕ) (cs : List ℕ) → takesRun c cs ≡ true → plainTaken column (encodeAll cs) (c ∷ []) ≡ alikeTaken (c ∷ []) cs 0
+  over-last-run : (c : ℕ) (cs : List ℕ) → takesRun c cs ≡ true → plainTaken column (encodeAll cs) (c ∷ []) ≡ alikeTaken (c ∷ []) cs 0
   unfolding runTaken blankRun
-  last-told c cs t =
-      let b = run-taken c cs t in
-      let a = alike-last c cs t (b .1) in
+  over-last-run c cs t =
+      let b = takes-only c cs t in
+      let a = alike-last c cs t in
       let run = whiteSpaceRun cs in
       rw (a .0, a .1)
       (by-answer (holdsNewline (asciiFront run))
@@ -481,7 +245,7 @@ module _ (column : ℕ) where
       let rest : drop (length (whiteRun (encodeAll cs))) (encodeAll cs) ≡ encodeAll (p .first ∷ p .others) =
       ap (λ (l : List ℕ). drop (length l) (encodeAll cs)) w ∙ ap (drop (length front)) (p .bytes) ∙ drop-append-seam front (encodeAll (p .first ∷ p .others))
       in
-      fold-takes column (encodeAll cs) c (encodeAll (d ∷ ds)) (run-taken c cs t .0) (dark-blanks d ds wd) (ap holdsNewline w ∙ h)
+      fold-takes column (encodeAll cs) c (encodeAll (d ∷ ds)) (takes-only c cs t .0) (dark-blanks d ds wd) (ap holdsNewline w ∙ h)
       ∙ ap (λ (l : List ℕ). further (length (whiteRun (encodeAll cs))) (plainTaken column l (encodeAll (d ∷ ds)))) rest
       ∙ rw (white-apart d ds (p .first) (p .others) vd (p .scalar) wd (p .white))
 
@@ -499,23 +263,19 @@ module _ (column : ℕ) where
       (λ w.
       let h′ = rw (w, l) at h in
       let r′ = rw w at r in
-      let n : eqb x newline ≡ false = or-first (eqb x newline) _ h′ in
+      let n : eqb x newline ≡ false = or-left (eqb x newline) _ h′ in
       let p = run-some xs (rw n at r′) in
       let q : ScalarValue (p .first) = (subst (λ (k : List ℕ). ScalarValues k) (p .are) (v .1)) .0 in
       rw (e, p .are, white-apart d ds (p .first) (p .others) vd q wd (p .white)))
       (λ w. absurd (clash (sym (rw w at r)))))
       (λ e. rw e)
-    where
-      or-first : (a b : Bool) → a || b ≡ false → a ≡ false
-      or-first true b z = z
-      or-first false b z = refl
 
-  run-told : (c d : ℕ) (ds cs : List ℕ) (m n : ℕ) → ScalarValue d → ScalarValues cs → takesRun c cs ≡ true → isWhiteSpace d ≡ false → n ≡ bytesOf (whiteSpaceRun cs) + m
+  over-run : (c d : ℕ) (ds cs : List ℕ) (m n : ℕ) → ScalarValue d → ScalarValues cs → takesRun c cs ≡ true → isWhiteSpace d ≡ false → n ≡ bytesOf (whiteSpaceRun cs) + m
       → plainTaken column (encodeAll (afterRun cs)) (encodeAll (d ∷ ds)) ≡ alikeTaken (d ∷ ds) (afterRun cs) m
       → plainTaken column (encodeAll cs) (c ∷ encodeAll (d ∷ ds)) ≡ alikeTaken (c ∷ d ∷ ds) cs n
-  run-told c d ds cs m n vd v t wd s r =
+  over-run c d ds cs m n vd v t wd s r =
       let a = alike-run c d ds cs t in
-      let b = run-taken c cs t in
+      let b = takes-only c cs t in
       let run = whiteSpaceRun cs in
       let past = pastSpan (d ∷ ds) (afterRun cs) in
       rw (a .0, a .1)
@@ -544,23 +304,23 @@ module _ (column : ℕ) where
 
   -- ---- all of it
 
-  abbrev Told : List ℕ → Type 0
-  Told vs = (cs : List ℕ) → ScalarValues cs → (n : ℕ) → plainReach vs cs ≡ reaches n → plainTaken column (encodeAll cs) (encodeAll vs) ≡ alikeTaken vs cs n
+  abbrev Along : List ℕ → Type 0
+  Along vs = (cs : List ℕ) → ScalarValues cs → (n : ℕ) → plainReach vs cs ≡ reaches n → plainTaken column (encodeAll cs) (encodeAll vs) ≡ alikeTaken vs cs n
 
-  told-run : (c : ℕ) (vs cs : List ℕ) → ScalarValues (c ∷ vs) → ScalarValues cs → (n : ℕ) → takesRun c cs ≡ true → plainReach (c ∷ vs) cs ≡ reaches n → Told vs
+  along-run : (c : ℕ) (vs cs : List ℕ) → ScalarValues (c ∷ vs) → ScalarValues cs → (n : ℕ) → takesRun c cs ≡ true → plainReach (c ∷ vs) cs ≡ reaches n → Along vs
       → plainTaken column (encodeAll cs) (encodeAll (c ∷ vs)) ≡ alikeTaken (c ∷ vs) cs n
   unfolding encodeAll plainReach
-  told-run c [] cs u v n t e r =
+  along-run c [] cs u v n t e r =
       let z = run-at-end (bytesOf (whiteSpaceRun cs)) n (rw t at e) in
-      rw (ascii-bytes c (fold-ascii c (run-taken c cs t .0)), z) (last-told c cs t)
-  told-run c (d ∷ ds) cs u v n t e r =
+      rw (ascii-bytes c (fold-ascii c (takes-only c cs t .0)), z) (over-last-run c cs t)
+  along-run c (d ∷ ds) cs u v n t e r =
       let after = afterRun cs in
       let q = run-reached (bytesOf (whiteSpaceRun cs)) (plainReach (d ∷ ds) after) n some-equal (rw t at e) in
       let p = is-equal d ds after (q .after) (after-no-run d cs) (q .is) in
       let wd = dark-first d (p .others) (sym (ap whiteSpaceRun (p .are)) ∙ after-none cs) in
       let va = scalars-back (whiteSpaceRun cs) after (subst (λ (l : List ℕ). ScalarValues l) (run-split cs) v) in
-      rw (ascii-bytes c (fold-ascii c (run-taken c cs t .0)))
-      (run-told c d ds cs (q .after) n (u .1 .0) v t wd (q .sum) (r after va (q .after) (q .is)))
+      rw (ascii-bytes c (fold-ascii c (takes-only c cs t .0)))
+      (over-run c d ds cs (q .after) n (u .1 .0) v t wd (q .sum) (r after va (q .after) (q .is)))
     where
       some-equal : (m : ℕ) → plainReach (d ∷ ds) (afterRun cs) ≡ reaches m → 0 < m
       some-equal m f =
@@ -569,24 +329,82 @@ module _ (column : ℕ) where
           let k = encode-takes d in
           omega arith
 
-  told-equal : (c : ℕ) (vs cs : List ℕ) → ScalarValues cs → (n : ℕ) → takesRun c cs ≡ false → plainReach (c ∷ vs) cs ≡ reaches n → Told vs
+  along-equal : (c : ℕ) (vs cs : List ℕ) → ScalarValues cs → (n : ℕ) → takesRun c cs ≡ false → plainReach (c ∷ vs) cs ≡ reaches n → Along vs
       → plainTaken column (encodeAll cs) (encodeAll (c ∷ vs)) ≡ alikeTaken (c ∷ vs) cs n
   unfolding encodeAll
-  told-equal c vs cs v n t e r =
+  along-equal c vs cs v n t e r =
       let p = is-equal c vs cs n t e in
       let q = p .reached in
       let t′ : takesRun c (c ∷ p .others) ≡ false = ap (takesRun c) (sym (p .are)) ∙ t in
       let w = (subst (λ (l : List ℕ). ScalarValues l) (p .are) v) .1 in
       subst (λ (l : List ℕ). plainTaken column (encodeAll l) (encode c ++ encodeAll vs) ≡ alikeTaken (c ∷ vs) l n) (sym (p .are))
-      (equal-told c vs (p .others) (q .after) n t′ (q .sum) (r (p .others) w (q .after) (q .is)))
+      (over-equal c vs (p .others) (q .after) n t′ (q .sum) (r (p .others) w (q .after) (q .is)))
 
-  told-end : Told []
+  along-end : Along []
   unfolding encodeAll plainReach readsAlike pastSpan
-  told-end cs v n e = let z : n ≡ 0 = cc in rw z (taken-end column (encodeAll cs))
+  along-end cs v n e = let z : n ≡ 0 = cc in rw z (taken-end column (encodeAll cs))
 
-  pub told : (vs : List ℕ) → ScalarValues vs → Told vs
-  told [] u = told-end
-  told (c ∷ vs) u cs v n e =
+  pub along : (vs : List ℕ) → ScalarValues vs → Along vs
+  along [] u cs v n e = along-end cs v n e
+  along (c ∷ vs) u cs v n e =
       by-answer (takesRun c cs)
-      (λ t. told-run c vs cs u v n t e (told vs (u .1)))
-      (λ t. told-equal c vs cs v n t e (told vs (u .1)))
+      (λ t. along-run c vs cs u v n t e (along vs (u .1)))
+      (λ t. along-equal c vs cs v n t e (along vs (u .1)))
+
+-- ---- what is known of a reading by what it takes
+
+pub taken-found : (o : Option (List Step)) (t : Bool) (k : ℕ) → sourceTaken o ≡ cond t (some k) none → isSome o ≡ t
+taken-found none true k e = absurd (Option·none-ne-some k e)
+taken-found none false k e = refl
+taken-found (some ts) true k e = refl
+taken-found (some ts) false k e = absurd (Option·none-ne-some (sourceLens ts) (sym e))
+
+pub taken-ends : (ts : List Step) (t : Bool) (k : ℕ) → sourceTaken (some ts) ≡ cond t (some k) none → sourceLens ts ≡ k
+taken-ends ts true k e = Option·some-injective (sourceLens ts) k e
+taken-ends ts false k e = absurd (Option·none-ne-some (sourceLens ts) (sym e))
+
+-- ---- where pieces end
+
+joined-ends : (first : ℕ) (ps : List Piece) → piecesEnd first (joined ps) ≡ piecesEnd first ps
+unfolding piecesEnd joined
+joined-ends first [] = refl
+joined-ends first (p ∷ ps) = on-ends (joined ps) ∙ joined-ends (p .end) ps
+  where
+    on-ends : (qs : List Piece) → piecesEnd first (joinOn p qs) ≡ piecesEnd (p .end) qs
+    on-ends [] = refl
+    on-ends (q ∷ qs) = by-answer (bothVerbatim p q) (λ e. rw e) (λ e. rw e)
+
+steps-end : (at : ℕ → ℕ → Step) (len s v first : ℕ) (ts : List Step) → IsReading at len s v ts → piecesEnd first (stepPieces first ts) ≡ first + sourceLens ts
+unfolding IsReading piecesEnd stepPieces sourceLens
+steps-end at len s v first [] r = sym (add-zero first)
+steps-end at len s v first (Verbatim n ∷ ts) r = steps-end at len _ _ (first + n) ts (r .3) ∙ add-assoc first n (sourceLens ts)
+steps-end at len s v first (Replacement a b ∷ ts) r = steps-end at len _ _ (first + a) ts (r .3) ∙ add-assoc first a (sourceLens ts)
+steps-end at len s v first (NoStep ∷ ts) r = absurd (r .2)
+
+pub reading-end : (r : Rules) {reach : EscapeReach} → FairTable (r .escapes) reach → (src val : List ℕ) (first : ℕ) (ts : List Step) → readingOf r src val ≡ some ts
+    → piecesEnd first (piecesOf first ts) ≡ first + sourceLens ts
+unfolding piecesOf
+reading-end r fair src val first ts e =
+    joined-ends first (stepPieces first ts) ∙ steps-end (stepAt r src val) (length val) 0 0 first ts (found-is-reading r fair src val ts e)
+
+-- a plain scalar's list is that of the walk from its start on
+pub plain-list : (text : List ℕ) (start len : ℕ) (value : List ℕ) (column : ℕ) → Boundary text start
+    → scalarList text start len value plain column ≡ piecesIf start (readingOf (rulesOf plain column) (drop start text) value)
+unfolding scalarList walkStart listFrom
+plain-list text start len value column b = rw (boundary-is b)
+
+pub some-pieces : (first : ℕ) (o : Option (List Step)) → isSome (piecesIf first o) ≡ isSome o
+unfolding piecesIf
+some-pieces first none = refl
+some-pieces first (some ts) = refl
+
+-- pieces are those of a reading
+pub record Pieces (first : ℕ) (o : Option (List Step)) (ps : List Piece) : Type 0 where
+  pub steps : List Step
+  pub is : o ≡ some steps
+  pub are : ps ≡ piecesOf first steps
+
+pub of-reading : (first : ℕ) (o : Option (List Step)) (ps : List Piece) → piecesIf first o ≡ some ps → Pieces first o ps
+unfolding piecesIf
+of-reading first none ps e = absurd (Option·none-ne-some ps e)
+of-reading first (some ts) ps e = record { steps = ts; is = refl; are = sym (Option·some-injective (piecesOf first ts) ps e) }
