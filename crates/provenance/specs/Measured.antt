@@ -24,7 +24,8 @@ use Rattle.provenance.specs.Alike.{asciiFront, runTaken, runAlike, equal
 use Rattle.provenance.specs.AlikeLaws.{narrow-alike}
 use Rattle.provenance.specs.MeasuredLaws.{along, taken-found, taken-ends, plain-list, some-pieces, of-reading, reading-end}
 
-module _ (column : ℕ) {rest value : List ℕ} {n : ℕ} (u : Utf8 rest) (w : Utf8 value) (measured : plainReach (codes value) (codes rest) ≡ reaches n) where
+module _ (column : ℕ) {rest value : List ℕ} {n : ℕ} (u : Utf8 rest) (w : Utf8 value)
+    (measured : plainReach (codes value) (codes rest) ≡ reaches n) where
   -- what the walk takes of the rest: the span and what it takes past it, if it goes along with the measure, else there is no reading
   pub measured-taken : sourceTaken (readingOf (rulesOf plain column) rest value)
       ≡ cond (readsAlike (codes value) (codes rest)) (some (n + pastSpan (codes value) (codes rest))) none
@@ -38,16 +39,19 @@ module _ (column : ℕ) {rest value : List ℕ} {n : ℕ} (u : Utf8 rest) (w : U
   measured-list = taken-found (readingOf (rulesOf plain column) rest value) (readsAlike (codes value) (codes rest)) _ measured-taken
 
   -- and that ends so far past the span
-  pub measured-ends : (ts : List Step) → readingOf (rulesOf plain column) rest value ≡ some ts → sourceLens ts ≡ n + pastSpan (codes value) (codes rest)
+  pub measured-ends : (ts : List Step) → readingOf (rulesOf plain column) rest value ≡ some ts
+      → sourceLens ts ≡ n + pastSpan (codes value) (codes rest)
   measured-ends ts e = taken-ends ts (readsAlike (codes value) (codes rest)) _ (rw e at measured-taken)
 
   -- there is one, where the value has no tab and the rest no white space of two or more bytes
-  pub measured-simply : noTabs (codes value) ≡ true → narrowSpaces (codes rest) ≡ true → isSome (readingOf (rulesOf plain column) rest value) ≡ true
+  pub measured-simply : noTabs (codes value) ≡ true → narrowSpaces (codes rest) ≡ true
+      → isSome (readingOf (rulesOf plain column) rest value) ≡ true
   measured-simply t s = measured-list ∙ narrow-alike (codes value) (codes rest) t s
 
 -- ---- the same of the scalar's pieces, at its start in the text
 
-module _ (column len : ℕ) {text value : List ℕ} {start n : ℕ} (u : Utf8 text) (b : Boundary text start) (w : Utf8 value) (measured : plainReach (codes value) (codes (drop start text)) ≡ reaches n) where
+module _ (column len : ℕ) {text value : List ℕ} {start n : ℕ} (u : Utf8 text) (b : Boundary text start) (w : Utf8 value)
+    (measured : plainReach (codes value) (codes (drop start text)) ≡ reaches n) where
   -- it has a list just if the walk goes along
   pub pieces-list : isSome (scalarList text start len value plain column) ≡ readsAlike (codes value) (codes (drop start text))
   pieces-list =
@@ -56,12 +60,18 @@ module _ (column len : ℕ) {text value : List ℕ} {start n : ℕ} (u : Utf8 te
       ∙ measured-list column (boundary-splits u b .back) w measured
 
   -- whose last piece ends so far past the span
-  pub pieces-end : (ps : List Piece) → scalarList text start len value plain column ≡ some ps → piecesEnd start ps ≡ start + (n + pastSpan (codes value) (codes (drop start text)))
+  pub pieces-end : (ps : List Piece) → scalarList text start len value plain column ≡ some ps
+      → piecesEnd start ps ≡ start + (n + pastSpan (codes value) (codes (drop start text)))
   pieces-end ps e =
       let r = of-reading start (readingOf (rulesOf plain column) (drop start text) value) ps (sym (plain-list text start len value column b) ∙ e) in
       ap (piecesEnd start) (r .are)
       ∙ reading-end (rulesOf plain column) (style-fair plain) (drop start text) value start (r .steps) (r .is)
       ∙ ap (λ (k : ℕ). start + k) (measured-ends column (boundary-splits u b .back) w measured (r .steps) (r .is))
+
+  -- there is one, where the value has no tab and the text from there on no white space of two or more bytes
+  pub pieces-simply : noTabs (codes value) ≡ true → narrowSpaces (codes (drop start text)) ≡ true
+      → isSome (scalarList text start len value plain column) ≡ true
+  pieces-simply t s = pieces-list ∙ narrow-alike (codes value) (codes (drop start text)) t s
 
 -- ---- worked cases, by code points
 
