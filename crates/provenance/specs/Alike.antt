@@ -1,6 +1,7 @@
--- Where the walk of a plain scalar goes along with its measure. The measure goes by code points and the walk by bytes (W1), so they part at
--- white space of two or more bytes: the walk sees of a run only the ASCII characters before it. And they part at a tab of the value,
--- which is equal to the measure and begins a break to the walk. What is said of them with these definitions is in `Measured`.
+-- Where the walk of a plain scalar goes along with its measure. The measure goes by code points and the walk by bytes (W1), so they part
+-- at white space of two or more bytes: of a run the walk sees only the ASCII characters before it. They part at a tab of the value too:
+-- to the measure it is a character like any other, to the walk it begins a break, which takes nothing of the value. What holds of a
+-- scalar that is measured is in `Measured`.
 use Prim.Native.Nat.{ℕ, _+_}
 use mathlib.Core.Bool.{Bool, true, false, not, _&&_, _||_, cond}
 use mathlib.Core.List.{List, [], _∷_}

@@ -38,7 +38,7 @@ module _ (column : ℕ) {rest value : List ℕ} {n : ℕ} (u : Utf8 rest) (w : U
   pub measured-list : isSome (readingOf (rulesOf plain column) rest value) ≡ readsAlike (codes value) (codes rest)
   measured-list = taken-found (readingOf (rulesOf plain column) rest value) (readsAlike (codes value) (codes rest)) _ measured-taken
 
-  -- and that ends so far past the span
+  -- which ends so far past the span
   pub measured-ends : (ts : List Step) → readingOf (rulesOf plain column) rest value ≡ some ts
       → sourceLens ts ≡ n + pastSpan (codes value) (codes rest)
   measured-ends ts e = taken-ends ts (readsAlike (codes value) (codes rest)) _ (rw e at measured-taken)
@@ -81,7 +81,7 @@ Case rest value n alike past = (plainReach value rest ≡ reaches n) × (readsAl
 
 pub record Worked : Type 0 where
   -- a folded line
-  pub folded : Case (bytes "a\n  b") (bytes "a b") 5 true 0
+  pub folded-line : Case (bytes "a\n  b") (bytes "a b") 5 true 0
   -- a tab before a line break, which the value has too
   pub tab-kept : Case (bytes "a\t\n b") (bytes "a\t b") 5 false 0
   -- U+00A0 in the run: before its newline, and after it
@@ -97,7 +97,7 @@ unfolding plainReach takesRun beginsWith isFold holdsNewline afterRun whiteSpace
     asciiFront runTaken runAlike equalAlike readsAlike pastSpan
 worked =
     record {
-      folded = (refl, refl, refl);
+      folded-line = (refl, refl, refl);
       tab-kept = (refl, refl, refl);
       wide-first = (refl, refl, refl);
       wide-last = (refl, refl, refl);

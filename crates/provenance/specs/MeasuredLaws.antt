@@ -38,14 +38,14 @@ use Rattle.provenance.specs.Tests.{by-test, by-answer, and-no}
 use Rattle.provenance.specs.Alike.{asciiFront, runTaken, equalAlike, readsAlike, pastSpan, sourceLens, sourceTaken, piecesEnd, isSome}
 use Rattle.provenance.specs.AlikeLaws.{takes-only, alike-equal, alike-run, alike-last}
 use Rattle.provenance.specs.PlainRuns.{ascii-bytes, wide, quiet-bytes, walk-run, break-white, held-some, front-held, front-all, bytes-all, run-some, run-parts, run-over, or-left, no-blanks, take-one}
-use Rattle.provenance.specs.PlainSteps.{further, plainTaken, taken-end, taken-break, taken-same, taken-other, taken-nothing, taken-copied, copied-or-none, newlines-held}
+use Rattle.provenance.specs.PlainSteps.{moreTaken, plainTaken, taken-end, taken-break, taken-same, taken-other, taken-nothing, taken-copied, copied-or-none, newlines-held}
 
 -- ---- steps at a character
 
 module _ (column : ℕ) where
   -- a blank or newline takes a run that holds a newline
   fold-takes : (src : List ℕ) (c : ℕ) (val : List ℕ) → isFold c ≡ true → blankRun val ≡ [] → holdsNewline (whiteRun src) ≡ true
-      → plainTaken column src (c ∷ val) ≡ further (length (whiteRun src)) (plainTaken column (drop (length (whiteRun src)) src) val)
+      → plainTaken column src (c ∷ val) ≡ moreTaken (length (whiteRun src)) (plainTaken column (drop (length (whiteRun src)) src) val)
   unfolding blankRun
   fold-takes src c val f b h =
       taken-break column src c val (c ∷ []) (rw f) h
@@ -53,7 +53,7 @@ module _ (column : ℕ) where
 
   -- where no break stands, an ASCII character is equal or not
   ascii-step : (c : ℕ) (val : List ℕ) (x : ℕ) (xs : List ℕ) → c < 0x80 → isBreakByte c && holdsNewline (asciiFront (whiteSpaceRun (x ∷ xs))) ≡ false
-      → plainTaken column (encodeAll (x ∷ xs)) (c ∷ val) ≡ cond (eqb c x) (further 1 (plainTaken column (encodeAll xs) val)) none
+      → plainTaken column (encodeAll (x ∷ xs)) (c ∷ val) ≡ cond (eqb c x) (moreTaken 1 (plainTaken column (encodeAll xs) val)) none
   unfolding encodeAll
   ascii-step c val x xs l h =
       let n : isBreakByte c && holdsNewline (whiteRun (encode x ++ encodeAll xs)) ≡ false = rw (walk-run (x ∷ xs)) h in
@@ -94,6 +94,7 @@ module _ (column : ℕ) where
 
 -- ---- how far the measure reaches
 
+-- the measure of what is left is x, and with the k bytes before it is n
 record Reached (x : Reach) (k n : ℕ) : Type 0 where
   after : ℕ
   is : x ≡ reaches after
@@ -113,13 +114,13 @@ run-reached k (reaches (suc m)) n p e = record { after = suc m; is = refl; sum =
 run-at-end : (k n : ℕ) → pastRun k (reaches 0) ≡ reaches n → n ≡ 0
 run-at-end k n e = cc
 
--- an equal character
-record Equal (c : ℕ) (vs cs : List ℕ) (n : ℕ) : Type 0 where
+-- the rest begins with the value's character c
+record EqualFirst (c : ℕ) (vs cs : List ℕ) (n : ℕ) : Type 0 where
   others : List ℕ
   are : cs ≡ c ∷ others
   reached : Reached (plainReach vs others) (length (encode c)) n
 
-is-equal : (c : ℕ) (vs cs : List ℕ) (n : ℕ) → takesRun c cs ≡ false → plainReach (c ∷ vs) cs ≡ reaches n → Equal c vs cs n
+is-equal : (c : ℕ) (vs cs : List ℕ) (n : ℕ) → takesRun c cs ≡ false → plainReach (c ∷ vs) cs ≡ reaches n → EqualFirst c vs cs n
 unfolding plainReach beginsWith
 is-equal c vs [] n t e = absurd (let z : _≡_ {A = ℕ} 0 1 = cc (rw t at e) in omega arith)
 is-equal c vs (d ∷ ds) n t e =
@@ -137,6 +138,7 @@ after-no-run : (d : ℕ) (cs : List ℕ) → takesRun d (afterRun cs) ≡ false
 unfolding takesRun holdsNewline
 after-no-run d cs = rw (after-none cs) (and-no (isFold d))
 
+-- a character that begins no run is no white space
 dark-first : (d : ℕ) (cs : List ℕ) → whiteSpaceRun (d ∷ cs) ≡ [] → isWhiteSpace d ≡ false
 unfolding whiteSpaceRun
 dark-first d cs e =
@@ -150,10 +152,11 @@ dark-first d cs e =
 abbrev pub alikeTaken : List ℕ → List ℕ → ℕ → Option ℕ
 alikeTaken vs cs n = cond (readsAlike vs cs) (some (n + pastSpan vs cs)) none
 
-further-if : (k m : ℕ) (t : Bool) → further k (cond t (some m) none) ≡ cond t (some (k + m)) none
-further-if k m true = refl
-further-if k m false = refl
+more-if : (k m : ℕ) (t : Bool) → moreTaken k (cond t (some m) none) ≡ cond t (some (k + m)) none
+more-if k m true = refl
+more-if k m false = refl
 
+-- a blank or newline is ASCII
 fold-ascii : (c : ℕ) → isFold c ≡ true → c < 0x80
 unfolding isFold
 fold-ascii c f = by-answer (eqb c 32) (λ e. let g = eqb-true c 32 e in omega arith) (λ e. let g = eqb-true c 10 (rw e at f) in omega arith)
@@ -161,19 +164,19 @@ fold-ascii c f = by-answer (eqb c 32) (λ e. let g = eqb-true c 32 e in omega ar
 module _ (column : ℕ) where
   -- an equal character
   same-char : (c : ℕ) (cs val : List ℕ) → takesRun c (c ∷ cs) ≡ false → equalAlike c (c ∷ cs) ≡ true
-      → plainTaken column (encodeAll (c ∷ cs)) (encode c ++ val) ≡ further (length (encode c)) (plainTaken column (encodeAll cs) val)
+      → plainTaken column (encodeAll (c ∷ cs)) (encode c ++ val) ≡ moreTaken (length (encode c)) (plainTaken column (encodeAll cs) val)
   unfolding encodeAll takesRun equalAlike
   same-char c cs val t a =
       let run = whiteSpaceRun (c ∷ cs) in
-      let n : isBreakByte c && holdsNewline (asciiFront run) ≡ false = no-break (isFold c) (eqb c tab) (holdsNewline (asciiFront run)) (holdsNewline run) t (front-held run) (not-true _ a) in
+      let n : isBreakByte c && holdsNewline (asciiFront run) ≡ false = unbroken (isFold c) (eqb c tab) (holdsNewline (asciiFront run)) (holdsNewline run) t (front-held run) (not-true _ a) in
       by-order c 0x80
       (λ lt. rw (ascii-bytes c lt) (rw (ascii-bytes c lt, eq-eqb c c refl) at (ascii-step column c val c cs lt n)))
       (λ le. let w = wide c le in taken-copied column (encode c) (encodeAll cs) val (rw (w .is) (w .quiet)))
     where
-      no-break : (f t h l : Bool) → f && l ≡ false → (h ≡ true → l ≡ true) → t && h ≡ false → (f || t) && h ≡ false
-      no-break f t false l p q e = and-no (f || t)
-      no-break true t true l p q e = absurd (clash (sym (q refl) ∙ p))
-      no-break false t true l p q e = e
+      unbroken : (f t h l : Bool) → f && l ≡ false → (h ≡ true → l ≡ true) → t && h ≡ false → (f || t) && h ≡ false
+      unbroken f t false l p q e = and-no (f || t)
+      unbroken true t true l p q e = absurd (clash (sym (q refl) ∙ p))
+      unbroken false t true l p q e = e
 
   -- a tab before a newline
   tab-char : (c : ℕ) (cs val : List ℕ) → equalAlike c (c ∷ cs) ≡ false → plainTaken column (encodeAll (c ∷ cs)) (encode c ++ val) ≡ none
@@ -185,6 +188,7 @@ module _ (column : ℕ) where
       let f : encode c ≡ tab ∷ [] = ascii-bytes c (omega arith) ∙ ap (λ (x : ℕ). x ∷ []) e in
       rw f (tab-takes column (encodeAll (c ∷ cs)) val h)
 
+  -- over an equal character: as it goes on after it
   over-equal : (c : ℕ) (vs cs : List ℕ) (m n : ℕ) → takesRun c (c ∷ cs) ≡ false → n ≡ length (encode c) + m
       → plainTaken column (encodeAll cs) (encodeAll vs) ≡ alikeTaken vs cs m
       → plainTaken column (encodeAll (c ∷ cs)) (encode c ++ encodeAll vs) ≡ alikeTaken (c ∷ vs) (c ∷ cs) n
@@ -193,7 +197,7 @@ module _ (column : ℕ) where
       let k : length (encode c) + (m + pastSpan vs cs) ≡ n + pastSpan vs cs = omega arith in
       rw (a .0, a .1)
       (by-answer (equalAlike c (c ∷ cs))
-      (λ e. rw e (same-char c cs (encodeAll vs) t e ∙ ap (further (length (encode c))) r ∙ further-if (length (encode c)) (m + pastSpan vs cs) (readsAlike vs cs) ∙ rw k))
+      (λ e. rw e (same-char c cs (encodeAll vs) t e ∙ ap (moreTaken (length (encode c))) r ∙ more-if (length (encode c)) (m + pastSpan vs cs) (readsAlike vs cs) ∙ rw k))
       (λ e. rw e (tab-char c cs (encodeAll vs) e)))
 
   -- the last character, where the walk sees no newline of the run
@@ -207,7 +211,7 @@ module _ (column : ℕ) where
       (λ e. rw (e, taken-end column (encodeAll xs)) (by-test (λ (t : Bool). cond t (some 1) none ≡ cond (ltb 0 (cond t 1 0)) (some (0 + cond t 1 0)) none) (eqb c x) refl refl))
       (λ e. absurd (clash (sym (rw e at r))))
 
-  -- the last character takes a run
+  -- over the run that the value's last character takes
   over-last-run : (c : ℕ) (cs : List ℕ) → takesRun c cs ≡ true → plainTaken column (encodeAll cs) (c ∷ []) ≡ alikeTaken (c ∷ []) cs 0
   unfolding runTaken blankRun
   over-last-run c cs t =
@@ -220,7 +224,7 @@ module _ (column : ℕ) where
       let w : holdsNewline (whiteRun (encodeAll cs)) ≡ true = rw (walk-run cs) h in
       rw (h, lt-ltb 0 (length (asciiFront run)) (held-some (asciiFront run) h), zero-add (length (asciiFront run)))
       (fold-takes column (encodeAll cs) c [] (b .0) refl w
-      ∙ ap (further (length (whiteRun (encodeAll cs)))) (taken-end column (drop (length (whiteRun (encodeAll cs))) (encodeAll cs)))
+      ∙ ap (moreTaken (length (whiteRun (encodeAll cs)))) (taken-end column (drop (length (whiteRun (encodeAll cs))) (encodeAll cs)))
       ∙ ap some (add-zero (length (whiteRun (encodeAll cs))) ∙ ap length (walk-run cs))))
       (λ h. rw h (last-equal c cs (b .0) (b .1) h)))
 
@@ -231,6 +235,7 @@ module _ (column : ℕ) where
   white-apart d ds e es vd ve wd we =
       taken-apart column d e (encodeAll es) (encodeAll ds) vd ve wd (λ f. clash (sym we ∙ ap isWhiteSpace f ∙ wd))
 
+  -- the value's next character is no blank or newline
   dark-blanks : (d : ℕ) (ds : List ℕ) → isWhiteSpace d ≡ false → blankRun (encodeAll (d ∷ ds)) ≡ []
   unfolding encodeAll
   dark-blanks d ds wd = no-blanks (encode d) (encodeAll ds) (quiet-bytes d (break-white d wd)) (encode-takes d)
@@ -246,7 +251,7 @@ module _ (column : ℕ) where
       ap (λ (l : List ℕ). drop (length l) (encodeAll cs)) w ∙ ap (drop (length front)) (p .bytes) ∙ drop-append-seam front (encodeAll (p .first ∷ p .others))
       in
       fold-takes column (encodeAll cs) c (encodeAll (d ∷ ds)) (takes-only c cs t .0) (dark-blanks d ds wd) (ap holdsNewline w ∙ h)
-      ∙ ap (λ (l : List ℕ). further (length (whiteRun (encodeAll cs))) (plainTaken column l (encodeAll (d ∷ ds)))) rest
+      ∙ ap (λ (l : List ℕ). moreTaken (length (whiteRun (encodeAll cs))) (plainTaken column l (encodeAll (d ∷ ds)))) rest
       ∙ rw (white-apart d ds (p .first) (p .others) vd (p .scalar) wd (p .white))
 
   unseen-apart : (c d : ℕ) (ds cs : List ℕ) → ScalarValue d → ScalarValues cs → isFold c ≡ true → holdsNewline (whiteSpaceRun cs) ≡ true → isWhiteSpace d ≡ false
@@ -270,6 +275,7 @@ module _ (column : ℕ) where
       (λ w. absurd (clash (sym (rw w at r)))))
       (λ e. rw e)
 
+  -- over a run before another character of the value: as it goes on after it, if the run is ASCII
   over-run : (c d : ℕ) (ds cs : List ℕ) (m n : ℕ) → ScalarValue d → ScalarValues cs → takesRun c cs ≡ true → isWhiteSpace d ≡ false → n ≡ bytesOf (whiteSpaceRun cs) + m
       → plainTaken column (encodeAll (afterRun cs)) (encodeAll (d ∷ ds)) ≡ alikeTaken (d ∷ ds) (afterRun cs) m
       → plainTaken column (encodeAll cs) (c ∷ encodeAll (d ∷ ds)) ≡ alikeTaken (c ∷ d ∷ ds) cs n
@@ -292,9 +298,9 @@ module _ (column : ℕ) where
       let k : length (whiteRun (encodeAll cs)) + (m + past) ≡ n + past = omega arith in
       rw e
       (fold-takes column (encodeAll cs) c (encodeAll (d ∷ ds)) (b .0) (dark-blanks d ds wd) (ap holdsNewline w ∙ b .1)
-      ∙ ap (λ (l : List ℕ). further (length (whiteRun (encodeAll cs))) (plainTaken column l (encodeAll (d ∷ ds)))) rest
-      ∙ ap (further (length (whiteRun (encodeAll cs)))) r
-      ∙ further-if (length (whiteRun (encodeAll cs))) (m + past) (readsAlike (d ∷ ds) (afterRun cs))
+      ∙ ap (λ (l : List ℕ). moreTaken (length (whiteRun (encodeAll cs))) (plainTaken column l (encodeAll (d ∷ ds)))) rest
+      ∙ ap (moreTaken (length (whiteRun (encodeAll cs)))) r
+      ∙ more-if (length (whiteRun (encodeAll cs))) (m + past) (readsAlike (d ∷ ds) (afterRun cs))
       ∙ ap (λ (j : ℕ). cond (readsAlike (d ∷ ds) (afterRun cs)) (some j) none) k))
       (λ e.
       rw e
@@ -304,6 +310,7 @@ module _ (column : ℕ) where
 
   -- ---- all of it
 
+  -- of the characters vs that are left of the value
   abbrev Along : List ℕ → Type 0
   Along vs = (cs : List ℕ) → ScalarValues cs → (n : ℕ) → plainReach vs cs ≡ reaches n → plainTaken column (encodeAll cs) (encodeAll vs) ≡ alikeTaken vs cs n
 

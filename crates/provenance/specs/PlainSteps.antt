@@ -72,11 +72,11 @@ reading-on r fair src val h =
 
 -- ---- how many source bytes it takes
 
-abbrev pub further : ℕ → Option ℕ → Option ℕ
-further n none = none
-further n (some m) = some (n + m)
+abbrev pub moreTaken : ℕ → Option ℕ → Option ℕ
+moreTaken n none = none
+moreTaken n (some m) = some (n + m)
 
-then-taken : (t : Step) (o : Option (List Step)) → Fits t → sourceTaken (stepThen t o) ≡ further (sourceLen t) (sourceTaken o)
+then-taken : (t : Step) (o : Option (List Step)) → Fits t → sourceTaken (stepThen t o) ≡ moreTaken (sourceLen t) (sourceTaken o)
 unfolding sourceLens
 then-taken (Verbatim n) none f = refl
 then-taken (Verbatim n) (some ts) f = refl
@@ -116,7 +116,7 @@ module _ (column : ℕ) where
   taken-end src = ap sourceTaken (from-start (rulesOf plain column) (style-fair plain) src [] ∙ reading-ends (rulesOf plain column) (style-fair plain) src [] 0 0 (omega arith))
 
   taken-by : (src val : List ℕ) (t : Step) → 0 < length val → step (rulesOf plain column) src val ≡ t → Fits t
-      → plainTaken src val ≡ further (sourceLen t) (plainTaken (drop (sourceLen t) src) (drop (contentLen t) val))
+      → plainTaken src val ≡ moreTaken (sourceLen t) (plainTaken (drop (sourceLen t) src) (drop (contentLen t) val))
   taken-by src val t h e f =
       ap sourceTaken (reading-on (rulesOf plain column) (style-fair plain) src val h) ∙ rw e (then-taken t _ f)
 
@@ -134,7 +134,7 @@ module _ (column : ℕ) where
   -- the run, and with it the blanks and newlines ys
   pub taken-break : (src : List ℕ) (c : ℕ) (val ys : List ℕ) → isBreakByte c ≡ true → holdsNewline (whiteRun src) ≡ true
       → take (newlinesIn (whiteRun src)) (blankRun (c ∷ val)) ≡ ys
-      → plainTaken src (c ∷ val) ≡ further (length (whiteRun src)) (plainTaken (drop (length (whiteRun src)) src) (drop (length ys) (c ∷ val)))
+      → plainTaken src (c ∷ val) ≡ moreTaken (length (whiteRun src)) (plainTaken (drop (length (whiteRun src)) src) (drop (length ys) (c ∷ val)))
   taken-break src c val ys e h w =
       let xs = whiteRun src in
       let p : step (rulesOf plain column) src (c ∷ val) ≡ paired xs ys = break-step src c val e h ∙ ap (paired xs) w in
@@ -142,15 +142,15 @@ module _ (column : ℕ) where
       (λ s.
       let z : length xs ≡ length ys = ap length (same-true xs ys s) in
       taken-by src (c ∷ val) (Verbatim (length xs)) (omega arith) (p ∙ rw s) tt
-      ∙ ap (λ (k : ℕ). further (length xs) (plainTaken (drop (length xs) src) (drop k (c ∷ val)))) z)
+      ∙ ap (λ (k : ℕ). moreTaken (length xs) (plainTaken (drop (length xs) src) (drop k (c ∷ val)))) z)
       (λ s. taken-by src (c ∷ val) (Replacement (length xs) (length ys)) (omega arith) (p ∙ rw s) tt)
 
   -- ---- no break
 
-  no-break : (src : List ℕ) (c : ℕ) (val : List ℕ) → isBreakByte c && holdsNewline (whiteRun src) ≡ false
+  step-unbroken : (src : List ℕ) (c : ℕ) (val : List ℕ) → isBreakByte c && holdsNewline (whiteRun src) ≡ false
       → step (rulesOf plain column) src (c ∷ val) ≡ orElse (equalStep src (c ∷ val)) (endStep src (c ∷ val))
   unfolding step breakStep opensBreak escapesOf
-  no-break src c val e =
+  step-unbroken src c val e =
       rw (newlines-held (whiteRun src), not-taken (isBreakByte c) (isWhiteSpaceByte (getD src 0 0)) (holdsNewline (whiteRun src)) _ e)
     where
       not-taken : (a b n : Bool) (t : Step) → a && n ≡ false → cond (a && b) (cond n t NoStep) NoStep ≡ NoStep
@@ -158,32 +158,32 @@ module _ (column : ℕ) where
       not-taken true false n t z = refl
       not-taken false b n t z = refl
 
-  pub taken-same : (x : ℕ) (src val : List ℕ) → isBreakByte x && holdsNewline (whiteRun (x ∷ src)) ≡ false → plainTaken (x ∷ src) (x ∷ val) ≡ further 1 (plainTaken src val)
+  pub taken-same : (x : ℕ) (src val : List ℕ) → isBreakByte x && holdsNewline (whiteRun (x ∷ src)) ≡ false → plainTaken (x ∷ src) (x ∷ val) ≡ moreTaken 1 (plainTaken src val)
   unfolding equalStep
-  taken-same x src val e = taken-by (x ∷ src) (x ∷ val) (Verbatim 1) (omega arith) (no-break (x ∷ src) x val e ∙ rw (eq-eqb x x refl)) tt
+  taken-same x src val e = taken-by (x ∷ src) (x ∷ val) (Verbatim 1) (omega arith) (step-unbroken (x ∷ src) x val e ∙ rw (eq-eqb x x refl)) tt
 
   pub taken-other : (x : ℕ) (src : List ℕ) (c : ℕ) (val : List ℕ) → isBreakByte c && holdsNewline (whiteRun (x ∷ src)) ≡ false → (x ≡ c → ⊥) → plainTaken (x ∷ src) (c ∷ val) ≡ none
   unfolding equalStep endStep
-  taken-other x src c val e n = taken-not (x ∷ src) (c ∷ val) (omega arith) (no-break (x ∷ src) c val e ∙ rw (ne-eqb x c n))
+  taken-other x src c val e n = taken-not (x ∷ src) (c ∷ val) (omega arith) (step-unbroken (x ∷ src) c val e ∙ rw (ne-eqb x c n))
 
   pub taken-nothing : (c : ℕ) (val : List ℕ) → (c ≡ newline → ⊥) → plainTaken [] (c ∷ val) ≡ none
   unfolding equalStep endStep onlyNewlines whiteRun holdsNewline
-  taken-nothing c val n = taken-not [] (c ∷ val) (omega arith) (no-break [] c val (and-no (isBreakByte c)) ∙ rw (ne-eqb c newline n))
+  taken-nothing c val n = taken-not [] (c ∷ val) (omega arith) (step-unbroken [] c val (and-no (isBreakByte c)) ∙ rw (ne-eqb c newline n))
 
   -- ---- bytes that begin no break
 
-  pub taken-copied : (bs src val : List ℕ) → Quiet bs → plainTaken (bs ++ src) (bs ++ val) ≡ further (length bs) (plainTaken src val)
-  taken-copied [] src val q = further-none (plainTaken src val)
+  pub taken-copied : (bs src val : List ℕ) → Quiet bs → plainTaken (bs ++ src) (bs ++ val) ≡ moreTaken (length bs) (plainTaken src val)
+  taken-copied [] src val q = more-none (plainTaken src val)
     where
-      further-none : (o : Option ℕ) → o ≡ further 0 o
-      further-none none = refl
-      further-none (some n) = ap some (sym (zero-add n))
+      more-none : (o : Option ℕ) → o ≡ moreTaken 0 o
+      more-none none = refl
+      more-none (some n) = ap some (sym (zero-add n))
   taken-copied (b ∷ bs) src val q =
-      taken-same b (bs ++ src) (bs ++ val) (rw (q .0)) ∙ ap (further 1) (taken-copied bs src val (q .1)) ∙ further-twice (length bs) (plainTaken src val)
+      taken-same b (bs ++ src) (bs ++ val) (rw (q .0)) ∙ ap (moreTaken 1) (taken-copied bs src val (q .1)) ∙ more-twice (length bs) (plainTaken src val)
     where
-      further-twice : (n : ℕ) (o : Option ℕ) → further 1 (further n o) ≡ further (suc n) o
-      further-twice n none = refl
-      further-twice n (some m) = ap some (omega arith)
+      more-twice : (n : ℕ) (o : Option ℕ) → moreTaken 1 (moreTaken n o) ≡ moreTaken (suc n) o
+      more-twice n none = refl
+      more-twice n (some m) = ap some (omega arith)
 
   -- they stand in the source, or there is no reading
   pub copied-or-none : (bs src val : List ℕ) → Quiet bs → (plainTaken src (bs ++ val) ≡ none) ⊎ (src ≡ bs ++ drop (length bs) src)
