@@ -24,6 +24,10 @@ pub mod ReadingLaws
 pub mod EscapeLaws
 -- worked cases, K7 to K11 among them
 pub mod Examples
+-- where the walk of a plain scalar goes along with its measure
+pub mod Alike
+-- a plain scalar that is measured: whether it has pieces, and where they end
+pub mod Measured
 -- For speed only: how fast paths are told. Nothing of 01 rests on them.
 -- what the code counts of a run in one pass
 pub mod Counted
@@ -42,3 +46,11 @@ pub mod RunLaws
 pub mod StepLaws
 -- pieces
 pub mod PieceLaws
+-- the walk of a plain scalar, by what is left of its source and value
+pub mod PlainSteps
+-- runs by characters and by bytes
+pub mod PlainRuns
+-- along a run and an equal character
+pub mod AlikeLaws
+-- along a value
+pub mod MeasuredLaws
