@@ -187,10 +187,14 @@ measured-reaches : (n : ℕ) (r : Reach) → measuredOr n r .measured ≡ true �
 measured-reaches n unmatched e = absurd (clash (sym e))
 measured-reaches n (reaches m) e = refl
 
--- where it is measured, its span ends at the last character that is equal in the value
-pub plain-ends : (rest value : List ℕ) → plainMeasure rest value .measured ≡ true → 0 < plainMeasure rest value .len → EndsEqual (codes value) (codes rest) (plainMeasure rest value .len)
+-- where it is measured, the value reaches as far as its length says
+pub plain-reaches : (rest value : List ℕ) → plainMeasure rest value .measured ≡ true → plainReach (codes value) (codes rest) ≡ reaches (plainMeasure rest value .len)
 unfolding plainMeasure
-plain-ends rest value e h = ends-equal (codes value) (codes rest) _ h (measured-reaches (length value) (plainReach (codes value) (codes rest)) e)
+plain-reaches rest value e = measured-reaches (length value) (plainReach (codes value) (codes rest)) e
+
+-- and its span ends at the last character that is equal in the value
+pub plain-ends : (rest value : List ℕ) → plainMeasure rest value .measured ≡ true → 0 < plainMeasure rest value .len → EndsEqual (codes value) (codes rest) (plainMeasure rest value .len)
+plain-ends rest value e h = ends-equal (codes value) (codes rest) _ h (plain-reaches rest value e)
 
 -- what is assumed is the value's length
 pub plain-assumed : (rest value : List ℕ) → plainMeasure rest value .measured ≡ false → plainMeasure rest value .len ≡ length value
@@ -313,8 +317,7 @@ block-ends u true column = boundary-start u
 block-ends u false column = block-boundary u column
 
 plain-measured-ends : {rest : List ℕ} → Utf8 rest → (value : List ℕ) → plainMeasure rest value .measured ≡ true → Boundary rest (plainMeasure rest value .len)
-unfolding plainMeasure
-plain-measured-ends {rest} u value e = plain-boundary u value (measured-reaches (length value) (plainReach (codes value) (codes rest)) e)
+plain-measured-ends {rest} u value e = plain-boundary u value (plain-reaches rest value e)
 
 quoted-measured-ends : {rest : List ℕ} → Utf8 rest → (value : List ℕ) (quote : ℕ) → quote < 0x80 → quotedMeasure rest value quote .measured ≡ true → Boundary rest (quotedMeasure rest value quote .len)
 unfolding quotedMeasure
@@ -348,6 +351,13 @@ pub measured-boundary : {rest : List ℕ} → Utf8 rest → (value : List ℕ) (
 unfolding scalarMeasure
 measured-boundary {rest} u value style emptySpan column e =
     subst (λ (n : ℕ). Boundary rest n) (sym (measured-uncut u value style emptySpan column e)) (style-ends u value style emptySpan column e)
+
+-- a plain scalar that is measured reaches as far as its span
+pub scalar-reaches : {rest : List ℕ} → Utf8 rest → (value : List ℕ) (emptySpan : Bool) (column : ℕ)
+    → scalarMeasure rest value plain emptySpan column .measured ≡ true → plainReach (codes value) (codes rest) ≡ reaches (scalarLen rest value plain emptySpan column)
+unfolding scalarMeasure styleMeasure
+scalar-reaches {rest} u value emptySpan column e =
+    plain-reaches rest value e ∙ ap reaches (sym (measured-uncut u value plain emptySpan column e))
 
 -- ---- document 02's sentence
 

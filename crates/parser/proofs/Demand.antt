@@ -12,7 +12,7 @@ use lib.Dec.{ltb, leb, eqb}
 use lib.ListN.{length, drop, replicate}
 use lib.Seq.{drop-append-seam}
 use Rattle.utf8.specs.Utf8.{isAscii}
-use Rattle.utf8.specs.Tests.{by-order}
+use Rattle.utf8.specs.Tests.{clash, by-order}
 use Rattle.text.specs.AdmissionLaws.{AdmittedText, admitted-text}
 use Rattle.text.specs.Admission.{textLimit, admission, admissionOfBoth}
 use Rattle.text.specs.declared.admission.Admission.{Admission}
@@ -21,7 +21,9 @@ use Rattle.utf8.specs.Boundary.{Boundary}
 use Rattle.utf8.specs.Utf8Laws.{utf8-complete}
 use Rattle.schema.specs.Tag.{resolveScalar}
 use Rattle.schema.specs.declared.plain.Resolved.{Resolved}
-use Rattle.measure.specs.Scalar.{folded, scalarMeasure}
+use Rattle.measure.specs.Scalar.{plain, folded, scalarMeasure}
+use Rattle.measure.specs.MeasuredLaws.{scalar-says}
+use Rattle.measure.specs.declared.length.Measure.{Measure}
 use Rattle.utf8.specs.Ascii.{Bytes}
 use Rattle.event.specs.Read.{eventsLimit, part, partOf, readEvent}
 use Rattle.event.specs.Encode.{Tag, untagged, tagged, YamlEvent, sequenceStart, sequenceEnd, mappingStart, mappingEnd, scalar, alias, encodeTag, encodeEvent}
@@ -39,10 +41,11 @@ use Rattle.provenance.specs.Reading.{Reading, Piece, piecesOf}
 use Rattle.provenance.specs.Start.{listFrom}
 use Rattle.provenance.specs.Layout.{flat, laidBy, pieceNumbers, walkedNumber, answerOf, leftOf, laidPieces}
 use Rattle.provenance.specs.Demand.{Demand3}
+use Rattle.provenance.specs.Alike.{piecesEnd, isSome}
 use Rattle.provenance.specs.DemandLaws.{listed-only, listed-if, demand3}
 use Rattle.provenance.specs.declared.step.Step.{Step}
 use Rattle.provenance.specs.declared.walk.Walked.{Walked}
-use Rattle.provenance.specs.declared.walk.Walked.the-variants.{NoRoom}
+use Rattle.provenance.specs.declared.walk.Walked.the-variants.{Listed, NoRoom, NoList}
 use Rattle.records.specs.Record.{absent, extent, noTag, noList, pieceList, withList}
 use Rattle.spans.specs.Scalar.{mark, startAt, scalarAt, walkFirst, suffixOf, tagInfo, resolvedBy, scalarOver, scalarNode, eventNode}
 use Rattle.spans.specs.Collection.{awaitsValue, closes}
@@ -53,15 +56,14 @@ use Rattle.parser.specs.EventRun.{reached, runEvents, malformed, EventsA
 use Rattle.records.specs.Layout.{recordRoom, pieceRoom}
 use Rattle.parser.specs.Call as call
 use Rattle.parser.specs.Call.{recordOf, measuredAfter, admitted, building, oneScalar, scalarMeasured, scalarCall}
-use Rattle.parser.specs.Demand.{resolvedAs, scalarOf, EntrySays, TagSays, walkedBy, readPieces, listIn, numberOf, walkedIn, ScalarDemand3, ScalarRecord, ScalarFlag, Consecutive, ScalarListed, ListsBuilt, NoRoomAt, BuildDemand3}
+use Rattle.parser.specs.Demand.{resolvedAs, scalarOf, EntrySays, TagSays, walkedBy, readPieces, listIn, numberOf, walkedIn, ScalarDemand3, ScalarRecord, ScalarFlag, hasList, MeasuredPlain, Consecutive, ScalarListed, ListsBuilt, NoRoomAt, BuildDemand3}
 use Rattle.spans.specs.declared.scalar.ScalarMark.{ScalarMark}
+use Rattle.records.specs.declared.record.Extent.{Extent}
 use Rattle.records.specs.declared.record.TagInfo.{TagInfo}
 use Rattle.records.specs.declared.record.Node.{Node}
 use Rattle.records.specs.declared.record.PieceList.{PieceList}
 use Rattle.spans.specs.declared.open.Open.{Open}
-use Rattle.spans.specs.SpanLaws.{start-boundary, span-from, pieces-are}
-use Rattle.measure.specs.MeasuredLaws.{scalar-says}
-use Rattle.measure.specs.declared.length.Measure.{Measure}
+use Rattle.spans.specs.SpanLaws.{start-boundary, span-from, pieces-are, measured-list, measured-pieces-end}
 use Rattle.parser.proofs.Pieces.{filled-none}
 use Rattle.parser.proofs.EventRun.{go-is, stop-is, refused-not-built, in-order, events-as-list, through-last, passing, StoppedAt, stopped-at}
 use Rattle.parser.proofs.Growths.{gate, past-root, past-room, Grown, run-grown}
@@ -211,6 +213,33 @@ module _ (size : ℕ) (x : Node) (un : x .list ≡ noList) where
       (λ lt. let e : ltb (pieceRoom size) (0 + length ps) ≡ true = lt-ltb (pieceRoom size) (0 + length ps) (omega arith) in rw e (alone-no-room ps lt))
       (λ le. let e : ltb (pieceRoom size) (0 + length ps) ≡ false = le-ltb (pieceRoom size) (0 + length ps) (omega arith) in rw e (alone-listed ps le))
 
+-- a record has a list just if its walk gave one, which its pieces are
+record Answered (l : PieceList) (most : ℕ) (o : Option (List Piece)) : Type 0 where
+  list : hasList l ≡ isSome o
+  found : hasList l ≡ true → o ≡ some (leftOf most o)
+
+-- what a walk answered, told apart
+abbrev told : Walked → ℕ
+told NoList = 0
+told (Listed n) = 1
+told NoRoom = 2
+
+answered : (l : PieceList) (most : ℕ) (o : Option (List Piece)) → walkedBy l ≡ answerOf most o → Answered l most o
+unfolding answerOf leftOf
+answered l most none e = by (eqb (l .first) absent) refl e
+  where
+    by : (t : Bool) → eqb (l .first) absent ≡ t → cond t NoList (Listed (l .count)) ≡ NoList → Answered l most none
+    by true f e = record { list = rw f refl; found = λ h. absurd (clash (sym h ∙ rw f refl)) }
+    by false f e = absurd (let z : _≡_ {A = ℕ} 1 0 = ap told e in omega arith)
+answered l most (some ps) e = by (eqb (l .first) absent) refl (leb (length ps) most) refl e
+  where
+    by : (t : Bool) → eqb (l .first) absent ≡ t → (b : Bool) → leb (length ps) most ≡ b → cond t NoList (Listed (l .count)) ≡ cond b (Listed (length ps)) NoRoom
+        → Answered l most (some ps)
+    by true f true g e = absurd (let z : _≡_ {A = ℕ} 0 1 = ap told e in omega arith)
+    by true f false g e = absurd (let z : _≡_ {A = ℕ} 0 2 = ap told e in omega arith)
+    by false f true g e = record { list = rw f refl; found = λ h. rw g refl }
+    by false f false g e = absurd (let z : _≡_ {A = ℕ} 1 2 = ap told e in omega arith)
+
 both-admitted : (text value : List ℕ) → AdmittedText text → AdmittedText value → admissionOfBoth text value ≡ Admitted (isAscii text)
 unfolding admissionOfBoth
 both-admitted text value s v =
@@ -265,6 +294,9 @@ module _ (text : List ℕ) (sound : AdmittedText text) (m : ScalarMark) (value :
         zero = λ number place e. ap recordOf e;
       }
 
+  kept-alone : KeptAlone size (found text sound false m value) (scalarCall text m value size)
+  kept-alone = subst (λ (out : Outcome). KeptAlone size (found text sound false m value) out) (sym scalar-is) (alone size aloneNode alone-no-list _)
+
   -- and its flag
   pub scalar-flag : ScalarFlag text m value (scalarCall text m value size) (measuredAfter (scalarCall text m value size) (scalarMeasured text m value))
   unfolding scalarMeasured
@@ -276,6 +308,27 @@ module _ (text : List ℕ) (sound : AdmittedText text) (m : ScalarMark) (value :
             ap (λ (k : Measure). k .measured) (span-from text (scalarAt text false m value 0) (start-boundary text (sound .utf8) false m value)) in
             rw (e, is) (scalar-says rest value (m .style) (m .empty) (m .column));
         no = λ number place e. ap (λ (o : Outcome). measuredAfter o (scalarMeasured text m value)) e;
+      }
+
+  -- what the flag says of a plain scalar's list
+  pub measured-plain : m .style ≡ plain → (xs : List Node) (ps : List Piece) → scalarCall text m value size ≡ built xs ps → scalarMeasured text m value ≡ true
+      → MeasuredPlain text m value size (scalarCall text m value size)
+  unfolding scalarMeasured
+  measured-plain is-plain xs ps e flag =
+      let x = scalarAt text false m value 0 in
+      let on = start-boundary text (sound .utf8) false m value in
+      let are = pieces-are text (sound .utf8) false m value 0 in
+      let walked : walkedBy (recordOf (scalarCall text m value size) .list) ≡ answerOf (pieceRoom size) (found text sound false m value) =
+      rw e (rw e at (kept-alone .answer)) in
+      let a = answered (recordOf (scalarCall text m value size) .list) (pieceRoom size) (found text sound false m value) walked in
+      let ends = ap (λ (k : Extent). k .end) (scalar-record .entry xs ps e .span) in
+      let len = ap (λ (k : Measure). k .len) (span-from text x on) in
+      record {
+        list = a .list ∙ ap isSome (sym are) ∙ measured-list text (sound .utf8) x on flag (value-sound .utf8) is-plain;
+        end = λ h.
+            ap (piecesEnd (startAt text false m value)) (kept-alone .finds)
+            ∙ measured-pieces-end text (sound .utf8) x on flag (value-sound .utf8) is-plain _ (are ∙ a .found h)
+            ∙ (omega arith);
       }
 
 -- ---- a document: the calls' first rows

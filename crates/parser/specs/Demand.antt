@@ -3,12 +3,13 @@
 use Prim.Native.Nat.{ℕ, zero, suc, _+_, _-_, _*_, _≤_, _<_}
 use mathlib.Core.Path.{_≡_}
 use mathlib.Core.Logic.{_⊎_}
-use mathlib.Core.Bool.{Bool, true, false, cond}
+use mathlib.Core.Bool.{Bool, true, false, not, cond}
 use mathlib.Core.List.{List, [], _∷_, _++_}
 use lib.Dec.{eqb}
 use lib.ListN.{length, getD, drop}
 use Rattle.text.specs.AdmissionLaws.{AdmittedText}
 use Rattle.utf8.specs.Boundary.{Boundary}
+use Rattle.utf8.specs.Characters.{codes}
 use Rattle.schema.specs.Tag.{resolveScalar}
 use Rattle.schema.specs.Record.{kindNumber, payloadOf}
 use Rattle.schema.specs.declared.plain.Resolved.{Resolved}
@@ -24,6 +25,7 @@ use Rattle.provenance.specs.Grammar.{rulesOf}
 use Rattle.provenance.specs.Reading.{Reading, Piece, piece, piecesOf}
 use Rattle.provenance.specs.Layout.{walkedNumber, pieceWidth, laidPieces}
 use Rattle.provenance.specs.Demand.{Demand3}
+use Rattle.provenance.specs.Alike.{readsAlike, pastSpan, piecesEnd}
 use Rattle.provenance.specs.declared.step.Step.{Step}
 use Rattle.provenance.specs.declared.walk.Walked.{Walked}
 use Rattle.provenance.specs.declared.walk.Walked.the-variants.{Listed, NoRoom, NoList}
@@ -114,6 +116,17 @@ pub record ScalarRecord (text : List ℕ) (m : ScalarMark) (value : List ℕ) (o
 pub record ScalarFlag (text : List ℕ) (m : ScalarMark) (value : List ℕ) (o : Outcome) (t : Bool) : Type 0 where
   pub says : (xs : List Node) (ps : List Piece) → o ≡ built xs ps → SaysMeasured (drop (startAt text false m value) text) value (m .style) t
   pub no : (number place : ℕ) → o ≡ refused number place → t ≡ false
+
+-- whether there is a list
+abbrev pub hasList : PieceList → Bool
+hasList l = not (eqb (l .first) absent)
+
+-- a plain scalar that is measured has a list just if its walk goes along with its measure; its pieces then end so far past its span
+pub record MeasuredPlain (text : List ℕ) (m : ScalarMark) (value : List ℕ) (size : ℕ) (o : Outcome) : Type 0 where
+  pub list : hasList (recordOf o .list) ≡ readsAlike (codes value) (codes (drop (startAt text false m value) text))
+  pub end : hasList (recordOf o .list) ≡ true
+      → piecesEnd (startAt text false m value) (listIn (call.piecesAfter size o) (recordOf o .list))
+      ≡ recordOf o .extent .end + pastSpan (codes value) (codes (drop (startAt text false m value) text))
 
 -- ---- a document
 

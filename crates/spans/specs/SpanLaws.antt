@@ -1,16 +1,18 @@
 -- Where spans start and end: at boundaries, within the text. And a scalar's pieces are those of the walk from document 01's first byte.
-use mathlib.Core.Path.{_≡_, refl, ap, _∙_, subst}
+use mathlib.Core.Path.{_≡_, refl, sym, ap, _∙_, subst}
 use mathlib.Core.Bool.{Bool, true, false, _&&_, not, cond}
 use mathlib.Core.List.{List}
+use mathlib.Core.Option.{some}
 use Prim.Native.Nat.{ℕ, _+_, _-_, _≤_, _<_}
 use native.Mathlib.Omega.{arith}
 use native.Mathlib.Decide.{decLt}
 use borrow.Author.Tests.{lt-ltb, eqb-true}
 use lib.Dec.{eqb, ltb}
 use lib.ListN.{length, getD, drop, length-drop, take, length-take, List·getD-eq-default}
-use lib.Seq.{drop-cons, take-all}
+use lib.Seq.{drop-cons, take-all, getD-drop}
 use Rattle.utf8.specs.Utf8.{Utf8}
-use Rattle.utf8.specs.Characters.{firstChar, charOf}
+use Rattle.utf8.specs.Characters.{codes, firstChar, charOf}
+use Rattle.utf8.specs.Class.{isContinuation}
 use Rattle.utf8.specs.Boundary.{Boundary, isBoundary}
 use Rattle.utf8.specs.Utf8Laws.{char-at, boundary-splits, boundary-is}
 use Rattle.text.specs.Offset.{byteOffset}
@@ -20,6 +22,8 @@ use Rattle.text.specs.AdmissionLaws.{AdmittedText}
 use Rattle.schema.specs.declared.plain.Resolved.{Resolved}
 use Rattle.measure.specs.Length.{assumed}
 use Rattle.measure.specs.Scalar.{plain, scalarMeasure}
+use Rattle.measure.specs.Plain.{reaches, plainReach}
+use Rattle.measure.specs.MeasuredLaws.{measured-boundary, scalar-reaches}
 use Rattle.measure.specs.declared.length.Measure.{Measure}
 use Rattle.event.specs.Read.{eventsLimit, partOf}
 use Rattle.event.specs.Proved.{TextPart, TextParts}
@@ -27,7 +31,10 @@ use Rattle.event.specs.declared.string.Part.{Part}
 use Rattle.event.specs.declared.tag.YamlTag.{YamlTag}
 use Rattle.event.specs.declared.tag.YamlTag.the-variants.{Absent, Present}
 use Rattle.provenance.specs.Grammar.{rulesOf}
+use Rattle.provenance.specs.Reading.{Piece}
 use Rattle.provenance.specs.Start.{listFrom, scalarList}
+use Rattle.provenance.specs.Alike.{readsAlike, pastSpan, piecesEnd, isSome}
+use Rattle.provenance.specs.Measured.{pieces-list, pieces-end}
 use Rattle.records.specs.declared.record.Node.{Node}
 use Rattle.records.specs.declared.record.TagInfo.{TagInfo}
 use Rattle.spans.specs.Scalar.{ScalarAt, stepPast, colon, scalarStart, startAt, scalarAt, spanMeasure, spanLen, listAt, walkFirst, scalarOver, scalarNode, eventNode}
@@ -168,3 +175,43 @@ module _ (text : List ℕ) (utf8 : Utf8 text) (awaited : Bool) (m : ScalarMark) 
       let x = scalarAt text awaited m value place in
       list-from text x start-boundary
       ∙ ap (λ (k : Measure). scalarList text (x .start) (k .len) (x .value) (x .style) (x .column)) (span-from text x start-boundary)
+
+-- ---- measured (02, (b))
+
+-- a boundary of what is left of a text is one of the text
+boundary-later : {text : List ℕ} {i n : ℕ} → Boundary text i → Boundary (drop i text) n → Boundary text (i + n)
+boundary-later {text} {i} {n} on b =
+    let l = length-drop i text in
+    let w = b .within in
+    let o = on .within in
+    record { within = omega arith; edge = ap isContinuation (sym (getD-drop i text n 0)) ∙ b .edge }
+
+module _ (text : List ℕ) (utf8 : Utf8 text) (x : ScalarAt) (on : Boundary text (x .start)) (measured : spanMeasure text x .measured ≡ true) where
+  -- what is measured ends at a boundary of the text
+  pub measured-ends : Boundary text (x .start + spanLen text x)
+  measured-ends =
+      let is = span-from text x on in
+      let b = measured-boundary (boundary-splits utf8 on .back) (x .value) (x .style) (x .emptySpan) (x .column) (sym (ap (λ (k : Measure). k .measured) is) ∙ measured) in
+      boundary-later on (subst (λ (k : Measure). Boundary (drop (x .start) text) (k .len)) (sym is) b)
+
+  module _ (value-utf8 : Utf8 (x .value)) (is-plain : x .style ≡ plain) where
+    abbrev rest : List ℕ
+    rest = drop (x .start) text
+
+    reaches-span : plainReach (codes (x .value)) (codes rest) ≡ reaches (spanLen text x)
+    reaches-span =
+        let is : spanMeasure text x ≡ scalarMeasure rest (x .value) plain (x .emptySpan) (x .column) =
+        span-from text x on ∙ ap (λ (s : ℕ). scalarMeasure rest (x .value) s (x .emptySpan) (x .column)) is-plain in
+        scalar-reaches (boundary-splits utf8 on .back) (x .value) (x .emptySpan) (x .column) (sym (ap (λ (k : Measure). k .measured) is) ∙ measured)
+        ∙ ap (λ (k : Measure). reaches (k .len)) (sym is)
+
+    list-is : listAt text x ≡ scalarList text (x .start) (spanLen text x) (x .value) plain (x .column)
+    list-is = list-from text x on ∙ ap (λ (s : ℕ). scalarList text (x .start) (spanLen text x) (x .value) s (x .column)) is-plain
+
+    -- a plain scalar that is measured has a list just if its walk goes along with its measure
+    pub measured-list : isSome (listAt text x) ≡ readsAlike (codes (x .value)) (codes rest)
+    measured-list = ap isSome list-is ∙ pieces-list (x .column) (spanLen text x) utf8 on value-utf8 reaches-span
+
+    -- and its pieces then end so far past its span
+    pub measured-pieces-end : (ps : List Piece) → listAt text x ≡ some ps → piecesEnd (x .start) ps ≡ x .start + (spanLen text x + pastSpan (codes (x .value)) (codes rest))
+    measured-pieces-end ps e = pieces-end (x .column) (spanLen text x) utf8 on value-utf8 reaches-span ps (sym list-is ∙ e)
