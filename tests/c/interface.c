@@ -209,6 +209,23 @@ static void wrong_entries(void) {
     CHECK(scalar(BYTES("- |\r a\r- b"), 5, 1, LITERAL, false, BYTES("a\n"), 0, 1, 0) && entry_is(5, 10, NULL, 0));
 }
 
+/* Measured or assumed, with a list or without (docs/DIFFERENCES.md): the spans and lists of its inputs. */
+static void measured_and_assumed(void) {
+    enum { PLAIN = QUARTO_YAML_STYLE_PLAIN, DOUBLE = QUARTO_YAML_STYLE_DOUBLE_QUOTED };
+    /* plain, measured */
+    CHECK(scalar(BYTES("a\n"), 0, 0, PLAIN, false, BYTES("a "), 0, 1, 2) && entry_is(0, 1, NUMBERS(1, 0, 1, 1, 2, 1, 2, 1)));
+    CHECK(scalar(BYTES("\t\n"), 0, 0, PLAIN, false, BYTES("\t"), 0, 1, 0) && entry_is(0, 1, NULL, 0));
+    CHECK(scalar(BYTES("a\n\xC2\xA0" "b"), 0, 0, PLAIN, false, BYTES("a b"), 0, 1, 0) && entry_is(0, 5, NULL, 0));
+    /* plain, assumed */
+    CHECK(scalar(BYTES("a: x\n\n\ny"), 3, 3, PLAIN, false, BYTES("x\n\ny"), 0, 1, 3));
+    CHECK(entry_is(3, 7, NUMBERS(1, 3, 4, 1, 2, 4, 7, 2, 1, 7, 8, 1)));
+    CHECK(scalar(BYTES("a\n\xC2\xA0"), 0, 0, PLAIN, false, BYTES("a \xC2\xA0"), 0, 1, 3));
+    CHECK(entry_is(0, 4, NUMBERS(1, 0, 1, 1, 2, 1, 2, 1, 1, 2, 4, 2)));
+    /* quoted: the first assumed, the second measured */
+    CHECK(scalar(BYTES("\"a"), 0, 0, DOUBLE, false, BYTES("a"), 0, 1, 1) && entry_is(0, 1, NUMBERS(1, 1, 2, 1)));
+    CHECK(scalar(BYTES("\"\\e\""), 0, 0, DOUBLE, false, BYTES("\x1B"), 0, 1, 0) && entry_is(0, 4, NULL, 0));
+}
+
 /* ---- quarto_yaml_build: its events, each row of the table */
 
 #define MAP_START(at) "\3\0\5\0\0\0" at "\0"
@@ -357,6 +374,7 @@ static void accessors(void) {
 int main(void) {
     scalars();
     wrong_entries();
+    measured_and_assumed();
     documents();
     wrong_tags();
     errors();

@@ -22,7 +22,6 @@ use Rattle.measure.specs.Run.{bytesOf, whiteSpaceRun, afterRun, holdsNew
 use Rattle.measure.specs.Counted.{runOf, hasByte}
 use Rattle.utf8.specs.Ascii.{newline}
 use Rattle.measure.specs.Plain.{isFold, Reach, unmatched, reaches, pastEqual, pastRun, beginsWith, takesRun, plainReach, measuredOr, plainMeasure}
-use Rattle.measure.specs.Length.{measured, assumed}
 use Rattle.measure.specs.Places.{onward, bytes-cons, run-split, run-goes-on, run-stops}
 use Rattle.measure.specs.declared.run.Run.{Run}
 use Rattle.letters.proofs.Chunks.{part-is}
@@ -179,7 +178,7 @@ match-begins {rest} {value} u w =
     }
 
 -- all of the value is matched
-pub match-at-end : {rest value : List ℕ} {at end known v : ℕ} → Matching rest value at end known v → length value ≤ v → measured end ≡ plainMeasure rest value
+pub match-at-end : {rest value : List ℕ} {at end known v : ℕ} → Matching rest value at end known v → length value ≤ v → measuredOr (length value) (reaches end) ≡ plainMeasure rest value
 unfolding plainReach plainMeasure
 match-at-end {rest} {value} {at} {end} {known} {v} r h =
     ap (measuredOr (length value)) (sym (ap (λ (cs : List ℕ). reachBy at end (plainReach cs (codes (drop at rest)))) (codes-end value v h)) ∙ r .same)
@@ -267,7 +266,7 @@ module _ {rest value : List ℕ} {at end known v : ℕ} {k : Char} (u : Utf8 res
       }
 
   -- a byte differs
-  pub match-fails : (j : ℕ) → j < k .len → hasByte rest (at + j) (getD value (v + j) 0) ≡ false → assumed (length value) ≡ plainMeasure rest value
+  pub match-fails : (j : ℕ) → j < k .len → hasByte rest (at + j) (getD value (v + j) 0) ≡ false → measuredOr (length value) unmatched ≡ plainMeasure rest value
   unfolding plainMeasure
   match-fails j h p =
       let m = r .matching in
