@@ -4,12 +4,12 @@ use mathlib.Core.Path.{_≡_, refl, sym, _∙_, ap, subst}
 use mathlib.Core.Logic.{_⊎_, inl, inr, ⊎-elim}
 use mathlib.Core.Bool.{Bool, true, false, _&&_, cond}
 use mathlib.Core.List.{List, [], _∷_, _++_, append-assoc, append-nil}
-use Prim.Native.Nat.{ℕ, zero, suc, _+_, _-_, _≤_, _<_, min}
+use Prim.Native.Nat.{ℕ, zero, suc, _+_, _<_}
 use native.Mathlib.Nat.{add-zero}
 use native.Mathlib.Omega.{arith}
 use borrow.Author.Tests.{eqb-true, eq-eqb, ne-eqb}
-use lib.Dec.{eqb, ltb}
-use lib.ListN.{length, drop, getD}
+use lib.Dec.{eqb}
+use lib.ListN.{length, drop}
 use Rattle.utf8.specs.Tests.{clash}
 use Rattle.utf8.specs.Utf8.{Utf8, encode, encodeAll}
 use Rattle.utf8.specs.Characters.{codes, charsAfter}
@@ -17,13 +17,12 @@ use Rattle.utf8.specs.WhiteSpace.{isWhiteSpace}
 use Rattle.utf8.specs.Boundary.{Boundary}
 use Rattle.utf8.specs.Utf8Laws.{boundary-start}
 use Rattle.utf8.specs.Ascii.{singleQuote, doubleQuote}
-use Rattle.measure.specs.Length.{measured, assumed}
+use Rattle.measure.specs.Length.{measured}
 use Rattle.measure.specs.Run.{bytesOf, whiteSpaceRun, afterRun, holdsNewline}
 use Rattle.measure.specs.Plain.{isFold, Reach, unmatched, reaches, pastEqual, pastRun, beginsWith, takesRun, plainReach, measuredOr, plainMeasure}
 use Rattle.measure.specs.Quoted.{further, passedTogether, toClosing, quotedLen, foundOr, quotedMeasure}
-use Rattle.measure.specs.Block.{blockLen}
-use Rattle.measure.specs.Scalar.{plain, singleQuoted, doubleQuoted, literal, blockMeasure, styleMeasure, scalarMeasure, scalarLen}
-use Rattle.measure.specs.Places.{run-split, run-goes-on, run-stops, encode-takes, bytes-cons, bytes-append}
+use Rattle.measure.specs.Scalar.{plain, singleQuoted, doubleQuoted, blockMeasure, styleMeasure, scalarMeasure, scalarLen}
+use Rattle.measure.specs.Places.{run-split, run-stops, encode-takes, bytes-append}
 use Rattle.measure.specs.Measured.{Matched, EndsEqual, beginsPair, Closed, bytesPassed, Marked, JustIf, SaysMeasured}
 use Rattle.measure.specs.Laws.{plain-boundary, quoted-boundary, block-boundary}
 use Rattle.measure.specs.declared.length.Measure.{Measure}
@@ -144,9 +143,9 @@ unfolding beginsWith
 begins-is c [] e = absurd (clash (sym e))
 begins-is c (d ∷ cs) e = ap (λ (x : ℕ). x ∷ cs) (sym (eqb-true c d e))
 
-one-byte-size : (c : ℕ) → bytesOf (c ∷ []) ≡ length (encode c)
+char-size : (c : ℕ) → bytesOf (c ∷ []) ≡ length (encode c)
 unfolding encodeAll
-one-byte-size c = ap length (append-nil (encode c))
+char-size c = ap length (append-nil (encode c))
 
 ends-equal : (vs cs : List ℕ) (n : ℕ) → 0 < n → plainReach vs cs ≡ reaches n → EndsEqual vs cs n
 unfolding plainReach
@@ -173,12 +172,12 @@ ends-equal (v ∷ vs) cs n h e = go (takesRun v cs) refl (beginsWith v cs) refl 
           value-after = vs;
           text-is = begins-is v cs w;
           value-is = refl;
-          span-is = sym (reaches-same e) ∙ add-zero (length (encode v)) ∙ sym (one-byte-size v);
+          span-is = sym (reaches-same e) ∙ add-zero (length (encode v)) ∙ sym (char-size v);
           no-more = none-left vs (drop 1 cs) eq;
         }
     go false p true w r er (reaches (suc m)) eq more e =
         subst (λ (l : List ℕ). EndsEqual (v ∷ vs) l n) (sym (begins-is v cs w))
-        (subst (λ (k : ℕ). EndsEqual (v ∷ vs) (v ∷ drop 1 cs) k) (ap (λ (k : ℕ). k + suc m) (one-byte-size v) ∙ reaches-same e)
+        (subst (λ (k : ℕ). EndsEqual (v ∷ vs) (v ∷ drop 1 cs) k) (ap (λ (k : ℕ). k + suc m) (char-size v) ∙ reaches-same e)
         (ends-later v (v ∷ []) (more (drop 1 cs) (suc m) (omega arith) eq)))
     go false p false w r er q eq more e = absurd (never e)
 

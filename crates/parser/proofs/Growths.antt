@@ -17,7 +17,7 @@ use Rattle.event.specs.declared.tag.YamlTag.{YamlTag}
 use Rattle.event.specs.declared.read.Event.{Event}
 use Rattle.event.specs.declared.read.Event.the-variants.{SequenceStart, SequenceEnd, MappingStart, MappingEnd, Scalar, Alias, Malformed}
 use Rattle.records.specs.Record.{absent, noList, withList}
-use Rattle.spans.specs.Scalar.{ScalarAt, scalarOver, scalarNode, eventNode}
+use Rattle.spans.specs.Scalar.{ScalarAt, scalarOver, eventNode}
 use Rattle.spans.specs.Collection.{closes, collectionOver, collectionNode}
 use Rattle.parser.specs.Machine.{State, Next, go, stop, built, refused, depthLimit, rootDone, beforeRoot, withinDepth, withinRoom}
 use Rattle.parser.specs.Machine.{completed, onStart, ended, onEnd, onAlias, keeping, scalarKept, onScalar, onEvent, ending, follow}

@@ -6,7 +6,7 @@ pub mod Scalar
 -- open collections, and the record of one that ends
 pub mod Collection
 -- Statements: theorems and laws that a caller may use, and worked cases. Proved; nothing here is to be believed.
--- where spans start and end, and a scalar's pieces by its walk's first byte
+-- where spans start and end, a scalar's pieces by its walk's first byte, and what a measured span says of them
 pub mod SpanLaws
 -- worked scalars, tags and collections
 pub mod Examples

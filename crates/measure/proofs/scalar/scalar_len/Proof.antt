@@ -1,5 +1,5 @@
 -- `measure::scalar::scalar_len` meets its contract: the smaller of two numbers is what the test says.
-use mathlib.Core.Path.{_≡_, sym, ap, _∙_}
+use mathlib.Core.Path.{_≡_, ap}
 use Prim.Native.Nat.{ℕ, min, _≤_}
 use native.Mathlib.Omega.{arith}
 use Rattle.measure.specs.Scalar.{cutTo, scalarMeasure}
