@@ -22,6 +22,7 @@ use Rattle.utf8.specs.Utf8Laws.{utf8-complete}
 use Rattle.schema.specs.Tag.{resolveScalar}
 use Rattle.schema.specs.declared.plain.Resolved.{Resolved}
 use Rattle.measure.specs.Scalar.{plain, folded, scalarMeasure}
+use Rattle.measure.specs.Measured.{SaysMeasured}
 use Rattle.measure.specs.MeasuredLaws.{scalar-says}
 use Rattle.measure.specs.declared.length.Measure.{Measure}
 use Rattle.utf8.specs.Ascii.{Bytes}
@@ -306,7 +307,9 @@ module _ (text : List ℕ) (sound : AdmittedText text) (m : ScalarMark) (value :
             let rest = drop (startAt text false m value) text in
             let is : scalarMeasured text m value ≡ scalarMeasure rest value (m .style) (m .empty) (m .column) .measured =
             ap (λ (k : Measure). k .measured) (span-from text (scalarAt text false m value 0) (start-boundary text (sound .utf8) false m value)) in
-            rw (e, is) (scalar-says rest value (m .style) (m .empty) (m .column));
+            subst (λ (t : Bool). SaysMeasured rest value (m .style) t)
+            (sym (ap (λ (o : Outcome). measuredAfter o (scalarMeasured text m value)) e ∙ is))
+            (scalar-says rest value (m .style) (m .empty) (m .column));
         no = λ number place e. ap (λ (o : Outcome). measuredAfter o (scalarMeasured text m value)) e;
       }
 

@@ -8,7 +8,7 @@ pub mod Call
 -- Statements: theorems and laws that a caller may use, and worked cases. Proved; nothing here is to be believed.
 -- the machine over a list of events
 pub mod EventRun
--- demand 3 at the two public calls
+-- demand 3 at the two public calls, and whether a span was measured
 pub mod Demand
 -- the equations of the run
 pub mod RunLaws
