@@ -13,7 +13,6 @@ use lib.ListN.{length, drop}
 use Rattle.utf8.specs.Tests.{clash}
 use Rattle.utf8.specs.Utf8.{Utf8, encode, encodeAll}
 use Rattle.utf8.specs.Characters.{codes, charsAfter}
-use Rattle.utf8.specs.WhiteSpace.{isWhiteSpace}
 use Rattle.utf8.specs.Boundary.{Boundary}
 use Rattle.utf8.specs.Utf8Laws.{boundary-start}
 use Rattle.utf8.specs.Ascii.{singleQuote, doubleQuote}
@@ -22,7 +21,7 @@ use Rattle.measure.specs.Run.{bytesOf, whiteSpaceRun, afterRun, holdsNew
 use Rattle.measure.specs.Plain.{isFold, Reach, unmatched, reaches, pastEqual, pastRun, beginsWith, takesRun, plainReach, measuredOr, plainMeasure}
 use Rattle.measure.specs.Quoted.{further, passedTogether, toClosing, quotedLen, foundOr, quotedMeasure}
 use Rattle.measure.specs.Scalar.{plain, singleQuoted, doubleQuoted, blockMeasure, styleMeasure, scalarMeasure, scalarLen}
-use Rattle.measure.specs.Places.{run-split, run-stops, encode-takes, bytes-append}
+use Rattle.measure.specs.Places.{run-split, after-none, encode-takes, bytes-append}
 use Rattle.measure.specs.Measured.{Matched, EndsEqual, beginsPair, Closed, bytesPassed, Marked, JustIf, SaysMeasured}
 use Rattle.measure.specs.Laws.{plain-boundary, quoted-boundary, block-boundary}
 use Rattle.measure.specs.declared.length.Measure.{Measure}
@@ -78,19 +77,10 @@ pub matched-plain : (rest value : List ℕ) → Matched (codes value) (codes res
 unfolding plainMeasure
 matched-plain rest value m = flag-is (length value) (plainReach (codes value) (codes rest)) ∙ matched-reached (codes value) (codes rest) m
 
--- after a run stands none
-no-run-after : (cs : List ℕ) → whiteSpaceRun (afterRun cs) ≡ []
-unfolding whiteSpaceRun afterRun
-no-run-after [] = refl
-no-run-after (c ∷ cs) = go (isWhiteSpace c) refl (no-run-after cs)
-  where
-    go : (t : Bool) → isWhiteSpace c ≡ t → whiteSpaceRun (afterRun cs) ≡ [] → whiteSpaceRun (cond t (afterRun cs) (c ∷ cs)) ≡ []
-    go true e r = r
-    go false e r = run-stops c cs e
-
-takes-none : (c : ℕ) (cs : List ℕ) → takesRun c (afterRun cs) ≡ false
+-- a character takes no run after a run
+pub after-no-run : (c : ℕ) (cs : List ℕ) → takesRun c (afterRun cs) ≡ false
 unfolding takesRun holdsNewline
-takes-none c cs = rw (no-run-after cs) (go (isFold c))
+after-no-run c cs = rw (after-none cs) (go (isFold c))
   where
     go : (t : Bool) → t && false ≡ false
     go true = refl
@@ -118,7 +108,7 @@ none-left (v ∷ vs) cs e = go (takesRun v cs) refl (beginsWith v cs) (plainReac
     go true p b unmatched er q e = absurd (never e)
     go true p b (reaches (suc m)) er q e = absurd (let z = reaches-same e in omega arith)
     go true p b (reaches zero) er q e =
-        ⊎-elim (λ z. inr (v, ap (λ (l : List ℕ). v ∷ l) z, p)) (λ z. absurd (clash (sym (z .2) ∙ takes-none (z .0) cs))) (er refl)
+        ⊎-elim (λ z. inr (v, ap (λ (l : List ℕ). v ∷ l) z, p)) (λ z. absurd (clash (sym (z .2) ∙ after-no-run (z .0) cs))) (er refl)
     go false p true r er unmatched e = absurd (never e)
     go false p true r er (reaches m) e = absurd (let z = reaches-same e in let l = encode-takes v in omega arith)
     go false p false r er q e = absurd (never e)

@@ -36,6 +36,16 @@ pub run-stops : (c : ℕ) (cs : List ℕ) → isWhiteSpace c ≡ false → white
 unfolding whiteSpaceRun
 run-stops c cs e = rw e
 
+-- after a run comes no white space
+pub after-none : (cs : List ℕ) → whiteSpaceRun (afterRun cs) ≡ []
+unfolding whiteSpaceRun afterRun
+after-none [] = refl
+after-none (c ∷ cs) = go (isWhiteSpace c) refl (after-none cs)
+  where
+    go : (t : Bool) → isWhiteSpace c ≡ t → whiteSpaceRun (afterRun cs) ≡ [] → whiteSpaceRun (cond t (afterRun cs) (c ∷ cs)) ≡ []
+    go true e r = r
+    go false e r = run-stops c cs e
+
 -- ---- places
 
 -- from the boundary i of s on stand the characters xs, and then ys

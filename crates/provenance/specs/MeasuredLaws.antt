@@ -23,7 +23,8 @@ use Rattle.utf8.specs.declared.utf8.Char.{Char}
 use Rattle.measure.specs.Run.{bytesOf, whiteSpaceRun, afterRun, holdsNewline}
 use Rattle.measure.specs.Plain.{isFold, Reach, unmatched, reaches, pastEqual, pastRun, beginsWith, takesRun, plainReach}
 use Rattle.measure.specs.Scalar.{plain}
-use Rattle.measure.specs.Places.{run-split, encode-takes}
+use Rattle.measure.specs.Places.{run-split, after-none, encode-takes}
+use Rattle.measure.specs.MeasuredLaws.{after-no-run}
 use Rattle.provenance.specs.declared.step.Step.{Step}
 use Rattle.provenance.specs.declared.step.Step.the-variants.{Verbatim, Replacement, NoStep}
 use Rattle.provenance.specs.Run.{whiteRun, newlinesIn, blankRun}
@@ -127,16 +128,6 @@ is-equal c vs (d ∷ ds) n t e =
     by-answer (eqb c d)
     (λ f. record { others = ds; are = ap (λ (x : ℕ). x ∷ ds) (sym (eqb-true c d f)); reached = equal-reached (length (encode c)) (plainReach vs ds) n (rw (t, f) at e) })
     (λ f. absurd (let g = rw (t, f) at e in let z : _≡_ {A = ℕ} 0 1 = cc in omega arith))
-
--- after a run comes no white space, and so an equal character
-after-none : (cs : List ℕ) → whiteSpaceRun (afterRun cs) ≡ []
-unfolding whiteSpaceRun afterRun
-after-none [] = refl
-after-none (c ∷ cs) = by-answer (isWhiteSpace c) (λ e. rw e (after-none cs)) (λ e. rw (e, e))
-
-after-no-run : (d : ℕ) (cs : List ℕ) → takesRun d (afterRun cs) ≡ false
-unfolding takesRun holdsNewline
-after-no-run d cs = rw (after-none cs) (and-no (isFold d))
 
 -- a character that begins no run is no white space
 dark-first : (d : ℕ) (cs : List ℕ) → whiteSpaceRun (d ∷ cs) ≡ [] → isWhiteSpace d ≡ false
