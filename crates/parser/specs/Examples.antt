@@ -161,6 +161,34 @@ depth = (refl, refl)
 pub piece-room : (pieceRoom 7 ≡ 1) × (pieceRoom 17_179_869_180 ≡ 4_294_967_294)
 piece-room = (refl, refl)
 
+-- ---- measured or assumed (02, (b)), and whether there is a list: the inputs of docs/DIFFERENCES.md
+
+-- the flag of the call on one scalar, its span and its list
+abbrev Flagged : List ℕ → ScalarMark → List ℕ → Bool → ℕ → ℕ → PieceList → Type 0
+Flagged text m value flag start end list =
+    (scalarMeasured text m value ≡ flag)
+    × (recordOf (scalarCall text m value 12) .extent ≡ extent start end)
+    × (recordOf (scalarCall text m value 12) .list ≡ list)
+
+abbrev plainAt : ℕ → ScalarMark
+plainAt index = mark index 0 0 false
+
+pub record Flags : Type 0 where
+  -- plain, measured: with a list; with one that ends past the span; without one
+  pub line : Flagged (bytes "a\n b") (plainAt 0) (bytes "a b") true 0 4 (pieceList 0 3)
+  pub past-the-span : Flagged (bytes "a\n") (plainAt 0) (bytes "a ") true 0 1 (pieceList 0 2)
+  pub tab-before-break : Flagged (0x9 ∷ 0xa ∷ []) (plainAt 0) (0x9 ∷ []) true 0 1 noList
+  pub wide-in-a-run : Flagged (0x61 ∷ 0xa ∷ 0xc2 ∷ 0xa0 ∷ 0x62 ∷ []) (plainAt 0) (bytes "a b") true 0 5 noList
+  -- plain, assumed: two with a list, K8's shape among them; one without
+  pub k8 : Flagged (bytes "a: x\n\n\ny") (plainAt 3) (bytes "x\n\ny") false 3 7 (pieceList 0 3)
+  pub wide-line : Flagged (0x61 ∷ 0xa ∷ 0xc2 ∷ 0xa0 ∷ []) (plainAt 0) (0x61 ∷ 0x20 ∷ 0xc2 ∷ 0xa0 ∷ []) false 0 4 (pieceList 0 3)
+  pub other : Flagged (bytes "a") (plainAt 0) (bytes "b") false 0 1 noList
+  -- quoted: `"a` has a list and `"\e"` has none
+  pub unclosed : Flagged (doubleQuote ∷ bytes "a") (mark 0 0 2 false) (bytes "a") false 0 1 (pieceList 0 1)
+  pub unknown-escape : Flagged (doubleQuote ∷ backslash ∷ 0x65 ∷ doubleQuote ∷ []) (mark 0 0 2 false) (0x1b ∷ []) true 0 4 noList
+  -- block, on an empty span
+  pub empty-span : Flagged (bytes "a") (mark 0 0 3 true) [] true 0 0 (pieceList 0 0)
+
 -- ---- lists
 
 pub record Lists : Type 0 where
@@ -192,14 +220,15 @@ pub record Lists : Type 0 where
       (piece replacement 0 2 1 ∷ piece verbatim 2 3 1 ∷ [])
   pub one-style : scalarCall [] (mark 0 0 5 false) [] 0 ≡ refused 3 0
   pub one-room : scalarCall (bytes "a") (mark 0 0 0 false) (bytes "a") 3 ≡ refused 8 0
+  pub flags : Flags
 
 pub lists : Lists
-unfolding scalarCall oneScalar admissionOfBoth building runAll run ending rootDone beforeRoot withinDepth withinRoom completed onStart ended
+unfolding scalarMeasured scalarCall oneScalar admissionOfBoth building runAll run ending rootDone beforeRoot withinDepth withinRoom completed onStart ended
     onAlias keeping scalarKept onScalar stepPast scalarStart tagInfo resolvedBy scalarOver eventNode closes collectionEnd collectionStart members
     collectionOver collectionNode admission isAscii isUtf8 allSome byteOffset numberAt readString readTag readStartTag readScalar readBody
     readEvent resolveScalar untagged coreSchema table firstMatch accepts derivative nullable held inRange signedValue positional digitValue
     spanMeasure listAt isBoundary scalarMeasure styleMeasure plainMeasure plainReach takesRun beginsWith isFold holdsNewline afterRun whiteSpaceRun isWhiteSpace
-    isIn whiteSpace codes charsAfter firstChar charOf multiByte encode encodeAll passedTogether toClosing quotedLen quotedMeasure blockMeasure lines
+    isIn whiteSpace codes charsAfter firstChar charOf multiByte twoBytes encode encodeAll passedTogether toClosing quotedLen quotedMeasure blockMeasure lines
     isBlank trimmedLen endsBlock laterReach blockReach blockLen scalarList listFrom walkStart headerEnd beforeNewline atEmptyBlockHeader
     piecesIf piecesOf joined stepPieces readingOf readBy step endStep equalStep breakStep opensBreak breakPair sameBytes escapesOf
     doubleQuoteEscapes backslashEscape oneByteEscapes isOneOf singleQuoteEscapes codeContent radix16 digits digitsFrom whiteRun newlinesIn
@@ -213,57 +242,17 @@ lists =
       column-cuts = refl;
       one-style = refl;
       one-room = refl;
-    }
-
--- ---- measured or assumed (02, (b)), and whether there is a list: the inputs of docs/DIFFERENCES.md
-
--- the flag of the call on one scalar, its span and its list
-abbrev Flagged : List ℕ → ScalarMark → List ℕ → Bool → ℕ → ℕ → PieceList → Type 0
-Flagged text m value flag start end list =
-    (scalarMeasured text m value ≡ flag)
-    × (recordOf (scalarCall text m value 12) .extent ≡ extent start end)
-    × (recordOf (scalarCall text m value 12) .list ≡ list)
-
-abbrev plainAt : ℕ → ScalarMark
-plainAt index = mark index 0 0 false
-
-pub record Flags : Type 0 where
-  -- plain, measured: with a list; with one that ends past the span; without one
-  pub line : Flagged (bytes "a\n b") (plainAt 0) (bytes "a b") true 0 4 (pieceList 0 3)
-  pub past-the-span : Flagged (bytes "a\n") (plainAt 0) (bytes "a ") true 0 1 (pieceList 0 2)
-  pub tab-before-break : Flagged (0x9 ∷ 0xa ∷ []) (plainAt 0) (0x9 ∷ []) true 0 1 noList
-  pub wide-in-a-run : Flagged (0x61 ∷ 0xa ∷ 0xc2 ∷ 0xa0 ∷ 0x62 ∷ []) (plainAt 0) (bytes "a b") true 0 5 noList
-  -- plain, assumed: two with a list, K8's shape among them; one without
-  pub k8 : Flagged (bytes "a: x\n\n\ny") (plainAt 3) (bytes "x\n\ny") false 3 7 (pieceList 0 3)
-  pub wide-line : Flagged (0x61 ∷ 0xa ∷ 0xc2 ∷ 0xa0 ∷ []) (plainAt 0) (0x61 ∷ 0x20 ∷ 0xc2 ∷ 0xa0 ∷ []) false 0 4 (pieceList 0 3)
-  pub other : Flagged (bytes "a") (plainAt 0) (bytes "b") false 0 1 noList
-  -- quoted: `"a` has a list and `"\e"` has none
-  pub unclosed : Flagged (doubleQuote ∷ bytes "a") (mark 0 0 2 false) (bytes "a") false 0 1 (pieceList 0 1)
-  pub unknown-escape : Flagged (doubleQuote ∷ backslash ∷ 0x65 ∷ doubleQuote ∷ []) (mark 0 0 2 false) (0x1b ∷ []) true 0 4 noList
-  -- block, on an empty span
-  pub empty-span : Flagged (bytes "a") (mark 0 0 3 true) [] true 0 0 (pieceList 0 0)
-
-pub flags : Flags
-unfolding scalarMeasured scalarCall oneScalar admissionOfBoth building runAll run ending rootDone beforeRoot withinDepth withinRoom completed onStart ended
-    onAlias keeping scalarKept onScalar stepPast scalarStart tagInfo resolvedBy scalarOver eventNode closes collectionEnd collectionStart members
-    collectionOver collectionNode admission isAscii isUtf8 allSome byteOffset numberAt readString readTag readStartTag readScalar readBody
-    readEvent resolveScalar untagged coreSchema table firstMatch accepts derivative nullable held inRange signedValue positional digitValue
-    spanMeasure listAt isBoundary scalarMeasure styleMeasure plainMeasure plainReach takesRun beginsWith isFold holdsNewline afterRun whiteSpaceRun isWhiteSpace
-    isIn whiteSpace codes charsAfter firstChar charOf multiByte twoBytes encode encodeAll passedTogether toClosing quotedLen quotedMeasure blockMeasure lines
-    isBlank trimmedLen endsBlock laterReach blockReach blockLen scalarList listFrom walkStart headerEnd beforeNewline atEmptyBlockHeader
-    piecesIf piecesOf joined stepPieces readingOf readBy step endStep equalStep breakStep opensBreak breakPair sameBytes escapesOf
-    doubleQuoteEscapes backslashEscape oneByteEscapes isOneOf singleQuoteEscapes codeContent radix16 digits digitsFrom whiteRun newlinesIn
-    throughLast cut blankRun onlyNewlines
-flags =
-    record {
-      line = (refl, refl, refl);
-      past-the-span = (refl, refl, refl);
-      tab-before-break = (refl, refl, refl);
-      wide-in-a-run = (refl, refl, refl);
-      k8 = (refl, refl, refl);
-      wide-line = (refl, refl, refl);
-      other = (refl, refl, refl);
-      unclosed = (refl, refl, refl);
-      unknown-escape = (refl, refl, refl);
-      empty-span = (refl, refl, refl);
+      flags =
+          record {
+            line = (refl, refl, refl);
+            past-the-span = (refl, refl, refl);
+            tab-before-break = (refl, refl, refl);
+            wide-in-a-run = (refl, refl, refl);
+            k8 = (refl, refl, refl);
+            wide-line = (refl, refl, refl);
+            other = (refl, refl, refl);
+            unclosed = (refl, refl, refl);
+            unknown-escape = (refl, refl, refl);
+            empty-span = (refl, refl, refl);
+          };
     }

@@ -19,7 +19,6 @@ use Rattle.text.specs.Offset.{byteOffset}
 use Rattle.text.specs.OffsetLaws.{offset-boundary}
 use Rattle.text.specs.Admission.{textLimit}
 use Rattle.text.specs.AdmissionLaws.{AdmittedText}
-use Rattle.schema.specs.declared.plain.Resolved.{Resolved}
 use Rattle.measure.specs.Length.{assumed}
 use Rattle.measure.specs.Scalar.{plain, scalarMeasure}
 use Rattle.measure.specs.Plain.{reaches, plainReach}
@@ -35,9 +34,7 @@ use Rattle.provenance.specs.Reading.{Piece}
 use Rattle.provenance.specs.Start.{listFrom, scalarList}
 use Rattle.provenance.specs.Alike.{readsAlike, pastSpan, piecesEnd, isSome}
 use Rattle.provenance.specs.Measured.{pieces-list, pieces-end}
-use Rattle.records.specs.declared.record.Node.{Node}
-use Rattle.records.specs.declared.record.TagInfo.{TagInfo}
-use Rattle.spans.specs.Scalar.{ScalarAt, stepPast, colon, scalarStart, startAt, scalarAt, spanMeasure, spanLen, listAt, walkFirst, scalarOver, scalarNode, eventNode}
+use Rattle.spans.specs.Scalar.{ScalarAt, stepPast, colon, scalarStart, startAt, scalarAt, spanMeasure, spanLen, listAt, walkFirst, scalarOver, eventNode}
 use Rattle.spans.specs.Collection.{openBrace, closeBrace, closeBracket, collectionStart, collectionEnd, collectionOver, collectionNode}
 use Rattle.spans.specs.Fits.{TagFits}
 use Rattle.spans.specs.declared.open.Open.{Open}
@@ -123,15 +120,6 @@ collection-node-boundary text o i n a b = collection-start-boundary text o a b
 pub event-node-boundary : (text events : List ℕ) (x : ScalarAt) (tag : YamlTag) → Boundary text (x .start) → Boundary text (eventNode text events x tag .extent .start)
 unfolding eventNode scalarOver
 event-node-boundary text events x tag on = on
-
--- a scalar's record spans its measure
-pub record Spans (text : List ℕ) (x : ScalarAt) (y : Node) : Type 0 where
-  pub from : y .extent .start ≡ x .start
-  pub to : y .extent .end ≡ x .start + spanLen text x
-
-pub scalar-spans : (text : List ℕ) (x : ScalarAt) (t : TagInfo) (r : Resolved) → Spans text x (scalarNode text x t r)
-unfolding scalarOver
-scalar-spans text x t r = record { from = refl; to = refl }
 
 -- ---- parts of the event bytes
 
