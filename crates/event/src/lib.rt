@@ -1,6 +1,8 @@
 // The event bytes: what reaches the builder, read one event at a time from bytes that nobody has looked at before.
 //
 // An answer holds numbers, and the places and lengths of strings in the event bytes. Nothing is copied.
+#![tactic(auto)]
+
 pub mod number;
 pub mod read;
 pub mod string;

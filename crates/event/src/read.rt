@@ -38,7 +38,7 @@ const YAML_TAG: usize = 6;
 const FOLDED: u8 = 4;
 
 // An event: its marker index, what its body adds, and the place after it.
-#[derive(Drop)]
+#[derive(Clone, Copy)]
 pub enum Event {
     SequenceStart {
         index: u32,

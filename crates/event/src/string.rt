@@ -9,13 +9,13 @@ use utf8::utf8::is_utf8;
 const LENGTH: usize = 2;
 
 // A part of the event bytes.
-#[derive(Drop)]
+#[derive(Clone, Copy)]
 pub struct Part {
     pub at: usize,
     pub len: usize,
 }
 
-#[derive(Drop)]
+#[derive(Clone, Copy)]
 pub enum Text {
     // The bytes of the string, its length left out.
     Valid(Part),

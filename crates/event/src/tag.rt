@@ -4,13 +4,13 @@ ghost use Rattle.event.specs.Read.{read_tag, read_start_tag};
 
 use crate::string::{Part, Text, string_at};
 
-#[derive(Drop)]
+#[derive(Clone, Copy)]
 pub enum YamlTag {
     Absent,
     Present { handle: Part, suffix: Part },
 }
 
-#[derive(Drop)]
+#[derive(Clone, Copy)]
 pub enum TagRead {
     // A tag, and the place after it.
     Valid { tag: YamlTag, next: usize },
@@ -50,7 +50,7 @@ pub fn tag_at(events: &[u8], at: usize, end: usize) -> TagRead
     }
 }
 
-#[derive(Drop)]
+#[derive(Clone, Copy)]
 pub enum StartTag {
     Valid(YamlTag),
     // No tag, or one with a byte left over.

@@ -12,7 +12,7 @@ use utf8::white_space::is_white_space;
 
 // A line without its newline, in bytes: its leading white space, up to its last character that is no white space (0 where it is
 // blank), and all of it.
-#[derive(Drop)]
+#[derive(Clone, Copy)]
 struct Line {
     lead: usize,
     trimmed: usize,

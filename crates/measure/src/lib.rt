@@ -1,6 +1,8 @@
 // The measures: how many bytes a scalar occupies in its text, and whether that was found there or assumed.
 //
 // Each gets the rest of the text from the scalar's start as a part, and counts from its first byte. (01: Reading rules; F3.)
+#![tactic(auto)]
+
 pub mod block;
 pub mod length;
 pub mod plain;

@@ -12,7 +12,7 @@ pub const DOUBLE_QUOTE: u8 = b'"';
 
 pub const BACKSLASH: u8 = b'\\';
 
-#[derive(Drop)]
+#[derive(Clone, Copy)]
 pub enum Quoted {
     // The bytes of a quoted scalar, both marks counted.
     Found(usize),

@@ -10,7 +10,7 @@ use utf8::white_space::is_white_space;
 pub const NEWLINE: u32 = 0xa;
 
 // The white space that a text begins with: its bytes, and whether a newline is among it.
-#[derive(Drop)]
+#[derive(Clone, Copy)]
 pub struct Run {
     pub len: usize,
     pub newline: bool,

@@ -10,7 +10,7 @@ use crate::record::{Lookup, get_record};
 use records::record::{ARRAY, HASH, Node};
 
 // A record's number.
-#[derive(Drop)]
+#[derive(Clone, Copy)]
 pub enum Place {
     At(usize),
     Missing,

@@ -8,7 +8,7 @@ use crate::source::{Span, source_info};
 use records::record::{Extent, HASH};
 
 // The records of a key and its value, the span of each, and the span from the key's start to the value's end.
-#[derive(Drop)]
+#[derive(Clone, Copy)]
 pub struct YamlHashEntry {
     pub key: usize,
     pub value: usize,
@@ -17,7 +17,7 @@ pub struct YamlHashEntry {
     pub entry_span: Extent,
 }
 
-#[derive(Drop)]
+#[derive(Clone, Copy)]
 pub enum Entry {
     Pair(YamlHashEntry),
     Missing,

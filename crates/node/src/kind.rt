@@ -9,13 +9,13 @@ ghost use Rattle.node.specs.Kind.{is_scalar_at, is_array_at, is_hash_at, len_at,
 use crate::record::{Lookup, get_record};
 use records::record::{ARRAY, HASH};
 
-#[derive(Drop)]
+#[derive(Clone, Copy)]
 pub enum Flag {
     Is(bool),
     Missing,
 }
 
-#[derive(Drop)]
+#[derive(Clone, Copy)]
 pub enum Count {
     Is(u32),
     Missing,

@@ -1,6 +1,8 @@
 // The accessors of yaml_with_source_info.rs over a record buffer, and `scan_error`. (01: yaml_with_source_info.rs and error.rs; N3, N4.)
 //
 // A node is a record's number. Every call reads any buffer, built here or not, and asks nothing of its caller.
+#![tactic(auto)]
+
 pub mod child;
 pub mod entry;
 pub mod kind;

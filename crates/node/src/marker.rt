@@ -6,7 +6,7 @@ use records::record::Extent;
 use text::admission::{Admission, admit_text};
 use text::offset::{START, byte_offset_of_char};
 
-#[derive(Drop)]
+#[derive(Clone, Copy)]
 pub enum Scanned {
     // The bytes of one character, or none at the text's end.
     Span(Extent),

@@ -4,7 +4,7 @@ ghost use Rattle.node.specs.Record.{record_at, record_in};
 
 use records::record::{HASH, NULL, Node, RECORD_WIDTH, read_record};
 
-#[derive(Drop)]
+#[derive(Clone, Copy)]
 pub enum Lookup {
     Record(Node),
     Missing,

@@ -5,19 +5,19 @@ ghost use Rattle.node.specs.Source.{is_absent, span_at, tag_of, piece_list_at, s
 use crate::record::{Lookup, get_record};
 use records::record::{ABSENT, ARRAY, Extent, PieceList, TagInfo};
 
-#[derive(Drop)]
+#[derive(Clone, Copy)]
 pub enum Span {
     Of(Extent),
     Missing,
 }
 
-#[derive(Drop)]
+#[derive(Clone, Copy)]
 pub enum Tagged {
     With(TagInfo),
     Missing,
 }
 
-#[derive(Drop)]
+#[derive(Clone, Copy)]
 pub enum Pieces {
     Listed(PieceList),
     Missing,

@@ -3,7 +3,7 @@ ghost use Rattle.std.specs.Prelude.{◌≡◌, ◌&&◌, eqb, ltb};
 
 use text::offset::Cursor;
 
-#[derive(Drop)]
+#[derive(Clone, Copy)]
 pub enum Answer {
     // Number 0: so many records and pieces are in the buffers.
     Built { nodes: usize, pieces: usize },
@@ -12,7 +12,7 @@ pub enum Answer {
 }
 
 // How far a call has got: nodes completed, collections open, pieces kept, and where the marker cursor stands.
-#[derive(Drop)]
+#[derive(Clone, Copy)]
 pub struct Counts {
     pub nodes: usize,
     pub depth: usize,
@@ -21,7 +21,7 @@ pub struct Counts {
 }
 
 // What one event comes to: on with the next, or a row's number.
-#[derive(Drop)]
+#[derive(Clone, Copy)]
 pub enum Move {
     Go(Counts),
     Stop(u32),

@@ -22,7 +22,7 @@ use text::admission::{Admission, admit_text_and_value};
 use text::offset::{START, byte_offset_of_char};
 
 // What the call on one scalar answers, the scalar's record, and whether its span was measured; zero and no if it is refused.
-#[derive(Drop)]
+#[derive(Clone, Copy)]
 pub struct ScalarAnswer {
     pub answer: Answer,
     pub node: Node,

@@ -15,7 +15,7 @@ use utf8::class::is_hex_digit;
 use utf8::utf8::byte_at;
 
 // An escape takes so many source bytes and stands for so many content bytes. It is never compared with the value. (W2.)
-#[derive(Drop)]
+#[derive(Clone, Copy)]
 pub enum Escape {
     Takes(usize, usize),
     NoEscape,

@@ -2,6 +2,8 @@
 //
 // A walk goes through the text and the value side by side and leaves pieces in a buffer that it is lent. What it leaves, and when it
 // leaves nothing, is demand 3: `specs/Demand.antt`. White space goes by bytes here. (01: Reading rules, Piece grammar; W1.)
+#![tactic(auto)]
+
 pub mod escape;
 pub mod run;
 pub mod scalar;

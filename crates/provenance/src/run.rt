@@ -16,7 +16,7 @@ const BLANK: u8 = 32;
 
 // The white-space bytes that a source begins with: how many they are, how many newlines are among them, and how many go up to the
 // last newline, it counted in.
-#[derive(Drop)]
+#[derive(Clone, Copy)]
 pub struct Run {
     pub len: usize,
     pub newlines: usize,

@@ -15,7 +15,7 @@ use utf8::class::is_white_space_byte;
 use utf8::utf8::byte_at;
 
 // What stands at a source place and a value place.
-#[derive(Drop)]
+#[derive(Clone, Copy)]
 pub enum Step {
     // so many bytes, equal in both
     Verbatim(usize),

@@ -10,7 +10,7 @@ use crate::write::{clear_pieces, put_open, put_replacement, room};
 use letters::letter::letters;
 
 // A list of so many pieces; a list that there is no room for; no list.
-#[derive(Drop)]
+#[derive(Clone, Copy)]
 pub enum Walked {
     Listed(usize),
     NoRoom,

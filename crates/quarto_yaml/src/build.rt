@@ -11,7 +11,7 @@ use records::record::{RECORD_WIDTH, record_numbers};
 
 // 0 and what the call says of the two others; or document 01's number, its place, and 0.
 #[repr(C)]
-#[derive(Drop)]
+#[derive(Clone, Copy)]
 pub struct Answered {
     pub code: u32,
     pub first: u32,
@@ -20,7 +20,7 @@ pub struct Answered {
 
 // The answer and the scalar's record, zero if it is refused.
 #[repr(C)]
-#[derive(Drop)]
+#[derive(Clone, Copy)]
 pub struct AnsweredScalar {
     pub answer: Answered,
     pub record: [u32; RECORD_WIDTH],

@@ -9,7 +9,7 @@ use node::source::{Pieces, Span, Tagged};
 
 // Bytes of the text.
 #[repr(C)]
-#[derive(Drop)]
+#[derive(Clone, Copy)]
 pub struct FoundSpan {
     pub present: u32,
     pub start: u32,
@@ -18,7 +18,7 @@ pub struct FoundSpan {
 
 // A tag's span in the text, and its suffix's place and length in the event bytes.
 #[repr(C)]
-#[derive(Drop)]
+#[derive(Clone, Copy)]
 pub struct FoundTag {
     pub present: u32,
     pub start: u32,
@@ -29,7 +29,7 @@ pub struct FoundTag {
 
 // A scalar's first piece and how many.
 #[repr(C)]
-#[derive(Drop)]
+#[derive(Clone, Copy)]
 pub struct FoundPieces {
     pub present: u32,
     pub first: u32,
@@ -38,7 +38,7 @@ pub struct FoundPieces {
 
 // A pair's records, the span of each, and that of both.
 #[repr(C)]
-#[derive(Drop)]
+#[derive(Clone, Copy)]
 pub struct FoundEntry {
     pub present: u32,
     pub key: u32,

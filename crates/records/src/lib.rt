@@ -1,3 +1,5 @@
 // A node's record of twelve numbers, and the two buffers that a caller lends: one of records, one of pieces. (01: Events, records, pieces.)
+#![tactic(auto)]
+
 pub mod buffer;
 pub mod record;

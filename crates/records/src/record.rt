@@ -20,14 +20,14 @@ pub const ARRAY: u32 = 7;
 pub const HASH: u32 = 8;
 
 // The bytes from `start` to `end`, `end` not counted in.
-#[derive(Drop)]
+#[derive(Clone, Copy)]
 pub struct Extent {
     pub start: u32,
     pub end: u32,
 }
 
 // A tag: its span in the text, the place of its suffix in the event bytes, and the suffix's length; all four ABSENT for none.
-#[derive(Drop)]
+#[derive(Clone, Copy)]
 pub struct TagInfo {
     pub start: u32,
     pub end: u32,
@@ -36,13 +36,13 @@ pub struct TagInfo {
 }
 
 // A scalar's pieces: the number of the first and how many; ABSENT and 0 for no list.
-#[derive(Drop)]
+#[derive(Clone, Copy)]
 pub struct PieceList {
     pub first: u32,
     pub count: u32,
 }
 
-#[derive(Drop)]
+#[derive(Clone, Copy)]
 pub struct Node {
     pub kind: u32,
     pub extent: Extent,

@@ -4,20 +4,20 @@ ghost use Rattle.replay.specs.Case.{number, part_of, layout, same_numbers, furth
 
 use utf8::utf8::byte_at;
 
-#[derive(Drop)]
+#[derive(Clone, Copy)]
 pub struct Part {
     pub at: usize,
     pub len: usize,
 }
 
 // The rooms of the two buffers, in numbers.
-#[derive(Drop)]
+#[derive(Clone, Copy)]
 pub struct Rooms {
     pub records: u32,
     pub pieces: u32,
 }
 
-#[derive(Drop)]
+#[derive(Clone, Copy)]
 pub struct Case {
     pub text: Part,
     pub events: Part,

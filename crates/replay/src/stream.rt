@@ -9,7 +9,7 @@ use libc::STDIN_FILENO;
 // The bytes of `io::buffer`.
 const CHUNK: usize = 4096;
 
-#[derive(Drop)]
+#[derive(Clone, Copy)]
 pub enum Next {
     // The case is in the buffer's first bytes, as many as this says.
     Case(usize),

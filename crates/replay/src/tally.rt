@@ -7,7 +7,7 @@ use crate::stream::Next;
 use libc::STDOUT_FILENO;
 
 // What one case came to.
-#[derive(Drop)]
+#[derive(Clone, Copy)]
 pub enum Verdict {
     Same,
     // The original panicked, so there is nothing to match.
@@ -17,7 +17,7 @@ pub enum Verdict {
     Different,
 }
 
-#[derive(Drop)]
+#[derive(Clone, Copy)]
 pub struct Tally {
     pub same: u64,
     pub panicked: u64,

@@ -18,7 +18,7 @@ use node::source::{Pieces, Span, Tagged};
 use records::record::{Node, record_numbers};
 
 // How many bytes of a list were matched, and whether all of them were.
-#[derive(Drop)]
+#[derive(Clone, Copy)]
 pub struct Matched {
     pub at: usize,
     pub same: bool,

@@ -1,6 +1,8 @@
 // Replays a second reader of records on buffers that were damaged or never built: the text of a case is the buffer, four bytes a number,
 // read by every accessor at every record number of it, two past it and two far off. The records of the case are the answers, its pieces
 // are the keys to ask for, in its event bytes.
+#![tactic(auto)]
+
 use node::child::{child_before, child_from_last, record_before};
 use node::entry::pair_ending;
 use records::record::RECORD_WIDTH;

@@ -1,5 +1,7 @@
 // Replays a second reader's verdict on event bytes: each case is one event, sound, cut off, overlong or damaged. It is malformed exactly
 // where the list says 3 for event 0. Where there are no bytes at all, there is no event to read.
+#![tactic(auto)]
+
 use event::read::Event;
 use replay::case::Case;
 use replay::tally::Verdict;

@@ -1,6 +1,8 @@
 // Replays which spans are measured: each case is one scalar without a tag, read by the call on one scalar. The record of the case is one
 // number: 1 for a measured span, 0 for an assumed one or a refusal. The original does not say which; the answers are those of the oracle's
 // second implementation.
+#![tactic(auto)]
+
 use parser::answer::Answer;
 use parser::one::ScalarAnswer;
 use replay::case::Case;

@@ -1,4 +1,6 @@
 // Replays the original's spans of scalars: each case is one scalar, whose record has its span.
+#![tactic(auto)]
+
 use event::read::Event;
 use replay::tally::Verdict;
 

@@ -1,5 +1,7 @@
 // Replays the original's accessors: each case is a document, built in buffers of the case's rooms and then read by every accessor at
 // every record and the one past the last. The records of the case are the answers, its pieces are the keys to ask for.
+#![tactic(auto)]
+
 use node::child::{Place, child_before, child_from_last, last_child, record_before};
 use node::entry::pair_ending;
 use parser::answer::Answer;

@@ -1,5 +1,7 @@
 // Replays the original's marker offsets: in each case a sequence of aliases over a text, whose span starts are the offsets of their
 // markers, taken in turn through one cursor.
+#![tactic(auto)]
+
 ghost use Rattle.std.specs.Prelude.{◌≡◌};
 ghost use Rattle.utf8.specs.Utf8.{Utf8, is_ascii};
 

@@ -1,5 +1,7 @@
 // Replays the original's places of errors: each case is a text and the marker indices to ask for, which stand in the place of the events,
 // four bytes each. The records of the case are the start and the end of each error's span.
+#![tactic(auto)]
+
 use node::marker::{Scanned, scan_error};
 use replay::case::Case;
 use replay::tally::Verdict;

@@ -1,4 +1,6 @@
 // Replays the original's resolution of scalars: each case is one scalar, whose record has its kind and payload.
+#![tactic(auto)]
+
 use event::read::Event;
 use event::tag::YamlTag;
 use replay::tally::Verdict;

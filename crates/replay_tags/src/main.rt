@@ -1,4 +1,6 @@
 // Replays the original's tag spans: each record with a tag has the tag's span and the suffix's length.
+#![tactic(auto)]
+
 ghost use Rattle.utf8.specs.Utf8.{Utf8};
 
 use replay::tally::Verdict;

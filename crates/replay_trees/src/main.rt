@@ -1,4 +1,6 @@
 // Replays the original's trees: each case is a document, built in buffers of the case's rooms, of which every number is compared.
+#![tactic(auto)]
+
 use parser::answer::Answer;
 use replay::case::Case;
 use replay::tally::Verdict;

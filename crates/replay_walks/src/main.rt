@@ -1,5 +1,7 @@
 // Replays the original's piece lists: each case is one scalar, read by the call on one scalar in the room of the case, of which every
 // number is compared.
+#![tactic(auto)]
+
 use event::read::Event;
 use parser::answer::Answer;
 use parser::one::ScalarAnswer;

@@ -5,7 +5,7 @@ ghost use Rattle.schema.specs.Form.{form_of};
 ghost use Rattle.schema.specs.Automaton.{Tables, letter_form, begins_no_row};
 
 // `Float` is a number with a point or an exponent, an infinity, or not a number.
-#[derive(Drop)]
+#[derive(Clone, Copy)]
 pub enum Form {
     Null,
     True,

@@ -9,7 +9,7 @@ use crate::form::{Form, form_of};
 const LOWEST: i64 = -9223372036854775808;
 
 // An integer, or nothing where the text is none or 64 signed bits do not hold it.
-#[derive(Drop)]
+#[derive(Clone, Copy)]
 pub enum Parsed {
     Value(i64),
     Nothing,

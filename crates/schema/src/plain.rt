@@ -8,7 +8,7 @@ use crate::form::{Form, form_of};
 use crate::integer::{Parsed, integer_of};
 
 // What a scalar is. A real and a string stand in the scalar's own bytes.
-#[derive(Drop)]
+#[derive(Clone, Copy)]
 pub enum Resolved {
     Null,
     Boolean(bool),

@@ -11,7 +11,7 @@ const ALL_BITS: u64 = 18446744073709551615;
 const LOW_HALF: u64 = 4294967296;
 
 // A record's two payload numbers.
-#[derive(Drop)]
+#[derive(Clone, Copy)]
 pub struct Payload {
     pub first: u32,
     pub second: u32,

@@ -20,7 +20,7 @@ const NULL: u32 = 1;
 const BOOLEAN: u32 = 2;
 
 // A standard tag, by the place in the suffix where its name starts; or any other tag.
-#[derive(Drop)]
+#[derive(Clone, Copy)]
 pub enum StandardTag {
     NameAt(usize),
     NotStandard,

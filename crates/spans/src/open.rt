@@ -1,14 +1,14 @@
 // A collection that is open. (01: S2, S3, N2.)
 
 // The suffix of a tag: its place in the event bytes and its length.
-#[derive(Drop)]
+#[derive(Clone, Copy)]
 pub enum Suffix {
     Absent,
     At { place: u32, len: u32 },
 }
 
 // An open collection.
-#[derive(Drop)]
+#[derive(Clone, Copy)]
 pub struct Open {
     pub mapping: bool,
     // The offset of its start's marker.

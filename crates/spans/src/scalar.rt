@@ -23,7 +23,7 @@ use tag::property::make_tag_info;
 use utf8::utf8::byte_at;
 
 // What an event gives of a scalar beside its tag and value: its marker's index and column, its style, and whether its span is empty.
-#[derive(Drop)]
+#[derive(Clone, Copy)]
 pub struct ScalarMark {
     pub index: u32,
     pub column: u32,
@@ -32,7 +32,7 @@ pub struct ScalarMark {
 }
 
 // All that an event gives of a scalar: the value is a part of the event bytes.
-#[derive(Drop)]
+#[derive(Clone, Copy)]
 pub struct ScalarEvent {
     pub mark: ScalarMark,
     pub tag: YamlTag,
@@ -40,7 +40,7 @@ pub struct ScalarEvent {
 }
 
 // A scalar's record, with no list yet, whether its span was measured, and what its walk answered.
-#[derive(Drop)]
+#[derive(Clone, Copy)]
 pub struct Entry {
     pub node: Node,
     pub measured: bool,

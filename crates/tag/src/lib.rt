@@ -2,5 +2,7 @@
 //
 // A text is UTF-8, and a node starts at one of its boundaries; `text` tests both. Each byte gone back over is looked at a bounded
 // number of times.
+#![tactic(auto)]
+
 pub mod property;
 mod token;

@@ -8,7 +8,7 @@ use crate::token::{back_over, opening_len};
 use utf8::utf8::byte_at;
 
 // The bytes from `start` to `end`, `end` not counted in.
-#[derive(Drop)]
+#[derive(Clone, Copy)]
 pub struct TagSpan {
     pub start: usize,
     pub end: usize,

@@ -7,7 +7,7 @@ use utf8::utf8::{is_ascii, is_utf8};
 // The most bytes of a text, and of the value of a call on one scalar.
 pub const TEXT_LIMIT: usize = 1_048_576;
 
-#[derive(Drop)]
+#[derive(Clone, Copy)]
 pub enum Admission {
     // A text to go on with.
     Admitted { ascii: bool },

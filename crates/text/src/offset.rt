@@ -9,7 +9,7 @@ use utf8::class::is_continuation;
 use utf8::utf8::{byte_at, char_len, last_char};
 
 // How many characters lie before a place of the text, and the place's byte offset.
-#[derive(Drop)]
+#[derive(Clone, Copy)]
 pub struct Cursor {
     pub chars: usize,
     pub offset: usize,

@@ -8,7 +8,7 @@ use crate::class::{is_continuation, most};
 use crate::window::passes_windows;
 
 // A character: its code point and how many bytes encode it. Where there is none, both are 0.
-#[derive(Drop)]
+#[derive(Clone, Copy)]
 pub struct Char {
     pub code: u32,
     pub len: usize,
