@@ -1,0 +1,12 @@
+-- `letters::letter::words` meets its contract. The loop's invariant: the bytes before `n` are letters. The measure is `n`.
+use mathlib.Core.Path.{sym, ◌∙◌}
+use native.Mathlib.Omega.{arith}
+use Rattle.letters.specs.Letters.{LetterRun}
+use Rattle.letters.proofs.Letters.{run_less, word_ends, no_word}
+use Rattle.letters.proofs.letter.words.Given as goal
+
+abbrev pub invariant-loop-n : goal.invariant-loop-n
+invariant-loop-n l = LetterRun l.src l.value l.n
+
+abbrev pub decreases-loop-n : goal.decreases-loop-n
+decreases-loop-n l = l.n

@@ -1,0 +1,74 @@
+use borrow.Author.Rules.{rules}
+use mathlib.Core.Path.{◌≡◌, ◌∙◌, ap}
+use mathlib.Core.Logic.{⊎_elim}
+use mathlib.Core.List.{List}
+use Prim.Native.Nat.{ℕ, ◌-◌}
+use native.Mathlib.Omega.{arith}
+use lib.ListN.{length, drop}
+use Rattle.utf8.specs.Utf8.{Utf8}
+use Rattle.utf8.specs.Characters.{codes}
+use Rattle.utf8.specs.Utf8Laws.{boundary_start}
+use Rattle.measure.specs.Counted.{line_of}
+use Rattle.letters.proofs.Chunks.{part_is}
+use Rattle.measure.proofs.Read.{part_utf8}
+use Rattle.measure.proofs.Blocks.{Measuring, Fitting, line_fits, block_begins, block_at-end, block_ends, block_blank, block_content}
+use Rattle.measure.proofs.block.block_scalar_len.Goals as goal
+
+-- a line was read; what stands there
+module _ (c : goal.After-first_line-line) where
+  abbrev rest_now : List ℕ
+  rest_now = c.args.rest.now
+
+  abbrev at_now : ℕ
+  at_now = c.loop-at.at
+
+  rest_utf8 : Utf8 rest_now
+  rest_utf8 = c.requires
+
+  line_here : c.first_line-line.result ≡ line_of (codes (drop at_now rest_now))
+  line_here = c.first_line-line.ensures ∙ ap (λ l. line_of (codes l)) (part_is rest_now at_now)
+
+  fits_here : Fitting rest_now at_now c.first_line-line.result
+  fits_here = line_fits rest_utf8 (c.loop-at.invariant.place c.loop-at-test.true) line_here
+
+pub first_line-first-requires : goal.first_line-first-requires
+first_line-first-requires c = c.requires
+
+pub overflow_add-at : goal.overflow_add-at
+overflow_add-at c = let f = line_fits c.requires (boundary_start c.requires) c.first_line-first.ensures in omega arith
+
+pub loop-at-init : goal.loop-at-init
+loop-at-init c = block_begins c.args.column c.requires c.first_line-first.ensures
+
+pub first_line-line-requires : goal.first_line-line-requires
+first_line-line-requires c = part_utf8 c.requires (c.loop-at.invariant.place c.loop-at-test.true)
+
+pub returns-then-line-column : goal.returns-then-line-column
+returns-then-line-column c =
+    block_ends (rest_utf8 c.before.before.before.before) c.loop-at.invariant c.loop-at-test.true (line_here c.before.before.before.before) c.if-line-gt0.true c.if-line-column.true
+
+pub overflow_add-end : goal.overflow_add-end
+overflow_add-end c = let f = fits_here c.before.before.before.before.before in omega arith
+
+pub overflow_add-at-in-loop-at : goal.overflow_add-at-in-loop-at
+overflow_add-at-in-loop-at c = let f = fits_here c.before.before.before in omega arith
+
+pub overflow_add-at-in-loop-at-2 : goal.overflow_add-at-in-loop-at-2
+overflow_add-at-in-loop-at-2 c = let f = fits_here c.before.before.before in omega arith
+
+pub loop-at-smaller : goal.loop-at-smaller
+loop-at-smaller c = let h = c.loop-at-test.true in omega arith
+
+pub loop-at-preserved : goal.loop-at-preserved
+loop-at-preserved c =
+    let r = c.loop-at.invariant in
+    let h = c.loop-at-test.true in
+    ⊎_elim (λ w. rw w.4 (block_content (rest_utf8 c.before.before.before) r h (line_here c.before.before.before) w.0.taken w.2.left))
+    (λ w. rw w.1 (block_blank (rest_utf8 c.before.before.before) r h (line_here c.before.before.before) w.0.left))
+    c.if-line-gt0.branch
+
+pub returns : goal.returns
+returns c = block_at-end c.loop-at.invariant c.loop-at-test.false
+
+pub slice_bounds-first_line-count : goal.slice_bounds-first_line-count
+slice_bounds-first_line-count c = omega arith

@@ -1,0 +1,91 @@
+use mathlib.Core.Path.{◌≡◌, sym, ◌∙◌, ap}
+use mathlib.Core.List.{List}
+use Prim.Native.Nat.{ℕ, ◌+◌, ◌-◌}
+use native.Mathlib.Omega.{arith}
+use lib.ListN.{length, drop, get_or, length-drop}
+use Rattle.measure.specs.Quoted.{further, passed_together, to_closing, quoted_len}
+use Rattle.letters.specs.Marks.{Unmarked}
+use Rattle.letters.proofs.Chunks.{part_is}
+use Rattle.measure.proofs.Closing.{none_opens, other_opens, opens, passes_two, closes, passes_one, never_closes, passes_many}
+use Rattle.measure.proofs.quoted.quoted_scalar_len.Goals as goal
+
+-- the two bytes at i were looked at; what stands there
+module _ (c : goal.After-passed_together) where
+  abbrev rest_now : List ℕ
+  rest_now = c.args.rest.now
+
+  abbrev quote_now : ℕ
+  quote_now = c.args.quote
+
+  abbrev i_now : ℕ
+  i_now = c.loop-i.i
+
+  asked : c.passed_together.result ≡ passed_together quote_now (get_or rest_now i_now 0) (get_or rest_now (i_now + 1) 0)
+  asked = c.passed_together.ensures ∙ ap (passed_together quote_now (get_or rest_now i_now 0)) c.byte_at.ensures
+
+-- the ordinary bytes that were passed at once
+passed : (c : goal.After-unmarked-i) → Unmarked (quote_now c.before.before.before.before) (drop (i_now c.before.before.before.before + 1) (rest_now c.before.before.before.before)) c.unmarked-i.result
+passed c = rw (part_is (rest_now c.before.before.before.before) (i_now c.before.before.before.before + 1)) at c.unmarked-i.ensures
+
+pub returns-then-rest-eq0 : goal.returns-then-rest-eq0
+returns-then-rest-eq0 c = none_opens c.args.rest.now c.args.quote c.if-rest-eq0.true
+
+pub bounds-rest-0 : goal.bounds-rest-0
+bounds-rest-0 c = let n = c.if-rest-eq0.false in omega arith
+
+pub returns-then-rest-quote : goal.returns-then-rest-quote
+returns-then-rest-quote c = other_opens c.args.rest.now c.args.quote c.if-rest-quote.true
+
+pub loop-i-init : goal.loop-i-init
+loop-i-init c = opens c.args.rest.now c.args.quote (let n = c.if-rest-eq0.false in omega arith) c.if-rest-quote.false
+
+pub loop-i-preserved-then-passed_together : goal.loop-i-preserved-then-passed_together
+loop-i-preserved-then-passed_together c =
+    passes_two (rest_now c.before) (quote_now c.before) (i_now c.before) c.loop-i-test.true (sym (asked c.before) ∙ c.if-passed_together.true) ∙ c.loop-i.invariant
+
+pub returns-then-b-quote : goal.returns-then-b-quote
+returns-then-b-quote c =
+    closes (rest_now c.before.before) (quote_now c.before.before) (i_now c.before.before) c.loop-i-test.true (sym (asked c.before.before) ∙ c.if-passed_together.false) c.if-b-quote.true ∙ c.loop-i.invariant
+
+pub overflow_add-i-else-passed_together-2 : goal.overflow_add-i-else-passed_together-2
+overflow_add-i-else-passed_together-2 c = let w = (passed c).within in let l = length-drop (i_now c.before.before.before.before + 1) (rest_now c.before.before.before.before) in omega arith
+
+pub loop-i-preserved : goal.loop-i-preserved
+loop-i-preserved c =
+    passes_many (rest_now c.before.before.before.before) (quote_now c.before.before.before.before) (i_now c.before.before.before.before + 1) c.unmarked-i.result (passed c)
+    ∙ passes_one (rest_now c.before.before.before.before) (quote_now c.before.before.before.before) (i_now c.before.before.before.before) c.loop-i-test.true (sym (asked c.before.before.before.before) ∙ c.if-passed_together.false) c.if-b-quote.false
+    ∙ c.loop-i.invariant
+
+pub returns : goal.returns
+returns c =
+    never_closes c.args.rest.now c.args.quote c.loop-i.i c.loop-i-test.false ∙ c.loop-i.invariant
+
+pub bounds-rest-i : goal.bounds-rest-i
+bounds-rest-i c = omega arith
+
+pub overflow_add-i : goal.overflow_add-i
+overflow_add-i c = omega arith
+
+pub overflow_add-i-then-passed_together : goal.overflow_add-i-then-passed_together
+overflow_add-i-then-passed_together c = omega arith
+
+pub loop-i-smaller-then-passed_together : goal.loop-i-smaller-then-passed_together
+loop-i-smaller-then-passed_together c = omega arith
+
+pub overflow_add-result : goal.overflow_add-result
+overflow_add-result c = omega arith
+
+pub overflow_add-i-else-passed_together : goal.overflow_add-i-else-passed_together
+overflow_add-i-else-passed_together c = omega arith
+
+pub slice_bounds-unmarked-count : goal.slice_bounds-unmarked-count
+slice_bounds-unmarked-count c = omega arith
+
+pub slice_bounds-unmarked-start : goal.slice_bounds-unmarked-start
+slice_bounds-unmarked-start c = omega arith
+
+pub slice_bounds-unmarked-end : goal.slice_bounds-unmarked-end
+slice_bounds-unmarked-end c = omega arith
+
+pub loop-i-smaller : goal.loop-i-smaller
+loop-i-smaller c = omega arith

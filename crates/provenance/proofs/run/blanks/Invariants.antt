@@ -1,0 +1,16 @@
+-- `provenance::run::blanks` meets its contract. The loop's invariant: the blanks passed and those that follow are all. The measure is
+-- what is left.
+use mathlib.Core.Path.{◌≡◌, sym, ◌∙◌}
+use borrow.Author.Tests.{not-true, not-false}
+use Prim.Native.Nat.{◌+◌, ◌-◌, ◌≤◌}
+use lib.ListN.{length, drop}
+use native.Mathlib.Omega.{arith}
+use Rattle.provenance.specs.Run.{blank_run}
+use Rattle.provenance.proofs.Runs.{blank_more, blank_stops, blank_ends}
+use Rattle.provenance.proofs.run.blanks.Given as goal
+
+abbrev pub invariant-loop-n : goal.invariant-loop-n
+invariant-loop-n l = (l.n ≤ length l.tail) × (l.n ≤ l.most) × (l.n + length (blank_run (drop l.n l.tail)) ≡ length (blank_run l.tail))
+
+abbrev pub decreases-loop-n : goal.decreases-loop-n
+decreases-loop-n l = length l.tail - l.n

@@ -1,0 +1,81 @@
+-- `provenance::step::break_step` meets its contract: the two sides have the lengths that the calls say, and are compared.
+use mathlib.Core.Path.{◌≡◌}
+use Prim.Native.Nat.{◌+◌, ◌-◌, ◌≤◌}
+use native.Mathlib.Omega.{arith}
+use lib.ListN.{length, take, drop, length-drop}
+use borrow.Author.Rules.{rules}
+use Rattle.provenance.specs.Run.{white_run, newlines_in, cut, blank_run}
+use Rattle.provenance.specs.RunLaws.{run_within, last_within}
+use Rattle.letters.proofs.Chunks.{part_is}
+use Rattle.provenance.proofs.Steps.{numbers_of, cut_of, blanks_of, cut_inside, blanks_inside, pair_same, pair_other}
+use Rattle.provenance.proofs.step.break_step.Goals as goal
+
+-- how many bytes each side has
+left_len : (c : goal.After-blanks-b) → c.cut_len-a.result ≡ length (cut c.args.block c.args.column (white_run (drop c.args.s c.args.src.now)))
+left_len c = let a = c.args in cut_of a.block a.column a.run (drop a.s a.src.now) c.cut_len-a.result c.cut_len-a.ensures c.requires.run_value
+
+right_len : (c : goal.After-blanks-b) → c.blanks-b.result ≡ length (take (newlines_in (white_run (drop c.args.s c.args.src.now))) (blank_run (drop c.args.v c.args.value.now)))
+right_len c =
+    let a = c.args in
+    blanks_of a.run (drop a.s a.src.now) (drop a.v a.value.now) c.blanks-b.result (rw (part_is a.value.now a.v) at c.blanks-b.ensures) c.requires.run_value
+
+-- and that they lie inside
+sides : (c : goal.After-blanks-b) → (c.args.s + c.cut_len-a.result ≤ length c.args.src.now) × (c.args.v + c.blanks-b.result ≤ length c.args.value.now)
+sides c =
+    let a = c.args in
+    let el = left_len c in
+    let er = right_len c in
+    let il = cut_inside a.block a.column (drop a.s a.src.now) in
+    let ir = blanks_inside (newlines_in (white_run (drop a.s a.src.now))) (drop a.v a.value.now) in
+    let dl = length-drop a.s a.src.now in
+    let dr = length-drop a.v a.value.now in
+    (omega arith, omega arith)
+
+pub cut_len-a-requires : goal.cut_len-a-requires
+cut_len-a-requires c =
+    let a = c.args in
+    let n = (numbers_of a.run (drop a.s a.src.now) c.requires.run_value).2 in
+    let w = last_within (white_run (drop a.s a.src.now)) in
+    let r = run_within (drop a.s a.src.now) in
+    let d = length-drop a.s a.src.now in
+    (omega arith, omega arith)
+
+pub overflow_add-source_end : goal.overflow_add-source_end
+overflow_add-source_end c = let i = sides c in omega arith
+
+pub overflow_add-value_end : goal.overflow_add-value_end
+overflow_add-value_end c = let i = sides c in omega arith
+
+pub slice_bounds-same-count : goal.slice_bounds-same-count
+slice_bounds-same-count c = let i = sides c in omega arith
+
+pub slice_bounds-same-start : goal.slice_bounds-same-start
+slice_bounds-same-start c = let i = sides c in omega arith
+
+pub slice_bounds-same-end : goal.slice_bounds-same-end
+slice_bounds-same-end c = let i = sides c in omega arith
+
+pub slice_bounds-same-count-2 : goal.slice_bounds-same-count-2
+slice_bounds-same-count-2 c = let i = sides c.before in omega arith
+
+pub slice_bounds-same-start-2 : goal.slice_bounds-same-start-2
+slice_bounds-same-start-2 c = let i = sides c.before in omega arith
+
+pub slice_bounds-same-end-2 : goal.slice_bounds-same-end-2
+slice_bounds-same-end-2 c = let i = sides c.before in omega arith
+
+pub returns-then-same : goal.returns-then-same
+returns-then-same c =
+    let a = c.args in
+    let ql : a.s + c.cut_len-a.result - a.s ≡ c.cut_len-a.result = omega arith in
+    let qr : a.v + c.blanks-b.result - a.v ≡ c.blanks-b.result = omega arith in
+    let same = rw (ql, qr) at c.same.ensures in
+    pair_same a.block a.column (drop a.s a.src.now) (drop a.v a.value.now) _ _ (left_len c.before.before.before.before) (right_len c.before.before.before.before) (same.0 c.if-same.true)
+
+pub returns : goal.returns
+returns c =
+    let a = c.args in
+    let ql : a.s + c.cut_len-a.result - a.s ≡ c.cut_len-a.result = omega arith in
+    let qr : a.v + c.blanks-b.result - a.v ≡ c.blanks-b.result = omega arith in
+    let same = rw (ql, qr) at c.same.ensures in
+    pair_other a.block a.column (drop a.s a.src.now) (drop a.v a.value.now) _ _ (left_len c.before.before.before.before) (right_len c.before.before.before.before) c.same.result same.1 c.if-same.false
