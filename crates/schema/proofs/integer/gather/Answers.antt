@@ -82,17 +82,17 @@ overflow_add-digit c = bound_fits c.before
 
 pub returns-then-shifted-digit : goal.returns-then-shifted-digit
 returns-then-shifted-digit c =
-    let h = under (back (mul-shifted c.before) (product c.before)) (back (bound_fits c.before.before) (bound c.before.before)) c.if-shifted-digit.true in
+    let h = under (back (overflow_mul-shifted c.before) (product c.before)) (back (bound_fits c.before.before) (bound c.before.before)) c.if-shifted-digit.true in
     beyond_neg _ (past c.before.before (omega (arith, h)))
 
 module _ (c : goal.Else-shifted-digit) where
   room : m c.before.before * base c.before.before + d c.before.before ≤ 2 ^ 63
   room =
-      let h = not_under (back (mul-shifted c.before) (product c.before)) (back (bound_fits c.before.before) (bound c.before.before)) c.if-shifted-digit.false in
+      let h = not_under (back (overflow_mul-shifted c.before) (product c.before)) (back (bound_fits c.before.before) (bound c.before.before)) c.if-shifted-digit.false in
       omega (arith, h)
 
   more_digits : Neg (to_z w64 (of_z w64 (to_z w64 c.loop-i.sum *ℤ to_z w64 (base c.before.before))) -ℤ to_z w64 (d c.before.before)) (m c.before.before * base c.before.before + d c.before.before)
-  more_digits = less (back (mul-shifted c.before) (product c.before)) (digit c.before.before)
+  more_digits = less (back (overflow_mul-shifted c.before) (product c.before)) (digit c.before.before)
 
 pub overflow_sub-sum : goal.overflow_sub-sum
 overflow_sub-sum c = fits (more_digits c) (room c)
@@ -103,7 +103,7 @@ loop-i-preserved c =
     let s = c.args.value.now in
     let i = c.loop-i.i in (
       _,
-      back (sub-sum c) (more_digits c),
+      back (overflow_sub-sum c) (more_digits c),
       room c,
       ap (λ (x : ℕ). positional (base c.before.before) (m c.before.before * base c.before.before + x) (drop (i + 1) s)) c.digit_value-digit.ensures
           ∙ sym (one_more_lem (base c.before.before) (m c.before.before) s i c.loop-i-test.true)

@@ -36,5 +36,5 @@ overflow_sub-result c = pos_fits (negated (sum_back c.before)) (not_lowest (sum 
 
 pub returns : goal.returns
 returns c =
-    held_pos (to_z-of_z (sub-t7 c) ∙ negated (sum_back c.before))
+    held_pos (to_z-of_z (overflow_sub-result c) ∙ negated (sum_back c.before))
     (not_lowest (sum c.before).0 (sum c.before).1 c.if-n.false)

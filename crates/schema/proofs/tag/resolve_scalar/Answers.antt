@@ -17,7 +17,7 @@ slice_bounds-resolve_tagged_scalar-count c =
     name_within _ _ _ (sym c.in-NameAt.is ∙ c.standard_tag_suffix-standard.ensures)
 
 pub slice_bounds-resolve_tagged_scalar-start : goal.slice_bounds-resolve_tagged_scalar-start
-slice_bounds-resolve_tagged_scalar-start c = sub-resolve-tagged-scalar c
+slice_bounds-resolve_tagged_scalar-start c = slice_bounds-resolve_tagged_scalar-count c
 
 pub returns-then-tagged : goal.returns-then-tagged
 returns-then-tagged c =

@@ -19,7 +19,7 @@ pub slice_bounds-result-count : goal.slice_bounds-result-count
 slice_bounds-result-count c = let order = (inside c.requires.utf8 c.requires.boundary c.find_property-found.ensures).order in omega arith
 
 pub slice_bounds-result-start : goal.slice_bounds-result-start
-slice_bounds-result-start c = sub-result c
+slice_bounds-result-start c = slice_bounds-result-count c
 
 pub slice_bounds-result-end : goal.slice_bounds-result-end
 slice_bounds-result-end c =

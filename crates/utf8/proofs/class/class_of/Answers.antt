@@ -21,10 +21,10 @@ overflow_add-result-3 c =
     omega arith
 
 pub overflow_add-result : goal.overflow_add-result
-overflow_add-result c = omega (arith, add-result-3 c)
+overflow_add-result c = omega (arith, overflow_add-result-3 c)
 
 pub overflow_add-result-2 : goal.overflow_add-result-2
-overflow_add-result-2 c = omega (arith, add-result-3 c)
+overflow_add-result-2 c = omega (arith, overflow_add-result-3 c)
 
 pub returns : goal.returns
 unfolding class_of

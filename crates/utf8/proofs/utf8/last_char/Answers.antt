@@ -25,7 +25,7 @@ overflow_sub-j-in-loop-j c =
     omega arith
 
 pub loop-j-smaller : goal.loop-j-smaller
-loop-j-smaller c = let less = sub-j-2 c in omega arith
+loop-j-smaller c = let less = overflow_sub-j-in-loop-j c in omega arith
 
 pub loop-j-preserved : goal.loop-j-preserved
 loop-j-preserved c =
