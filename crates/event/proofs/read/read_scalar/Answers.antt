@@ -10,6 +10,7 @@ use Rattle.event.specs.Read.{with_value, read_scalar}
 use Rattle.event.specs.declared.tag.TagRead.TheVariants as tag
 use Rattle.event.proofs.ReadCases.{scalar_cut, scalar_style_unknown, scalar_flag_unknown, scalar_tagged, tag_ended}
 use Rattle.event.proofs.read.read_scalar.Goals as goal
+use Rattle.event.proofs.read.read_scalar.Goals.{In-Valid}
 
 pub returns-then-end-at-lt-YAML_TAG : goal.returns-then-end-at-lt-YAML_TAG
 returns-then-end-at-lt-YAML_TAG c =
@@ -36,7 +37,7 @@ returns-in_default c =
 
 -- with a tag read: it ends in the body
 tag-ends-at :
-    (c : goal.In-Valid-2)
+    (c : In-Valid)
     → c.in-Valid.from ≤ c.args.end
 tag-ends-at c =
     let given = c.args in
@@ -44,7 +45,7 @@ tag-ends-at c =
 
 -- and the value decides
 value-decides :
-    (c : goal.In-Valid-2)
+    (c : In-Valid)
     → let given = c.args in
     let s = given.events.now in
     let i = given.at in
@@ -56,18 +57,18 @@ value-decides c =
     ∙ rw (sym c.tag_at.ensures ∙ c.in-Valid.is)
 
 pub slice_bounds-is_utf8-start : goal.slice_bounds-is_utf8-start
-slice_bounds-is_utf8-start c = let ends = tag-ends-at c.before in search rules
+slice_bounds-is_utf8-start c = let ends = tag-ends-at c in search rules
 
 pub returns-then-is_utf8 : goal.returns-then-is_utf8
 returns-then-is_utf8 c =
     let column = c.number_at-column.ensures in
-    sym (value-decides c.before.before.before.before ∙ rw (sym c.is_utf8.ensures ∙ c.if-is_utf8.true, sym column))
+    sym (value-decides (goal.at.returns-then-is_utf8 c).In-Valid ∙ rw (sym c.is_utf8.ensures ∙ c.if-is_utf8.true, sym column))
 
 pub returns : goal.returns
-returns c = sym (value-decides c.before.before.before.before ∙ rw (sym c.is_utf8.ensures ∙ c.if-is_utf8.false))
+returns c = sym (value-decides (goal.at.returns c).In-Valid ∙ rw (sym c.is_utf8.ensures ∙ c.if-is_utf8.false))
 
 pub slice_bounds-is_utf8-count : goal.slice_bounds-is_utf8-count
-slice_bounds-is_utf8-count c = tag-ends-at c.before
+slice_bounds-is_utf8-count c = tag-ends-at c
 
 pub overflow_sub-result : goal.overflow_sub-result
-overflow_sub-result c = tag-ends-at c.before.before.before.before
+overflow_sub-result c = tag-ends-at (goal.at.overflow_sub-result c).In-Valid
