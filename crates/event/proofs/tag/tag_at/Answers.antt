@@ -7,6 +7,7 @@ use lib.ListN.{get_or}
 use Rattle.event.specs.Read.{with_handle, with_suffix, read_string, read_tag}
 use Rattle.event.proofs.ReadCases.{tag_cut, tag_absent, tag_present, tag_with_suffix, tag_flag_unknown, string_ended}
 use Rattle.event.proofs.tag.tag_at.Goals as goal
+use Rattle.event.proofs.tag.tag_at.Goals.{In-Valid}
 
 pub returns-then-at-end : goal.returns-then-at-end
 returns-then-at-end c =
@@ -34,7 +35,7 @@ returns-in_default c =
 
 -- with a handle read: it ends in the body
 handle-ends-at :
-    (c : goal.In-Valid-2)
+    (c : In-Valid)
     → c.in-Valid.handle.at + c.in-Valid.handle.len ≤ c.args.end
 handle-ends-at c =
     let given = c.args in
@@ -42,7 +43,7 @@ handle-ends-at c =
 
 -- and the suffix decides
 suffix-decides :
-    (c : goal.In-Valid-2)
+    (c : In-Valid)
     → let given = c.args in
     let h = c.in-Valid.handle in
     read_tag given.events.now given.at given.end ≡ with_suffix h (read_string given.events.now (h.at + h.len) given.end)
@@ -53,15 +54,15 @@ suffix-decides c =
     tag_with_suffix given.events.now given.at given.end (omega (arith, c.if-at-end.false)) flag c.in-Valid.handle _ handle refl
 
 pub overflow_add-from : goal.overflow_add-from
-overflow_add-from c = let ends = handle-ends-at c.before.before in omega arith
+overflow_add-from c = let ends = handle-ends-at (goal.at.overflow_add-from c).In-Valid in omega arith
 
 pub string_at-requires-2 : goal.string_at-requires-2
-string_at-requires-2 c = record { at_le_end = handle-ends-at c.before.before; end_in_bounds = omega arith }
+string_at-requires-2 c = record { at_le_end = handle-ends-at (goal.at.string_at-requires-2 c).In-Valid; end_in_bounds = omega arith }
 
 pub returns-in_default-string_at : goal.returns-in_default-string_at
 returns-in_default-string_at c =
     let suffix = sym c.string_at-2.ensures ∙ c.in_default-string_at.is in
-    sym (suffix-decides c.before.before.before.before.before ∙ rw suffix)
+    sym (suffix-decides (goal.at.returns-in_default-string_at c).In-Valid ∙ rw suffix)
 
 pub overflow_add-result-2 : goal.overflow_add-result-2
 overflow_add-result-2 c =
@@ -74,4 +75,4 @@ overflow_add-result-2 c =
 pub returns : goal.returns
 returns c =
     let suffix = sym c.string_at-2.ensures ∙ c.in-Valid-string_at.is in
-    sym (suffix-decides c.before.before.before.before.before.before.before ∙ rw suffix)
+    sym (suffix-decides (goal.at.returns c).In-Valid ∙ rw suffix)

@@ -13,9 +13,10 @@ use Rattle.letters.proofs.Chunks.{part_is}
 use Rattle.measure.proofs.Read.{part_utf8}
 use Rattle.measure.proofs.Blocks.{Measuring, Fitting, line_fits, block_begins, block_at-end, block_ends, block_blank, block_content}
 use Rattle.measure.proofs.block.block_scalar_len.Goals as goal
+use Rattle.measure.proofs.block.block_scalar_len.Goals.{After-first_line-line, Start}
 
 -- a line was read; what stands there
-module _ (c : goal.After-first_line-line) where
+module _ (c : After-first_line-line) where
   abbrev rest_now : List ℕ
   rest_now = c.args.rest.now
 
@@ -45,16 +46,16 @@ first_line-line-requires c = part_utf8 c.requires (c.loop-at.invariant.place c.l
 
 pub returns-then-line-column : goal.returns-then-line-column
 returns-then-line-column c =
-    block_ends (rest_utf8 c.before.before.before.before) c.loop-at.invariant c.loop-at-test.true (line_here c.before.before.before.before) c.if-line-gt0.true c.if-line-column.true
+    block_ends (rest_utf8 (goal.at.returns-then-line-column c).After-first_line-line) c.loop-at.invariant c.loop-at-test.true (line_here (goal.at.returns-then-line-column c).After-first_line-line) c.if-line-gt0.true c.if-line-column.true
 
 pub overflow_add-end : goal.overflow_add-end
-overflow_add-end c = let f = fits_here c.before.before.before.before.before in omega arith
+overflow_add-end c = let f = fits_here (goal.at.overflow_add-end c).After-first_line-line in omega arith
 
 pub overflow_add-at-in-loop-at : goal.overflow_add-at-in-loop-at
-overflow_add-at-in-loop-at c = let f = fits_here c.before.before.before in omega arith
+overflow_add-at-in-loop-at c = let f = fits_here (goal.at.overflow_add-at-in-loop-at c).After-first_line-line in omega arith
 
 pub overflow_add-at-in-loop-at-2 : goal.overflow_add-at-in-loop-at-2
-overflow_add-at-in-loop-at-2 c = let f = fits_here c.before.before.before in omega arith
+overflow_add-at-in-loop-at-2 c = let f = fits_here (goal.at.overflow_add-at-in-loop-at-2 c).After-first_line-line in omega arith
 
 pub loop-at-smaller : goal.loop-at-smaller
 loop-at-smaller c = let h = c.loop-at-test.true in omega arith
@@ -63,8 +64,8 @@ pub loop-at-preserved : goal.loop-at-preserved
 loop-at-preserved c =
     let r = c.loop-at.invariant in
     let h = c.loop-at-test.true in
-    ⊎_elim (λ w. rw w.4 (block_content (rest_utf8 c.before.before.before) r h (line_here c.before.before.before) w.0.taken w.2.left))
-    (λ w. rw w.1 (block_blank (rest_utf8 c.before.before.before) r h (line_here c.before.before.before) w.0.left))
+    ⊎_elim (λ w. rw w.4 (block_content (rest_utf8 (goal.at.loop-at-preserved c).After-first_line-line) r h (line_here (goal.at.loop-at-preserved c).After-first_line-line) w.0.taken w.2.left))
+    (λ w. rw w.1 (block_blank (rest_utf8 (goal.at.loop-at-preserved c).After-first_line-line) r h (line_here (goal.at.loop-at-preserved c).After-first_line-line) w.0.left))
     c.if-line-gt0.branch
 
 pub returns : goal.returns

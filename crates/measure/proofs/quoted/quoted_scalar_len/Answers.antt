@@ -8,9 +8,10 @@ use Rattle.letters.specs.Marks.{Unmarked}
 use Rattle.letters.proofs.Chunks.{part_is}
 use Rattle.measure.proofs.Closing.{none_opens, other_opens, opens, passes_two, closes, passes_one, never_closes, passes_many}
 use Rattle.measure.proofs.quoted.quoted_scalar_len.Goals as goal
+use Rattle.measure.proofs.quoted.quoted_scalar_len.Goals.{After-passed_together, After-unmarked-i, At-loop-i, Start}
 
 -- the two bytes at i were looked at; what stands there
-module _ (c : goal.After-passed_together) where
+module _ (c : After-passed_together) where
   abbrev rest_now : List ℕ
   rest_now = c.args.rest.now
 
@@ -24,7 +25,7 @@ module _ (c : goal.After-passed_together) where
   asked = c.passed_together.ensures ∙ ap (passed_together quote_now (get_or rest_now i_now 0)) c.byte_at.ensures
 
 -- the ordinary bytes that were passed at once
-passed : (c : goal.After-unmarked-i) → Unmarked (quote_now c.before.before.before.before) (drop (i_now c.before.before.before.before + 1) (rest_now c.before.before.before.before)) c.unmarked-i.result
+passed : (c : After-unmarked-i) → Unmarked (quote_now c.before.before.before.before) (drop (i_now c.before.before.before.before + 1) (rest_now c.before.before.before.before)) c.unmarked-i.result
 passed c = rw (part_is (rest_now c.before.before.before.before) (i_now c.before.before.before.before + 1)) at c.unmarked-i.ensures
 
 pub returns-then-rest-eq0 : goal.returns-then-rest-eq0
@@ -41,19 +42,19 @@ loop-i-init c = opens c.args.rest.now c.args.quote (let n = c.if-rest-eq0.false 
 
 pub loop-i-preserved-then-passed_together : goal.loop-i-preserved-then-passed_together
 loop-i-preserved-then-passed_together c =
-    passes_two (rest_now c.before) (quote_now c.before) (i_now c.before) c.loop-i-test.true (sym (asked c.before) ∙ c.if-passed_together.true) ∙ c.loop-i.invariant
+    passes_two (rest_now (goal.at.loop-i-preserved-then-passed_together c).After-passed_together) (quote_now (goal.at.loop-i-preserved-then-passed_together c).After-passed_together) (i_now (goal.at.loop-i-preserved-then-passed_together c).After-passed_together) c.loop-i-test.true (sym (asked (goal.at.loop-i-preserved-then-passed_together c).After-passed_together) ∙ c.if-passed_together.true) ∙ c.loop-i.invariant
 
 pub returns-then-b-quote : goal.returns-then-b-quote
 returns-then-b-quote c =
-    closes (rest_now c.before.before) (quote_now c.before.before) (i_now c.before.before) c.loop-i-test.true (sym (asked c.before.before) ∙ c.if-passed_together.false) c.if-b-quote.true ∙ c.loop-i.invariant
+    closes (rest_now (goal.at.returns-then-b-quote c).After-passed_together) (quote_now (goal.at.returns-then-b-quote c).After-passed_together) (i_now (goal.at.returns-then-b-quote c).After-passed_together) c.loop-i-test.true (sym (asked (goal.at.returns-then-b-quote c).After-passed_together) ∙ c.if-passed_together.false) c.if-b-quote.true ∙ c.loop-i.invariant
 
 pub overflow_add-i-else-passed_together-2 : goal.overflow_add-i-else-passed_together-2
-overflow_add-i-else-passed_together-2 c = let w = (passed c).within in let l = length-drop (i_now c.before.before.before.before + 1) (rest_now c.before.before.before.before) in omega arith
+overflow_add-i-else-passed_together-2 c = let w = (passed c).within in let l = length-drop (i_now (goal.at.overflow_add-i-else-passed_together-2 c).After-passed_together + 1) (rest_now (goal.at.overflow_add-i-else-passed_together-2 c).After-passed_together) in omega arith
 
 pub loop-i-preserved : goal.loop-i-preserved
 loop-i-preserved c =
-    passes_many (rest_now c.before.before.before.before) (quote_now c.before.before.before.before) (i_now c.before.before.before.before + 1) c.unmarked-i.result (passed c)
-    ∙ passes_one (rest_now c.before.before.before.before) (quote_now c.before.before.before.before) (i_now c.before.before.before.before) c.loop-i-test.true (sym (asked c.before.before.before.before) ∙ c.if-passed_together.false) c.if-b-quote.false
+    passes_many (rest_now (goal.at.loop-i-preserved c).After-passed_together) (quote_now (goal.at.loop-i-preserved c).After-passed_together) (i_now (goal.at.loop-i-preserved c).After-passed_together + 1) c.unmarked-i.result (passed c)
+    ∙ passes_one (rest_now (goal.at.loop-i-preserved c).After-passed_together) (quote_now (goal.at.loop-i-preserved c).After-passed_together) (i_now (goal.at.loop-i-preserved c).After-passed_together) c.loop-i-test.true (sym (asked (goal.at.loop-i-preserved c).After-passed_together) ∙ c.if-passed_together.false) c.if-b-quote.false
     ∙ c.loop-i.invariant
 
 pub returns : goal.returns

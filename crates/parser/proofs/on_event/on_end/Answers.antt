@@ -11,6 +11,7 @@ use Rattle.text.specs.OffsetLaws.{offset_within}
 use Rattle.spans.specs.Collection.{closes, collection_node}
 use borrow.Author.Tests.{not-true, not-false}
 use Rattle.parser.proofs.on_event.on_end.Goals as goal
+use Rattle.parser.proofs.on_event.on_end.Goals.{Start}
 
 pub returns-then-depth-eq0 : goal.returns-then-depth-eq0
 returns-then-depth-eq0 c = λ p size pieces_size st h.

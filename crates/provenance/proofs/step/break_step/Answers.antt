@@ -9,18 +9,19 @@ use Rattle.provenance.specs.RunLaws.{run_within, last_within}
 use Rattle.letters.proofs.Chunks.{part_is}
 use Rattle.provenance.proofs.Steps.{numbers_of, cut_of, blanks_of, cut_inside, blanks_inside, pair_same, pair_other}
 use Rattle.provenance.proofs.step.break_step.Goals as goal
+use Rattle.provenance.proofs.step.break_step.Goals.{After-blanks-b}
 
 -- how many bytes each side has
-left_len : (c : goal.After-blanks-b) → c.cut_len-a.result ≡ length (cut c.args.block c.args.column (white_run (drop c.args.s c.args.src.now)))
+left_len : (c : After-blanks-b) → c.cut_len-a.result ≡ length (cut c.args.block c.args.column (white_run (drop c.args.s c.args.src.now)))
 left_len c = let a = c.args in cut_of a.block a.column a.run (drop a.s a.src.now) c.cut_len-a.result c.cut_len-a.ensures c.requires.run_value
 
-right_len : (c : goal.After-blanks-b) → c.blanks-b.result ≡ length (take (newlines_in (white_run (drop c.args.s c.args.src.now))) (blank_run (drop c.args.v c.args.value.now)))
+right_len : (c : After-blanks-b) → c.blanks-b.result ≡ length (take (newlines_in (white_run (drop c.args.s c.args.src.now))) (blank_run (drop c.args.v c.args.value.now)))
 right_len c =
     let a = c.args in
     blanks_of a.run (drop a.s a.src.now) (drop a.v a.value.now) c.blanks-b.result (rw (part_is a.value.now a.v) at c.blanks-b.ensures) c.requires.run_value
 
 -- and that they lie inside
-sides : (c : goal.After-blanks-b) → (c.args.s + c.cut_len-a.result ≤ length c.args.src.now) × (c.args.v + c.blanks-b.result ≤ length c.args.value.now)
+sides : (c : After-blanks-b) → (c.args.s + c.cut_len-a.result ≤ length c.args.src.now) × (c.args.v + c.blanks-b.result ≤ length c.args.value.now)
 sides c =
     let a = c.args in
     let el = left_len c in
@@ -56,13 +57,13 @@ pub slice_bounds-same-end : goal.slice_bounds-same-end
 slice_bounds-same-end c = let i = sides c in omega arith
 
 pub slice_bounds-same-count-2 : goal.slice_bounds-same-count-2
-slice_bounds-same-count-2 c = let i = sides c.before in omega arith
+slice_bounds-same-count-2 c = let i = sides (goal.at.slice_bounds-same-count-2 c).After-blanks-b in omega arith
 
 pub slice_bounds-same-start-2 : goal.slice_bounds-same-start-2
-slice_bounds-same-start-2 c = let i = sides c.before in omega arith
+slice_bounds-same-start-2 c = let i = sides (goal.at.slice_bounds-same-start-2 c).After-blanks-b in omega arith
 
 pub slice_bounds-same-end-2 : goal.slice_bounds-same-end-2
-slice_bounds-same-end-2 c = let i = sides c.before in omega arith
+slice_bounds-same-end-2 c = let i = sides (goal.at.slice_bounds-same-end-2 c).After-blanks-b in omega arith
 
 pub returns-then-same : goal.returns-then-same
 returns-then-same c =
@@ -70,7 +71,7 @@ returns-then-same c =
     let ql : a.s + c.cut_len-a.result - a.s ≡ c.cut_len-a.result = omega arith in
     let qr : a.v + c.blanks-b.result - a.v ≡ c.blanks-b.result = omega arith in
     let same = rw (ql, qr) at c.same.ensures in
-    pair_same a.block a.column (drop a.s a.src.now) (drop a.v a.value.now) _ _ (left_len c.before.before.before.before) (right_len c.before.before.before.before) (same.0 c.if-same.true)
+    pair_same a.block a.column (drop a.s a.src.now) (drop a.v a.value.now) _ _ (left_len (goal.at.returns-then-same c).After-blanks-b) (right_len (goal.at.returns-then-same c).After-blanks-b) (same.0 c.if-same.true)
 
 pub returns : goal.returns
 returns c =
@@ -78,4 +79,4 @@ returns c =
     let ql : a.s + c.cut_len-a.result - a.s ≡ c.cut_len-a.result = omega arith in
     let qr : a.v + c.blanks-b.result - a.v ≡ c.blanks-b.result = omega arith in
     let same = rw (ql, qr) at c.same.ensures in
-    pair_other a.block a.column (drop a.s a.src.now) (drop a.v a.value.now) _ _ (left_len c.before.before.before.before) (right_len c.before.before.before.before) c.same.result same.1 c.if-same.false
+    pair_other a.block a.column (drop a.s a.src.now) (drop a.v a.value.now) _ _ (left_len (goal.at.returns c).After-blanks-b) (right_len (goal.at.returns c).After-blanks-b) c.same.result same.1 c.if-same.false

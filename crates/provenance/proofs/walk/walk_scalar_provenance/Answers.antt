@@ -16,42 +16,43 @@ use Rattle.provenance.proofs.Steps.{Clear, tells, run_small, clear_after, clear_
 use Rattle.provenance.proofs.Turn.{Going, begins, on_verbatim, on_letters, on_replacement}
 use Rattle.provenance.proofs.Walks.{ends_stuck, ends_listed, ends_full}
 use Rattle.provenance.proofs.walk.walk_scalar_provenance.Goals as goal
+use Rattle.provenance.proofs.walk.walk_scalar_provenance.Goals.{After-known_after-known, After-slice_known-in-Replacement-1, In-Replacement, In-Verbatim, In-loop-v}
 
 -- ---- what is known in a turn
 -- the steps of the grammar, which are fair
-abbrev steps : goal.In-loop-v → ℕ → ℕ → Step
+abbrev steps : In-loop-v → ℕ → ℕ → Step
 steps i = step_at (rules_of i.args.style i.args.column) i.args.src.now i.args.value.now
 
-fair_here : (i : goal.In-loop-v) → Fair escapes_reach (steps i) (length i.args.src.now) (length i.args.value.now)
+fair_here : (i : In-loop-v) → Fair escapes_reach (steps i) (length i.args.src.now) (length i.args.value.now)
 fair_here i = let a = i.args in grammar_fair (rules_of a.style a.column) (style_fair a.style) a.src.now a.value.now
 
 -- after the run was looked at
-clear_here : (c : goal.After-known_after-known) → Clear c.args.src.now c.loop-v.s c.known_after-known.result
+clear_here : (c : After-known_after-known) → Clear c.args.src.now c.loop-v.s c.known_after-known.result
 clear_here c =
     let a = c.args in
     let w = c.loop-v in
     clear_after (is_block a.style) a.src.now a.value.now w.s w.v w.known w.invariant.1 c.break_run-run.result c.break_run-run.ensures _ c.known_after-known.ensures
 
 -- the step is verbatim
-is_verbatim : (c : goal.In-Verbatim) → steps c.before.before.before.before.before.before c.loop-v.s c.loop-v.v ≡ Verbatim c.in-Verbatim.k
+is_verbatim : (c : In-Verbatim) → steps c.before.before.before.before.before.before c.loop-v.s c.loop-v.v ≡ Verbatim c.in-Verbatim.k
 is_verbatim c = sym c.step_at-t.ensures ∙ c.in-Verbatim.is
 
-verbatim_bounds : (c : goal.In-Verbatim)
+verbatim_bounds : (c : In-Verbatim)
     → (0 < c.in-Verbatim.k) × (c.loop-v.s + c.in-Verbatim.k ≤ length c.args.src.now) × (c.loop-v.v + c.in-Verbatim.k ≤ length c.args.value.now)
 verbatim_bounds c = (fair_here c.before.before.before.before.before.before).same c.loop-v.s c.loop-v.v c.in-Verbatim.k c.loop-v-test.true (is_verbatim c)
 
 -- the step is a replacement
-is_replacement : (c : goal.In-Replacement) → steps c.before.before.before.before.before.before c.loop-v.s c.loop-v.v ≡ Replacement c.in-Replacement.a c.in-Replacement.b
+is_replacement : (c : In-Replacement) → steps c.before.before.before.before.before.before c.loop-v.s c.loop-v.v ≡ Replacement c.in-Replacement.a c.in-Replacement.b
 is_replacement c = sym c.step_at-t.ensures ∙ c.in-Replacement.is
 
-replacement_bounds : (c : goal.In-Replacement)
+replacement_bounds : (c : In-Replacement)
     → (c.loop-v.v + c.in-Replacement.b ≤ length c.args.value.now + 2)
     × (((0 < c.in-Replacement.a) × (c.loop-v.s < length c.args.src.now) × (c.loop-v.s + c.in-Replacement.a ≤ length c.args.src.now + 4))
     ⊎ ((c.in-Replacement.a ≡ 0) × (c.loop-v.v + c.in-Replacement.b ≡ length c.args.value.now)))
 replacement_bounds c = (fair_here c.before.before.before.before.before.before).other c.loop-v.s c.loop-v.v c.in-Replacement.a c.in-Replacement.b c.loop-v-test.true (is_replacement c)
 
 -- and was written
-replaced : (c : goal.After-slice_known-in-Replacement-1)
+replaced : (c : After-slice_known-in-Replacement-1)
     → Going escapes_reach (steps c.before.before.before.before.before.before.before.before.before.before) (length c.args.src.now) (length c.args.value.now) c.args.base (length c.args.pieces.now) c.put_replacement-n.new.0
     (c.loop-v.s + c.in-Replacement.a) (c.loop-v.v + c.in-Replacement.b) (c.loop-v.s + c.in-Replacement.a) c.put_replacement-n.result
 replaced c =
@@ -93,7 +94,7 @@ pub overflow_add-v-in-Verbatim : goal.overflow_add-v-in-Verbatim
 overflow_add-v-in-Verbatim c = let b = c.letters-more.ensures.in_value in omega arith
 
 pub loop-v-smaller-in-Verbatim : goal.loop-v-smaller-in-Verbatim
-loop-v-smaller-in-Verbatim c = let b = verbatim_bounds c.before in let l = c.letters-more.ensures in let in_source = l.in_source in let in_value = l.in_value in omega arith
+loop-v-smaller-in-Verbatim c = let b = verbatim_bounds (goal.at.loop-v-smaller-in-Verbatim c).In-Verbatim in let l = c.letters-more.ensures in let in_source = l.in_source in let in_value = l.in_value in omega arith
 
 pub loop-v-preserved-in-Verbatim : goal.loop-v-preserved-in-Verbatim
 loop-v-preserved-in-Verbatim c =
@@ -101,9 +102,9 @@ loop-v-preserved-in-Verbatim c =
     let w = c.loop-v in
     let k = c.in-Verbatim.k in
     let l = c.letters-more.ensures in
-    let g = on_verbatim _ _ _ _ _ _ (fair_here c.before.before.before.before.before.before.before) _ w.s w.v w.from w.n w.invariant.0 c.loop-v-test.true k (is_verbatim c.before) in (
-      on_letters _ _ _ _ _ _ (fair_here c.before.before.before.before.before.before.before) _ (w.s + k) (w.v + k) w.from w.n c.letters-more.result g l.in_value (letters-steps a.style a.column a.src.now a.value.now (w.s + k) (w.v + k) c.letters-more.result l.letters),
-      clear_on a.src.now w.s (w.s + k + c.letters-more.result) c.known_after-known.result (omega arith) (clear_here c.before.before.before.before.before),
+    let g = on_verbatim _ _ _ _ _ _ (fair_here (goal.at.loop-v-preserved-in-Verbatim c).In-loop-v) _ w.s w.v w.from w.n w.invariant.0 c.loop-v-test.true k (is_verbatim (goal.at.loop-v-preserved-in-Verbatim c).In-Verbatim) in (
+      on_letters _ _ _ _ _ _ (fair_here (goal.at.loop-v-preserved-in-Verbatim c).In-loop-v) _ (w.s + k) (w.v + k) w.from w.n c.letters-more.result g l.in_value (letters-steps a.style a.column a.src.now a.value.now (w.s + k) (w.v + k) c.letters-more.result l.letters),
+      clear_on a.src.now w.s (w.s + k + c.letters-more.result) c.known_after-known.result (omega arith) (clear_here (goal.at.loop-v-preserved-in-Verbatim c).After-known_after-known),
     )
 
 pub put_replacement-n-requires : goal.put_replacement-n-requires
@@ -114,7 +115,7 @@ put_replacement-n-requires c =
     let in_source = g.in_source in
     let in_run = g.in_run in
     let few = g.fewer c.loop-v-test.true in
-    let b = replacement_bounds c.before in
+    let b = replacement_bounds (goal.at.put_replacement-n-requires c).In-Replacement in
     (omega arith, omega arith, omega arith, ⊎_elim (λ z. omega arith) (λ z. omega arith) b.1, omega arith)
 
 pub overflow_add-s-in-Replacement : goal.overflow_add-s-in-Replacement
@@ -126,12 +127,12 @@ overflow_add-v-in-Replacement c = let limit = c.requires.src_len_bound.1 in let 
 pub loop-v-smaller : goal.loop-v-smaller
 loop-v-smaller c =
     let more = c.loop-v-test.true in
-    ⊎_elim (λ z. omega arith) (λ z. omega arith) (replacement_bounds c.before.before.before.before).1
+    ⊎_elim (λ z. omega arith) (λ z. omega arith) (replacement_bounds (goal.at.loop-v-smaller c).In-Replacement).1
 
 pub loop-v-preserved : goal.loop-v-preserved
 loop-v-preserved c =
     let w = c.loop-v in
-    (replaced c, clear_on c.args.src.now w.s (w.s + c.in-Replacement.a) c.known_after-known.result (omega arith) (clear_here c.before.before.before.before.before.before.before.before))
+    (replaced c, clear_on c.args.src.now w.s (w.s + c.in-Replacement.a) c.known_after-known.result (omega arith) (clear_here (goal.at.loop-v-preserved c).After-known_after-known))
 
 pub shape_of-pieces-in-NoStep : goal.shape_of-pieces-in-NoStep
 shape_of-pieces-in-NoStep c = c.clear_pieces.auto.0 ∙ c.loop-v.invariant.0.held.size

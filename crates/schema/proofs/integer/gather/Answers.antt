@@ -12,6 +12,7 @@ use Rattle.schema.specs.Integer.{positional, held}
 use Rattle.schema.proofs.Below.{Neg, neg, back, cast, times_by, quot, less, more, fits, under, not_under, held_neg, beyond_neg}
 use Rattle.schema.proofs.Digits.{one_more_lem, no_more, beyond}
 use Rattle.schema.proofs.integer.gather.Goals as goal
+use Rattle.schema.proofs.integer.gather.Goals.{After-digit_value-digit, Else-shifted-digit, Else-sum-least}
 
 -- ---- the base, and the least number that a digit may follow
 module _ (base : ℕ) (small : base < 256) where
@@ -31,7 +32,7 @@ pub loop-i-init : goal.loop-i-init
 loop-i-init c = (0, neg 0, omega arith, refl)
 
 -- ---- a turn
-module _ (c : goal.After-digit_value-digit) where
+module _ (c : After-digit_value-digit) where
   abbrev m : ℕ
   m = c.loop-i.invariant.0
 
@@ -62,10 +63,10 @@ module _ (c : goal.After-digit_value-digit) where
 pub returns-then-sum-least : goal.returns-then-sum-least
 returns-then-sum-least c =
     let v = c.loop-i.invariant in
-    let h = (div-lt_iff_lt-mul c.requires).0 (under v.1 (back (least_fits (base c.before) (omega arith)) (least (base c.before) (omega arith))) c.if-sum-least.true) in
-    beyond_neg _ (past c.before (omega (arith, h)))
+    let h = (div-lt_iff_lt-mul c.requires).0 (under v.1 (back (least_fits (base (goal.at.returns-then-sum-least c).After-digit_value-digit) (omega arith)) (least (base (goal.at.returns-then-sum-least c).After-digit_value-digit) (omega arith))) c.if-sum-least.true) in
+    beyond_neg _ (past (goal.at.returns-then-sum-least c).After-digit_value-digit (omega (arith, h)))
 
-module _ (c : goal.Else-sum-least) where
+module _ (c : Else-sum-least) where
   small : m c.before * base c.before ≤ 2 ^ 63
   small =
       (le-div_iff_mul-le c.requires).0
@@ -78,14 +79,14 @@ pub overflow_mul-shifted : goal.overflow_mul-shifted
 overflow_mul-shifted c = fits (product c) (small c)
 
 pub overflow_add-digit : goal.overflow_add-digit
-overflow_add-digit c = bound_fits c.before
+overflow_add-digit c = bound_fits (goal.at.overflow_add-digit c).After-digit_value-digit
 
 pub returns-then-shifted-digit : goal.returns-then-shifted-digit
 returns-then-shifted-digit c =
-    let h = under (back (overflow_mul-shifted c.before) (product c.before)) (back (bound_fits c.before.before) (bound c.before.before)) c.if-shifted-digit.true in
-    beyond_neg _ (past c.before.before (omega (arith, h)))
+    let h = under (back (overflow_mul-shifted (goal.at.returns-then-shifted-digit c).Else-sum-least) (product (goal.at.returns-then-shifted-digit c).Else-sum-least)) (back (bound_fits (goal.at.returns-then-shifted-digit c).After-digit_value-digit) (bound (goal.at.returns-then-shifted-digit c).After-digit_value-digit)) c.if-shifted-digit.true in
+    beyond_neg _ (past (goal.at.returns-then-shifted-digit c).After-digit_value-digit (omega (arith, h)))
 
-module _ (c : goal.Else-shifted-digit) where
+module _ (c : Else-shifted-digit) where
   room : m c.before.before * base c.before.before + d c.before.before ≤ 2 ^ 63
   room =
       let h = not_under (back (overflow_mul-shifted c.before) (product c.before)) (back (bound_fits c.before.before) (bound c.before.before)) c.if-shifted-digit.false in
@@ -105,8 +106,8 @@ loop-i-preserved c =
       _,
       back (overflow_sub-sum c) (more_digits c),
       room c,
-      ap (λ (x : ℕ). positional (base c.before.before) (m c.before.before * base c.before.before + x) (drop (i + 1) s)) c.digit_value-digit.ensures
-          ∙ sym (one_more_lem (base c.before.before) (m c.before.before) s i c.loop-i-test.true)
+      ap (λ (x : ℕ). positional (base (goal.at.loop-i-preserved c).After-digit_value-digit) (m (goal.at.loop-i-preserved c).After-digit_value-digit * base (goal.at.loop-i-preserved c).After-digit_value-digit + x) (drop (i + 1) s)) c.digit_value-digit.ensures
+          ∙ sym (one_more_lem (base (goal.at.loop-i-preserved c).After-digit_value-digit) (m (goal.at.loop-i-preserved c).After-digit_value-digit) s i c.loop-i-test.true)
           ∙ v.3,
     )
 

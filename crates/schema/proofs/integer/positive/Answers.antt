@@ -11,12 +11,13 @@ use mir.Facts.{to_z-of_z}
 use Rattle.schema.specs.Integer.{value_of}
 use Rattle.schema.proofs.Below.{Neg, back, fits, negated, pos_fits, held_pos, beyond_pos, value_neg, nothing_neg, lowest, not_lowest}
 use Rattle.schema.proofs.integer.positive.Goals as goal
+use Rattle.schema.proofs.integer.positive.Goals.{In-Value}
 
 pub returns-in_default : goal.returns-in_default
 returns-in_default c = beyond_pos _ (le_of_lt (nothing_neg _ (sym c.in_default.is ∙ c.gather-gathered.ensures)))
 
 -- what was gathered
-module _ (c : goal.In-Value) where
+module _ (c : In-Value) where
   abbrev written : ℕ
   written =
       value_of c.args.base
@@ -29,12 +30,12 @@ module _ (c : goal.In-Value) where
   sum_back = back (fits sum.0 sum.1) sum.0
 
 pub returns-then-n : goal.returns-then-n
-returns-then-n c = beyond_pos _ (lowest (sum c.before).0 (sum c.before).1 c.if-n.true)
+returns-then-n c = beyond_pos _ (lowest (sum (goal.at.returns-then-n c).In-Value).0 (sum (goal.at.returns-then-n c).In-Value).1 c.if-n.true)
 
 pub overflow_sub-result : goal.overflow_sub-result
-overflow_sub-result c = pos_fits (negated (sum_back c.before)) (not_lowest (sum c.before).0 (sum c.before).1 c.if-n.false)
+overflow_sub-result c = pos_fits (negated (sum_back (goal.at.overflow_sub-result c).In-Value)) (not_lowest (sum (goal.at.overflow_sub-result c).In-Value).0 (sum (goal.at.overflow_sub-result c).In-Value).1 c.if-n.false)
 
 pub returns : goal.returns
 returns c =
-    held_pos (to_z-of_z (overflow_sub-result c) ∙ negated (sum_back c.before))
-    (not_lowest (sum c.before).0 (sum c.before).1 c.if-n.false)
+    held_pos (to_z-of_z (overflow_sub-result c) ∙ negated (sum_back (goal.at.returns c).In-Value))
+    (not_lowest (sum (goal.at.returns c).In-Value).0 (sum (goal.at.returns c).In-Value).1 c.if-n.false)

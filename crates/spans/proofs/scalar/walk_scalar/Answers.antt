@@ -17,13 +17,14 @@ use Rattle.spans.specs.Scalar.{ScalarAt, scalar_from, span_measure, scalar_over,
 use Rattle.spans.specs.Fits.{scalar_entry}
 use Rattle.spans.specs.SpanLaws.{span_within, span_from, list_from_lem, rest_is, rest_utf8}
 use Rattle.spans.proofs.scalar.walk_scalar.Goals as goal
+use Rattle.spans.proofs.scalar.walk_scalar.Goals.{After-scalar_len-span, Start}
 
 pub scalar_len-span-requires : goal.scalar_len-span-requires
 scalar_len-span-requires c =
     record { utf8 = rest_utf8 c.args.text.now c.args.start c.requires.admitted_text.0.utf8 c.requires.boundary; utf8_2 = c.requires.admitted_text.1.utf8 }
 
 -- the scalar was measured
-module _ (c : goal.After-scalar_len-span) where
+module _ (c : After-scalar_len-span) where
   abbrev text_now : List ℕ
   text_now = c.args.text.now
 
@@ -59,7 +60,7 @@ scalar_node-node-requires c =
 pub scalar_provenance-walked-requires : goal.scalar_provenance-walked-requires
 scalar_provenance-walked-requires c =
     let given = c.requires in
-    record { text_len_bound = (given.0.0.within, given.0.1.within, ends_within c.before.before.before, search rules); pieces_value = given.1.1 }
+    record { text_len_bound = (given.0.0.within, given.0.1.within, ends_within (goal.at.scalar_provenance-walked-requires c).After-scalar_len-span, search rules); pieces_value = given.1.1 }
 
 -- record, flag and walk are those of the definitions
 entry_is : (most : ℕ) (text : List ℕ) (x : ScalarAt) (tag : TagInfo) (r : Resolved) (k : Measure) (y : Node) (w : Walked)
@@ -71,8 +72,8 @@ pub returns : goal.returns
 returns c =
     let a = c.args in
     let w = c.scalar_provenance-walked in
-    let l = list_is c.before.before.before.before.before.before in (
-      entry_is _ a.text.now (scalar_now c.before.before.before.before.before.before) a.tag a.resolved c.scalar_len-span.result _ w.result (measure_is c.before.before.before.before.before.before)
+    let l = list_is (goal.at.returns c).After-scalar_len-span in (
+      entry_is _ a.text.now (scalar_now (goal.at.returns c).After-scalar_len-span) a.tag a.resolved c.scalar_len-span.result _ w.result (measure_is (goal.at.returns c).After-scalar_len-span)
           c.scalar_node-node.ensures (w.ensures.value ∙ ap (answer_of _) (sym l)),
       rw l w.ensures.pieces_after,
     )

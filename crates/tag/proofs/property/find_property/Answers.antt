@@ -3,17 +3,18 @@ use native.Mathlib.Omega.{arith}
 use Rattle.tag.proofs.TokenLaws.{LastToken, end_boundary, last_token}
 use Rattle.tag.proofs.Turn.{Searching, Turn, turn, tag_fits, tag_found, none_found, anchor_less, anchor_passed}
 use Rattle.tag.proofs.property.find_property.Goals as goal
+use Rattle.tag.proofs.property.find_property.Goals.{After-back_over-start, After-byte_at-mark}
 
 -- the token that was cut out, where both its ends are known
 token-at :
-    (c : goal.After-back_over-start)
+    (c : After-back_over-start)
     → LastToken c.args.text.now c.loop-node.before c.back_over-start.result c.back_over-end.result
 token-at c =
     last_token c.requires.utf8 c.loop-node.invariant.edge c.back_over-end.ensures c.back_over-start.ensures
 
 -- what it says, where its mark is known
 turn_at :
-    (c : goal.After-byte_at-mark)
+    (c : After-byte_at-mark)
     → let given = c.args in
     Turn given.text.now given.node c.loop-node.before c.back_over-start.result c.back_over-end.result
     c.opening_len-dropped.result c.byte_at-mark.result
@@ -42,16 +43,16 @@ pub slice_bounds-token-end : goal.slice_bounds-token-end
 slice_bounds-token-end c = (token-at c).end.within
 
 pub overflow_add-result : goal.overflow_add-result
-overflow_add-result c = let fits = tag_fits (turn_at c.before) c.if-mark-eq33.true in omega arith
+overflow_add-result c = let fits = tag_fits (turn_at (goal.at.overflow_add-result c).After-byte_at-mark) c.if-mark-eq33.true in omega arith
 
 pub returns-then-mark-eq33 : goal.returns-then-mark-eq33
-returns-then-mark-eq33 c = tag_found (turn_at c.before) c.if-mark-eq33.true
+returns-then-mark-eq33 c = tag_found (turn_at (goal.at.returns-then-mark-eq33 c).After-byte_at-mark) c.if-mark-eq33.true
 
 pub returns-then-mark-ne38 : goal.returns-then-mark-ne38
-returns-then-mark-ne38 c = none_found (turn_at c.before.before) c.if-mark-eq33.false c.if-mark-ne38.true
+returns-then-mark-ne38 c = none_found (turn_at (goal.at.returns-then-mark-ne38 c).After-byte_at-mark) c.if-mark-eq33.false c.if-mark-ne38.true
 
 pub loop-node-smaller : goal.loop-node-smaller
-loop-node-smaller c = anchor_less (turn_at c.before.before) c.if-mark-ne38.false
+loop-node-smaller c = anchor_less (turn_at (goal.at.loop-node-smaller c).After-byte_at-mark) c.if-mark-ne38.false
 
 pub loop-node-preserved : goal.loop-node-preserved
-loop-node-preserved c = anchor_passed (turn_at c.before.before) c.if-mark-ne38.false
+loop-node-preserved c = anchor_passed (turn_at (goal.at.loop-node-preserved c).After-byte_at-mark) c.if-mark-ne38.false
