@@ -9,11 +9,11 @@ use Rattle.replay.proofs.case.bytes_at.Goals as goal
 
 pub returns-then-s-at : goal.returns-then-s-at
 unfolding part_of
-returns-then-s-at c = rw (lt-leb _ _ c.if1.true)
+returns-then-s-at c = rw (lt-leb _ _ c.if-s-at.true)
 
 pub returns-then-s-at-2 : goal.returns-then-s-at-2
 unfolding part_of
-returns-then-s-at-2 c = rw (le-leb _ _ c.if1.false, lt-leb _ _ c.if-s-at.true)
+returns-then-s-at-2 c = rw (le-leb _ _ c.if-s-at.false, lt-leb _ _ c.if-s-at-2.true)
 
 pub returns : goal.returns
 unfolding part_of
