@@ -30,9 +30,6 @@ loop-i-preserved c =
 pub returns : goal.returns
 returns c = c.loop-i.invariant
 
-pub overflow_add-t-5 : goal.overflow_add-t-5
-overflow_add-t-5 c = omega arith
-
 pub overflow_sub-src : goal.overflow_sub-src
 overflow_sub-src c = c.loop-i.invariant.in_source
 
