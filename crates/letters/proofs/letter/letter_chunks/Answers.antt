@@ -1,8 +1,6 @@
 use mathlib.Core.Path.{◌≡◌, subst}
-use Prim.Native.Nat.{◌-◌}
 use native.Mathlib.Omega.{arith}
-use lib.ListN.{length}
-use Rattle.letters.specs.Letters.{MoreLetters, LetterRun}
+use Rattle.letters.specs.Letters.{MoreLetters}
 use Rattle.letters.proofs.Letters.{no_letters, run_more}
 use Rattle.letters.proofs.letter.letter_chunks.Goals as goal
 

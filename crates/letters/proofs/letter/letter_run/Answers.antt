@@ -1,9 +1,8 @@
 use mathlib.Core.Path.{subst}
-use Prim.Native.Nat.{ℕ, ◌+◌, ◌-◌}
+use Prim.Native.Nat.{ℕ, ◌+◌}
 use native.Mathlib.Omega.{arith}
-use borrow.Author.Tests.{not-false}
-use lib.ListN.{length, get_or}
-use Rattle.letters.specs.Letters.{LetterByte, LetterRun}
+use lib.ListN.{get_or}
+use Rattle.letters.specs.Letters.{LetterByte}
 use Rattle.letters.proofs.Letters.{letter_more}
 use Rattle.letters.proofs.letter.letter_run.Goals as goal
 
