@@ -1,5 +1,4 @@
 -- `letters::letter::letter_run` meets its contract. The loop's invariant: the bytes passed are letters. The measure is what is left of the value.
---
 use Prim.Native.Nat.{◌-◌}
 use lib.ListN.{length}
 use Rattle.letters.specs.Letters.{LetterRun}

@@ -1,5 +1,4 @@
 -- `text::offset::moved_to` meets its contract: in ASCII an index is its own offset, else the cursor moves there.
---
 use mathlib.Core.Path.{◌≡◌, sym, ◌∙◌}
 use Prim.Native.Nat.{min}
 use native.Mathlib.Omega.{arith}

@@ -1,5 +1,4 @@
 -- `text::offset::next_boundary` meets its contract. The loop's invariant: no character begins on the way. The measure is what is left.
---
 use mathlib.Core.Path.{◌≡◌}
 use Prim.Native.Nat.{◌-◌, ◌≤◌}
 use lib.ListN.{length, take}
