@@ -20,7 +20,7 @@ use Rattle.schema.proofs.integer.gather.Given as goal
 abbrev pub invariant-loop-i : goal.invariant-loop-i
 invariant-loop-i l =
     (m : ℕ)
-    × Neg (to_z w64 l.sum) m
+    × Neg l.sum m
     × (m ≤ 2 ^ 63)
     × (positional l.base m (drop l.i l.value) ≡ positional l.base 0 (drop l.from l.value))
 
