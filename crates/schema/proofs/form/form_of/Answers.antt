@@ -6,5 +6,5 @@ use Rattle.schema.proofs.form.form_of.Goals as goal
 
 pub returns-then-begins_no_row : goal.returns-then-begins_no_row
 returns-then-begins_no_row c =
-    letter_stops _ c.if-value-gt0.true (λ k. (c.shared_slice_known-then-value-gt0-1.given k).fits)
+    letter_stops _ c.if-value-gt0.true (λ k. (c.type_inv.value k).fits)
     (sym c.begins_no_row.ensures ∙ c.if-begins_no_row.true)

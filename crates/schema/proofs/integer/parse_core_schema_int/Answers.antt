@@ -12,4 +12,4 @@ returns c =
     let s = c.args.value.now in
     c.integer_of.ensures
     ∙ ap (λ (f : Form). integer_of f s) c.form_of.ensures
-    ∙ sym (core_integer_lem s (λ k. (c.shared_slice_known-1.given k).fits))
+    ∙ sym (core_integer_lem s (λ k. (c.type_inv.value k).fits))

@@ -9,4 +9,4 @@ pub returns : goal.returns
 returns c =
     c.real_form.ensures
     ∙ ap real_form c.form_of.ensures
-    ∙ sym (core_real_lem _ (λ k. (c.shared_slice_known-1.given k).fits))
+    ∙ sym (core_real_lem _ (λ k. (c.type_inv.value k).fits))
