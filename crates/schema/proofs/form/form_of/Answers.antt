@@ -1,7 +1,6 @@
 -- `schema::form::form_of` meets its contract: after a letter that no row begins with, the automaton awaits nothing.
 use mathlib.Core.Path.{sym, ◌∙◌}
 use Rattle.schema.proofs.Flags.{letter_stops}
-use borrow.Author.Rules.{rules}
 use Rattle.schema.proofs.form.form_of.Goals as goal
 
 pub returns-then-begins_no_row : goal.returns-then-begins_no_row

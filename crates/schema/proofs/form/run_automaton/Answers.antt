@@ -51,10 +51,11 @@ returns-then-state-eq-DEAD c =
     c.loop-i-test.true (c.type_inv.value c.loop-i.i).fits c.loop-i.invariant.0 c.loop-i.invariant.1 c.if-state-eq-DEAD.true)
 
 pub loop-i-preserved : goal.loop-i-preserved
-loop-i-preserved c =
-    (c.requires.state_low _ _ c.loop-i.invariant.0 (c.type_inv.value c.loop-i.i).fits,
-    follows c.args.symbols.now c.args.next.now c.args.forms.now c.args.value.now c.loop-i.i c.loop-i.state _ c.requires
-    c.loop-i-test.true (c.type_inv.value c.loop-i.i).fits c.loop-i.invariant.0 c.loop-i.invariant.1 refl)
+loop-i-preserved c = (
+  c.requires.state_low _ _ c.loop-i.invariant.0 (c.type_inv.value c.loop-i.i).fits,
+  follows c.args.symbols.now c.args.next.now c.args.forms.now c.args.value.now c.loop-i.i c.loop-i.state _ c.requires
+      c.loop-i-test.true (c.type_inv.value c.loop-i.i).fits c.loop-i.invariant.0 c.loop-i.invariant.1 refl,
+)
 
 pub bounds-forms-state : goal.bounds-forms-state
 bounds-forms-state c = rw c.requires.form_count c.loop-i.invariant.0

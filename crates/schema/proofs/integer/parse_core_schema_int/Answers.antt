@@ -1,6 +1,5 @@
 -- `schema::integer::parse_core_schema_int` meets its contract: a scalar has one integer form at most, so the first form
 -- that it has decides.
-use borrow.Author.Rules.{rules}
 use mathlib.Core.Path.{◌∙◌, ap, sym}
 use Rattle.schema.specs.Form.{integer_of}
 use Rattle.schema.specs.declared.form.Form.{Form}

@@ -1,5 +1,4 @@
 -- `schema::plain::is_yaml_float` meets its contract: of the forms, a digit run and the three real rows are reals.
-use borrow.Author.Rules.{rules}
 use mathlib.Core.Path.{◌∙◌, ap, sym}
 use Rattle.schema.specs.Form.{real_form}
 use Rattle.schema.proofs.Forms.{core_real_lem}

@@ -1,9 +1,9 @@
 -- `schema::tag::resolve_tagged_scalar` meets its contract: the name is compared with the five in the definition's order.
 use mathlib.Core.Path.{◌≡◌, ◌∙◌, ap, sym}
-use mathlib.Core.Bool.{Bool, true, false, cond}
+use mathlib.Core.Bool.{Bool, true, cond}
 use mathlib.Core.List.{List}
 use Prim.Native.Nat.{ℕ}
-use Rattle.utf8.specs.Ascii.{bytes, same_bytes}
+use Rattle.utf8.specs.Ascii.{same_bytes}
 use Rattle.schema.specs.CoreSchema.{integer_or}
 use Rattle.schema.specs.Form.{of_kind}
 use Rattle.schema.specs.declared.integer.Parsed.{Parsed}
