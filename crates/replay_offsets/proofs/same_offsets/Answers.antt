@@ -2,7 +2,7 @@ use Prim.Native.Nat.{◌+◌, ◌-◌, ◌≤◌}
 use native.Mathlib.Omega.{arith}
 use lib.ListN.{length}
 use Rattle.text.specs.Offset.{Stands}
-use Rattle.text.specs.OffsetLaws.{stands_start, cursor_stands}
+use Rattle.text.proofs.OffsetLaws.{stands_start, cursor_stands}
 use Rattle.replay_offsets.proofs.same_offsets.Goals as goal
 
 pub byte_offset_of_char-cursor-requires : goal.byte_offset_of_char-cursor-requires
