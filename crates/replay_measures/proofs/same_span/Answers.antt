@@ -1,7 +1,6 @@
 -- `replay_measures::same_span` is safe: a scalar is measured only where both texts are UTF-8.
 use mathlib.Core.Path.{sym, ◌∙◌}
 use Rattle.utf8.proofs.Utf8Laws.{utf8_sound}
-use borrow.Author.Rules.{rules}
 use Rattle.replay_measures.proofs.same_span.Goals as goal
 
 pub scalar_len-len-requires : goal.scalar_len-len-requires

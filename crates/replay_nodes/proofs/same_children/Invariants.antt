@@ -1,6 +1,5 @@
 -- `replay_nodes::same_children` is safe and ends. The measure is how many children are left.
 use Prim.Native.Nat.{◌-◌}
-use native.Mathlib.Omega.{arith}
 use Rattle.replay_nodes.proofs.same_children.Given as goal
 
 abbrev pub invariant-loop-after : goal.invariant-loop-after

@@ -1,7 +1,4 @@
-use Prim.Native.Nat.{◌+◌, ◌-◌, ◌≤◌}
 use native.Mathlib.Omega.{arith}
-use lib.ListN.{length}
-use Rattle.text.specs.Offset.{Stands}
 use Rattle.text.proofs.OffsetLaws.{stands_start, cursor_stands}
 use Rattle.replay_offsets.proofs.same_offsets.Goals as goal
 

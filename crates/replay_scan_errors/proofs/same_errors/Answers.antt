@@ -1,5 +1,3 @@
-use Prim.Native.Nat.{◌-◌}
-use lib.ListN.{length}
 use native.Mathlib.Omega.{arith}
 use Rattle.replay_scan_errors.proofs.same_errors.Goals as goal
 

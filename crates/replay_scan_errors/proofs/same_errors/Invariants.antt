@@ -1,7 +1,6 @@
 -- `replay_scan_errors::same_errors` is safe and ends. The measure is what is left of the indices.
 use Prim.Native.Nat.{◌-◌}
 use lib.ListN.{length}
-use native.Mathlib.Omega.{arith}
 use Rattle.replay_scan_errors.proofs.same_errors.Given as goal
 
 abbrev pub invariant-loop-at : goal.invariant-loop-at

@@ -1,6 +1,4 @@
-use Prim.Native.Nat.{◌-◌}
 use native.Mathlib.Omega.{arith}
-use lib.ListN.{length}
 use Rattle.replay_tags.proofs.same_tags.Goals as goal
 
 pub same_tag-requires : goal.same_tag-requires

@@ -1,6 +1,5 @@
 -- `replay_tags::same_tags` is safe and ends. The measure is what is left of the records.
 use Prim.Native.Nat.{◌-◌}
-use native.Mathlib.Omega.{arith}
 use lib.ListN.{length}
 use Rattle.replay_tags.proofs.same_tags.Given as goal
 

@@ -4,7 +4,6 @@ use Prim.Native.Nat.{◌+◌, ◌-◌}
 use native.Mathlib.Omega.{arith}
 use borrow.Author.Tests.{le-leb, lt-leb}
 use Rattle.replay.specs.Case.{part_of}
-use borrow.Author.Rules.{rules}
 use Rattle.replay.proofs.case.bytes_at.Goals as goal
 
 pub returns-then-s-at : goal.returns-then-s-at

@@ -1,6 +1,5 @@
 -- `replay::case::case_of` meets its contract: each number is read where the numbers before it say.
 use Rattle.replay.specs.Case.{layout}
-use borrow.Author.Rules.{rules}
 use Rattle.replay.proofs.case.case_of.Goals as goal
 
 pub returns : goal.returns

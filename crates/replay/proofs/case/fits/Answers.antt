@@ -1,6 +1,5 @@
 -- `replay::case::fits` meets its contract: the pieces are asked for where the records fit.
 use mathlib.Core.Path.{sym, ◌∙◌}
-use borrow.Author.Rules.{rules}
 use Rattle.replay.proofs.case.fits.Goals as goal
 
 pub returns-then-has_room : goal.returns-then-has_room

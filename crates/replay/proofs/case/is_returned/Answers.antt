@@ -1,6 +1,5 @@
 -- `replay::case::is_returned` meets its contract: each return by the tests that lead to it.
 use borrow.Author.Tests.{eq-eqb, ne_eqb}
-use borrow.Author.Rules.{rules}
 use Rattle.replay.proofs.case.is_returned.Goals as goal
 
 pub returns-then-case-code : goal.returns-then-case-code

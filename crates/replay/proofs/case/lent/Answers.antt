@@ -3,7 +3,6 @@ use mathlib.Core.Path.{sym}
 use native.Mathlib.Omega.{arith}
 use lib.ListN.{length-take}
 use lib.Seq.{take_all}
-use borrow.Author.Rules.{rules}
 use Rattle.replay.proofs.case.lent.Goals as goal
 
 pub returns-then-buffer-n : goal.returns-then-buffer-n

@@ -3,7 +3,6 @@ use Prim.Native.Nat.{◌+◌}
 use native.Mathlib.Omega.{arith}
 use lib.ListN.{get_or-eq_default}
 use Rattle.replay.specs.Case.{number}
-use borrow.Author.Rules.{rules}
 use Rattle.replay.proofs.case.number_at.Goals as goal
 
 pub returns-then-s-at : goal.returns-then-s-at

@@ -1,5 +1,4 @@
 -- `replay::stream::read_case` meets its contract: by those of its calls.
-use borrow.Author.Rules.{rules}
 use Rattle.replay.proofs.stream.read_case.Goals as goal
 
 pub returns : goal.returns

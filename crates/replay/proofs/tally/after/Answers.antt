@@ -1,5 +1,4 @@
 -- `replay::tally::after` meets its contract: by what was read.
-use borrow.Author.Rules.{rules}
 use Rattle.replay.specs.Tally.{after_of}
 use Rattle.replay.proofs.tally.after.Goals as goal
 

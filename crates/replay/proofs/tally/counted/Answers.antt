@@ -1,5 +1,4 @@
 -- `replay::tally::counted` meets its contract: verdict by verdict.
-use borrow.Author.Rules.{rules}
 use Rattle.replay.proofs.tally.counted.Goals as goal
 
 pub returns-in-Same : goal.returns-in-Same

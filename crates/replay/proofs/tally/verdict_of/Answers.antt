@@ -1,6 +1,5 @@
 -- `replay::tally::verdict_of` meets its contract: each return by the tests that lead to it.
 use borrow.Author.Tests.{eq-eqb, ne_eqb}
-use borrow.Author.Rules.{rules}
 use Rattle.replay.proofs.tally.verdict_of.Goals as goal
 
 pub returns-then-case-eq-PANICKED : goal.returns-then-case-eq-PANICKED

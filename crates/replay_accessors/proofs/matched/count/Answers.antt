@@ -1,5 +1,4 @@
 -- `replay_accessors::matched::count` meets its contract: case by case.
-use borrow.Author.Rules.{rules}
 use Rattle.replay_accessors.proofs.matched.count.Goals as goal
 
 pub returns-in-Is : goal.returns-in-Is

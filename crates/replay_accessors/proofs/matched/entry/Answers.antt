@@ -1,5 +1,4 @@
 -- `replay_accessors::matched::entry` meets its contract: case by case.
-use borrow.Author.Rules.{rules}
 use Rattle.replay_accessors.proofs.matched.entry.Goals as goal
 
 pub returns-in-Pair : goal.returns-in-Pair

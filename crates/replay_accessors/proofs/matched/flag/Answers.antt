@@ -1,5 +1,4 @@
 -- `replay_accessors::matched::flag` meets its contract: case by case.
-use borrow.Author.Rules.{rules}
 use Rattle.replay_accessors.proofs.matched.flag.Goals as goal
 
 pub returns-then-yes : goal.returns-then-yes

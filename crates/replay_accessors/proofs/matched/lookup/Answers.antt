@@ -1,5 +1,4 @@
 -- `replay_accessors::matched::lookup` meets its contract: case by case.
-use borrow.Author.Rules.{rules}
 use Rattle.replay_accessors.proofs.matched.lookup.Goals as goal
 
 pub returns-in-Record : goal.returns-in-Record

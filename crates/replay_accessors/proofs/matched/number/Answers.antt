@@ -1,6 +1,5 @@
 -- `replay_accessors::matched::number` meets its contract: by whether all was the same so far.
 use mathlib.Core.Path.{◌∙◌}
-use borrow.Author.Rules.{rules}
 use Rattle.replay_accessors.specs.Matched.{match_number}
 use Rattle.replay_accessors.proofs.matched.number.Goals as goal
 

@@ -1,7 +1,6 @@
 -- `replay_accessors::matched::number_at` meets its contract: each return by the tests that lead to it.
 use mathlib.Core.Path.{◌∙◌, sym}
 use borrow.Author.Tests.{lt-ltb, le-ltb, eq-eqb, ne_eqb}
-use borrow.Author.Rules.{rules}
 use Rattle.replay_accessors.specs.Matched.{match_at}
 use Rattle.replay_accessors.proofs.matched.number_at.Goals as goal
 

@@ -1,9 +1,8 @@
-use mathlib.Core.Path.{◌≡◌, refl, ap, ◌∙◌}
-use Prim.Native.Nat.{◌-◌, ◌≤◌, ◌<◌, zero-le}
+use mathlib.Core.Path.{refl, ap, ◌∙◌}
+use Prim.Native.Nat.{◌<◌, zero-le}
 use native.Mathlib.Omega.{arith}
-use lib.ListN.{length, take, get_or}
+use lib.ListN.{length, get_or}
 use lib.Seq.{take_all}
-use borrow.Author.Rules.{rules}
 use Rattle.replay_accessors.specs.Matched.{match_number, match_all}
 use Rattle.replay_accessors.specs.declared.matched.Matched.{Matched}
 use Rattle.replay_accessors.proofs.Matching.{one_more_lem}

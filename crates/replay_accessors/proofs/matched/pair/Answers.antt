@@ -1,5 +1,4 @@
 -- `replay_accessors::matched::pair` meets its contract: by those of its calls.
-use borrow.Author.Rules.{rules}
 use Rattle.replay_accessors.proofs.matched.pair.Goals as goal
 
 pub returns : goal.returns

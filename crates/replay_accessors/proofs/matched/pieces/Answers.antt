@@ -1,5 +1,4 @@
 -- `replay_accessors::matched::pieces` meets its contract: case by case.
-use borrow.Author.Rules.{rules}
 use Rattle.replay_accessors.proofs.matched.pieces.Goals as goal
 
 pub returns-in-Listed : goal.returns-in-Listed

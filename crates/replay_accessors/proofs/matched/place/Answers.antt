@@ -1,5 +1,4 @@
 -- `replay_accessors::matched::place` meets its contract: case by case.
-use borrow.Author.Rules.{rules}
 use Rattle.replay_accessors.proofs.matched.place.Goals as goal
 
 pub returns-in-At : goal.returns-in-At

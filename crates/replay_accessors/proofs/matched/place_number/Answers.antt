@@ -1,6 +1,5 @@
 -- `replay_accessors::matched::place_number` meets its contract: by the test.
 use borrow.Author.Tests.{lt-ltb, le-ltb}
-use borrow.Author.Rules.{rules}
 use Rattle.replay_accessors.proofs.matched.place_number.Goals as goal
 
 pub returns-then-n-lt4294967295 : goal.returns-then-n-lt4294967295

@@ -1,5 +1,4 @@
 -- `replay_accessors::matched::span` meets its contract: case by case.
-use borrow.Author.Rules.{rules}
 use Rattle.replay_accessors.proofs.matched.span.Goals as goal
 
 pub returns-in-Of : goal.returns-in-Of

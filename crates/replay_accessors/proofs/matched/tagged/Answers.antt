@@ -1,5 +1,4 @@
 -- `replay_accessors::matched::tagged` meets its contract: case by case.
-use borrow.Author.Rules.{rules}
 use Rattle.replay_accessors.proofs.matched.tagged.Goals as goal
 
 pub returns-in-With : goal.returns-in-With

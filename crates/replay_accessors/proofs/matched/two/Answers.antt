@@ -1,5 +1,4 @@
 -- `replay_accessors::matched::two` meets its contract: by those of its calls.
-use borrow.Author.Rules.{rules}
 use Rattle.replay_accessors.proofs.matched.two.Goals as goal
 
 pub returns : goal.returns

@@ -1,7 +1,6 @@
 -- `replay_accessors::questions::about` meets its contract.
 use mathlib.Core.Path.{sym, ◌∙◌}
 use Rattle.replay_accessors.specs.Questions.{about_record}
-use borrow.Author.Rules.{rules}
 use Rattle.replay_accessors.proofs.questions.about.Goals as goal
 
 pub returns-then-is_hash_there : goal.returns-then-is_hash_there

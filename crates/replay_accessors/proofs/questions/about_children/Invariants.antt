@@ -1,8 +1,6 @@
 -- `replay_accessors::questions::about_children` meets its contract. The loop's invariant: the index past the last one and `back` before it were asked. The measure is what is left.
-use mathlib.Core.Path.{◌≡◌, refl, ap}
-use Prim.Native.Nat.{◌-◌, ◌≤◌, min}
-use native.Mathlib.Numerals.{add-one}
-use native.Mathlib.Omega.{arith}
+use mathlib.Core.Path.{◌≡◌}
+use Prim.Native.Nat.{◌-◌, ◌≤◌}
 use Rattle.replay_accessors.specs.Questions.{from_last}
 use Rattle.replay_accessors.proofs.questions.about_children.Given as goal
 

@@ -7,7 +7,6 @@ use Rattle.replay_accessors.specs.Matched.{match_all, record_numbers, match_plac
 use Rattle.replay_accessors.specs.Questions.{kind_numbers, source_numbers}
 use Rattle.replay_accessors.specs.declared.matched.Matched.{Matched}
 use Rattle.replay_accessors.proofs.Matching.{in_turn}
-use borrow.Author.Rules.{rules}
 use Rattle.replay_accessors.proofs.questions.about_itself.Goals as goal
 
 pub returns : goal.returns

@@ -1,5 +1,4 @@
 -- `replay_accessors::questions::about_key` meets its contract.
-use borrow.Author.Rules.{rules}
 use borrow.Author.Tests.{lt-ltb, le-ltb}
 use lib.ListN.{length}
 use Rattle.replay_accessors.specs.Questions.{about_key}

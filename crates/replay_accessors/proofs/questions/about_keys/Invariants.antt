@@ -1,7 +1,6 @@
 -- `replay_accessors::questions::about_keys` meets its contract. The loop's invariant: the keys before `at` were asked. The measure is what is left.
-use mathlib.Core.Path.{◌≡◌, refl}
-use Prim.Native.Nat.{suc, ◌+◌, ◌-◌, ◌*◌, ◌/◌, ◌≤◌}
-use native.Mathlib.Omega.{arith}
+use mathlib.Core.Path.{◌≡◌}
+use Prim.Native.Nat.{◌+◌, ◌-◌, ◌*◌, ◌/◌, ◌≤◌}
 use lib.ListN.{length}
 use Rattle.replay_accessors.specs.Questions.{first_keys}
 use Rattle.replay_accessors.proofs.questions.about_keys.Given as goal

@@ -4,7 +4,6 @@ use mathlib.Core.List.{◌++◌}
 use Rattle.node.specs.Kind.{is_scalar_at, is_array_at, is_hash_at, len_at, is_empty_at}
 use Rattle.replay_accessors.specs.Matched.{match_all, flag_numbers, count_numbers}
 use Rattle.replay_accessors.proofs.Matching.{in_turn}
-use borrow.Author.Rules.{rules}
 use Rattle.replay_accessors.proofs.questions.about_kind.Goals as goal
 
 pub returns : goal.returns

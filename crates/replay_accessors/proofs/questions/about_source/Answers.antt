@@ -4,7 +4,6 @@ use mathlib.Core.List.{◌++◌}
 use Rattle.node.specs.Source.{span_at, tag_of, piece_list_at}
 use Rattle.replay_accessors.specs.Matched.{match_all, span_numbers, tag_numbers, piece_numbers}
 use Rattle.replay_accessors.proofs.Matching.{in_turn}
-use borrow.Author.Rules.{rules}
 use Rattle.replay_accessors.proofs.questions.about_source.Goals as goal
 
 pub returns : goal.returns

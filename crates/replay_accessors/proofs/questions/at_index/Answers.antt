@@ -1,5 +1,4 @@
 -- `replay_accessors::questions::at_index` meets its contract: by those of its calls.
-use borrow.Author.Rules.{rules}
 use Rattle.replay_accessors.proofs.questions.at_index.Goals as goal
 
 pub returns : goal.returns

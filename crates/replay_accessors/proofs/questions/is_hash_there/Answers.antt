@@ -2,7 +2,6 @@
 use mathlib.Core.Path.{sym, ap, ◌∙◌}
 use Rattle.node.specs.Kind.{flag_in}
 use Rattle.replay_accessors.specs.Matched.{is_yes}
-use borrow.Author.Rules.{rules}
 use Rattle.replay_accessors.proofs.questions.is_hash_there.Goals as goal
 
 pub returns-in_default : goal.returns-in_default

@@ -2,7 +2,6 @@
 use mathlib.Core.Path.{sym, ap, ◌∙◌}
 use Rattle.node.specs.Kind.{count_in}
 use Rattle.replay_accessors.specs.Matched.{or_zero}
-use borrow.Author.Rules.{rules}
 use Rattle.replay_accessors.proofs.questions.len_or_zero.Goals as goal
 
 pub returns-in_default : goal.returns-in_default
