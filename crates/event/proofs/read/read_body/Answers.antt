@@ -1,7 +1,6 @@
 -- `event::read::read_body` meets its contract: the tests of the tag byte, in the definition's order.
 use mathlib.Core.Path.{sym, ◌∙◌}
 use borrow.Author.Tests.{ne_eqb, lt-ltb, le-ltb}
-use borrow.Author.Rules.{rules}
 use Rattle.event.specs.Read.{read_body}
 use Rattle.event.proofs.read.read_body.Goals as goal
 

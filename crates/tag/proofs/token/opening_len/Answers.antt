@@ -15,7 +15,7 @@ bounds-token-i c = omega arith
 
 pub returns-then-not-is_opening : goal.returns-then-not-is_opening
 returns-then-not-is_opening c =
-    let byte = sym c.is_opening.ensures ∙ not-true _ c.if-not-is_opening.true in
+    let byte = sym c.is_opening.ensures ∙ c.if-not-is_opening.true in
     let here = openings_here c.args.token.now c.loop-i.i c.loop-i-test.true byte in
     let inv = c.loop-i.invariant.1 in
     omega arith
@@ -28,7 +28,7 @@ loop-i-smaller c = omega arith
 
 pub loop-i-preserved : goal.loop-i-preserved
 loop-i-preserved c =
-    let byte = sym c.is_opening.ensures ∙ not-false _ c.if-not-is_opening.false in
+    let byte = sym c.is_opening.ensures ∙ c.if-not-is_opening.false in
     let on = openings_on c.args.token.now c.loop-i.i c.loop-i-test.true byte in
     let inv = c.loop-i.invariant.1 in
     (omega arith, omega arith)
