@@ -4,7 +4,8 @@ use Prim.Native.Nat.{◌+◌, ◌≤◌}
 use native.Mathlib.Omega.{arith}
 use lib.ListN.{get_or}
 use Rattle.event.specs.Read.{with_handle, with_suffix, read_string, read_tag}
-use Rattle.event.proofs.ReadCases.{tag_cut, tag_absent, tag_present, tag_with_suffix, tag_flag_unknown, string_ended}
+use Rattle.event.proofs.ReadCases.{tag_cut, tag_absent, tag_present, tag_with_suffix, tag_flag_unknown}
+use Rattle.event.proofs.ReadEnds.{string_ended}
 use Rattle.event.proofs.tag.tag_at.Goals as goal
 use Rattle.event.proofs.tag.tag_at.Goals.{In-Valid}
 
