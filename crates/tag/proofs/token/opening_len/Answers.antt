@@ -1,9 +1,5 @@
-use mathlib.Core.Path.{◌≡◌, sym, ◌∙◌}
-use Prim.Native.Nat.{◌+◌, ◌-◌, ◌≤◌}
+use mathlib.Core.Path.{sym, ◌∙◌}
 use native.Mathlib.Omega.{arith}
-use borrow.Author.Tests.{not-true, not-false}
-use lib.ListN.{length, drop}
-use Rattle.tag.specs.Tag.{openings}
 use Rattle.tag.proofs.Openings.{openings_here, openings_on, openings_end}
 use Rattle.tag.proofs.token.opening_len.Goals as goal
 
