@@ -1,7 +1,6 @@
 -- `provenance::escape::digits_content` meets its contract. The loop's invariant: the digits left, behind the number so far, have the
 -- content of them all. The measure is what is left.
 use mathlib.Core.Path.{◌≡◌, sym, ap, ◌∙◌}
-use borrow.Author.Tests.{not-true, not-false}
 use Prim.Native.Nat.{ℕ, ◌+◌, ◌-◌, ◌*◌, ◌≤◌, ◌<◌}
 use lib.ListN.{length, drop, get_or}
 use native.Mathlib.Omega.{arith}

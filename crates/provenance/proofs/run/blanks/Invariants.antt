@@ -1,7 +1,6 @@
 -- `provenance::run::blanks` meets its contract. The loop's invariant: the blanks passed and those that follow are all. The measure is
 -- what is left.
 use mathlib.Core.Path.{◌≡◌, sym, ◌∙◌}
-use borrow.Author.Tests.{not-true, not-false}
 use Prim.Native.Nat.{◌+◌, ◌-◌, ◌≤◌}
 use lib.ListN.{length, drop}
 use native.Mathlib.Omega.{arith}

@@ -1,5 +1,4 @@
 use mathlib.Core.Path.{◌≡◌, sym, ◌∙◌}
-use borrow.Author.Tests.{not-true, not-false}
 use Prim.Native.Nat.{◌-◌, ◌≤◌}
 use lib.ListN.{length, drop}
 use native.Mathlib.Omega.{arith}
@@ -11,13 +10,13 @@ pub loop-len-init : goal.loop-len-init
 loop-len-init c = (omega arith, omega arith, scan_begins _)
 
 pub returns-then-not-is_white_space_byte : goal.returns-then-not-is_white_space_byte
-returns-then-not-is_white_space_byte c = sym (scan_stops _ c.loop-len.len _ _ c.loop-len-test.true (sym c.is_white_space_byte.ensures ∙ not-true _ c.if-not-is_white_space_byte.true)) ∙ c.loop-len.invariant.2
+returns-then-not-is_white_space_byte c = sym (scan_stops _ c.loop-len.len _ _ c.loop-len-test.true (sym c.is_white_space_byte.ensures ∙ c.if-not-is_white_space_byte.true)) ∙ c.loop-len.invariant.2
 
 pub loop-len-preserved-then-b-eq-NEWLINE : goal.loop-len-preserved-then-b-eq-NEWLINE
 loop-len-preserved-then-b-eq-NEWLINE c = (omega arith, omega arith, sym (scan_newline _ c.loop-len.len _ _ c.loop-len-test.true c.if-b-eq-NEWLINE.true) ∙ c.loop-len.invariant.2)
 
 pub loop-len-preserved : goal.loop-len-preserved
-loop-len-preserved c = (omega arith, omega arith, sym (scan_other _ c.loop-len.len _ _ c.loop-len-test.true (sym c.is_white_space_byte.ensures ∙ not-false _ c.if-not-is_white_space_byte.false) c.if-b-eq-NEWLINE.false) ∙ c.loop-len.invariant.2)
+loop-len-preserved c = (omega arith, omega arith, sym (scan_other _ c.loop-len.len _ _ c.loop-len-test.true (sym c.is_white_space_byte.ensures ∙ c.if-not-is_white_space_byte.false) c.if-b-eq-NEWLINE.false) ∙ c.loop-len.invariant.2)
 
 pub returns : goal.returns
 returns c = sym (scan_ends _ c.loop-len.len _ _ c.loop-len-test.false) ∙ c.loop-len.invariant.2

@@ -1,7 +1,6 @@
 -- `provenance::run::white_run` meets its contract. The loop's invariant: what was counted and the run of the rest are the run of
 -- the whole. The measure is what is left.
 use mathlib.Core.Path.{◌≡◌, sym, ◌∙◌}
-use borrow.Author.Tests.{not-true, not-false}
 use Prim.Native.Nat.{◌-◌, ◌≤◌}
 use lib.ListN.{length, drop}
 use native.Mathlib.Omega.{arith}
