@@ -10,7 +10,7 @@ use Rattle.records.proofs.Stores.{sets_more}
 use Rattle.records.proofs.buffer.put.Given as goal
 
 abbrev pub invariant-loop-i : goal.invariant-loop-i
-invariant-loop-i l = (l.i ≤ length l.initial.buffer) × (l.buffer ≡ sets l.at l.numbers (take l.i l.initial.buffer)) × (length l.buffer ≡ length l.at)
+invariant-loop-i l = (l.i ≤ length l.numbers) × (l.buffer ≡ sets l.initial.buffer l.at (take l.i l.numbers)) × (length l.buffer ≡ length l.initial.buffer)
 
 abbrev pub decreases-loop-i : goal.decreases-loop-i
-decreases-loop-i l = length l.initial.buffer - l.i
+decreases-loop-i l = length l.numbers - l.i
