@@ -18,7 +18,7 @@ use Rattle.provenance.specs.Layout.{room, zeros, answer_of, buffer_of, pieces_if
 use Rattle.provenance.specs.Writing.{put_open, count_open, cleared_to, written_len}
 use Rattle.provenance.specs.StepLaws.{Fair, grammar_fair}
 use Rattle.provenance.specs.ReadingLaws.{reading_is_found, no_reading_found}
-use Rattle.provenance.specs.PieceLaws.{laid, laid_is}
+use Rattle.provenance.proofs.PieceLaws.{laid, laid_is}
 use Rattle.provenance.proofs.Turn.{Kept, Going, on_none, at_end, end_count, end_kept, clear_all}
 
 module _ (r : Rules) {reach : EscapeReach} (fair : FairTable r.escapes reach) (src val : List ℕ) (base m : ℕ) where

@@ -28,7 +28,7 @@ use Rattle.provenance.specs.Grammar.{rules_of}
 use Rattle.provenance.specs.Reading.{Piece}
 use Rattle.provenance.specs.Start.{list_from, scalar_list}
 use Rattle.provenance.specs.Alike.{reads_alike, past_span, pieces_end, is_some}
-use Rattle.provenance.specs.Measured.{pieces_list, pieces_end_lem}
+use Rattle.provenance.proofs.Measured.{pieces_list, pieces_end_lem}
 use Rattle.spans.specs.Scalar.{ScalarAt, step_past, colon, scalar_start, start_at, scalar_at, span_measure, span_len, list_at, walk_first, scalar_over, event_node}
 use Rattle.spans.specs.Collection.{open_brace, close_brace, close_bracket, collection_start, collection_end, collection_over, collection_node}
 use Rattle.spans.specs.Fits.{TagFits}

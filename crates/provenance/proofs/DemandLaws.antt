@@ -25,7 +25,7 @@ use Rattle.provenance.specs.Tests.{by_answer}
 use Rattle.provenance.specs.EscapeLaws.{style_fair, FairTable}
 use Rattle.provenance.specs.StepLaws.{Fair, grammar_fair, step_same, step_past_lem}
 use Rattle.provenance.specs.ReadingLaws.{reading_unique, found_is_reading, reading_is_found}
-use Rattle.provenance.specs.PieceLaws.{laid, laid_is, first_starts, others_follow, all_ended, contents_are, value_end, value_end_lem, all_copied}
+use Rattle.provenance.proofs.PieceLaws.{laid, laid_is, first_starts, others_follow, all_ended, contents_are, value_end, value_end_lem, all_copied}
 
 -- ---- answers and what is left of a list
 

@@ -19,7 +19,7 @@ use Rattle.provenance.specs.Reading.{reading_of, Piece}
 use Rattle.provenance.specs.Start.{scalar_list}
 use Rattle.provenance.specs.Alike.{ascii_front, run_taken, run_alike, equal_alike, reads_alike, past_span, source_lens, source_taken, pieces_end, is_some, no_tabs, narrow_spaces}
 use Rattle.provenance.specs.AlikeLaws.{narrow_alike}
-use Rattle.provenance.specs.MeasuredLaws.{along, taken_found, taken_ends, plain_list, some_pieces, of_reading, reading_end}
+use Rattle.provenance.proofs.MeasuredLaws.{along, taken_found, taken_ends, plain_list, some_pieces, of_reading, reading_end}
 
 module _ (column : ℕ) {rest value : List ℕ} {n : ℕ} (u : Utf8 rest) (w : Utf8 value)
     (measured : plain_reach (codes value) (codes rest) ≡ reaches n) where
