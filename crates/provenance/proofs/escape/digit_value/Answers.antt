@@ -3,7 +3,6 @@ use borrow.Author.Tests.{le-leb, lt-leb}
 use native.Mathlib.Omega.{arith}
 use Prim.Native.Nat.{◌≤◌}
 use Rattle.provenance.specs.EscapeLaws.{hex_digit_lem}
-use borrow.Author.Rules.{rules}
 use Rattle.provenance.proofs.escape.digit_value.Goals as goal
 
 pub overflow_sub-result : goal.overflow_sub-result

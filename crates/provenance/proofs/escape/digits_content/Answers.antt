@@ -1,9 +1,9 @@
-use mathlib.Core.Path.{◌≡◌, sym, ap, ◌∙◌}
-use Prim.Native.Nat.{ℕ, ◌+◌, ◌-◌, ◌*◌, ◌≤◌, ◌<◌}
-use lib.ListN.{length, drop, get_or}
+use mathlib.Core.Path.{sym, ap, ◌∙◌}
+use Prim.Native.Nat.{ℕ, ◌+◌, ◌*◌, ◌<◌}
+use lib.ListN.{drop, get_or}
 use native.Mathlib.Omega.{arith}
-use Rattle.provenance.specs.Escape.{digits_from, digits, code_content}
-use Rattle.provenance.specs.EscapeLaws.{sixteens, sixteens_some, sixteens_more, sixteens_four}
+use Rattle.provenance.specs.Escape.{digits_from, code_content}
+use Rattle.provenance.specs.EscapeLaws.{sixteens_some, sixteens_more, sixteens_four}
 use Rattle.provenance.proofs.Escapes.{value_small, digits_more, digits_bad, digits_end, digits-none, digits_some, no_code}
 use Rattle.provenance.proofs.escape.digits_content.Goals as goal
 

@@ -1,9 +1,6 @@
-use mathlib.Core.Path.{◌≡◌, refl, sym, ◌∙◌}
-use Prim.Native.Nat.{◌-◌, ◌≤◌}
-use lib.ListN.{drop}
+use mathlib.Core.Path.{refl, sym, ◌∙◌}
 use native.Mathlib.Omega.{arith}
-use borrow.Author.Rules.{rules}
-use Rattle.provenance.specs.Escape.{is_one_of, one_byte_escapes}
+use Rattle.provenance.specs.Escape.{one_byte_escapes}
 use Rattle.provenance.proofs.Escapes.{one_here, one_later, one_none}
 use Rattle.provenance.proofs.escape.is_one_byte_escape.Goals as goal
 

@@ -1,8 +1,5 @@
-use mathlib.Core.Path.{◌≡◌, sym, ◌∙◌}
-use Prim.Native.Nat.{◌+◌, ◌-◌, ◌≤◌}
-use lib.ListN.{length, drop}
+use mathlib.Core.Path.{sym, ◌∙◌}
 use native.Mathlib.Omega.{arith}
-use Rattle.provenance.specs.Run.{blank_run}
 use Rattle.provenance.proofs.Runs.{blank_more, blank_stops, blank_ends}
 use Rattle.provenance.proofs.run.blanks.Goals as goal
 

@@ -2,7 +2,6 @@
 use borrow.Author.Tests.{lt-ltb}
 use native.Mathlib.Omega.{arith}
 use Rattle.provenance.specs.Counted.{cut_len}
-use borrow.Author.Rules.{rules}
 use Rattle.provenance.proofs.run.cut_len.Goals as goal
 
 pub returns-then-not-block : goal.returns-then-not-block

@@ -1,8 +1,5 @@
-use mathlib.Core.Path.{◌≡◌, refl, sym, ◌∙◌}
-use Prim.Native.Nat.{◌-◌}
-use lib.ListN.{length, drop}
+use mathlib.Core.Path.{refl, sym, ◌∙◌}
 use native.Mathlib.Omega.{arith}
-use Rattle.provenance.specs.Run.{only_newlines}
 use Rattle.provenance.proofs.Runs.{only_more, only_not, only_ends}
 use Rattle.provenance.proofs.run.only_newlines.Goals as goal
 

@@ -1,9 +1,6 @@
-use mathlib.Core.Path.{◌≡◌, sym, ◌∙◌}
-use Prim.Native.Nat.{◌-◌, ◌≤◌}
-use lib.ListN.{length, drop}
+use mathlib.Core.Path.{sym, ◌∙◌}
 use native.Mathlib.Omega.{arith}
-use Rattle.provenance.specs.Counted.{counted_run}
-use Rattle.provenance.proofs.Runs.{scan_so_far, scan_begins, scan_ends, scan_stops, scan_newline, scan_other}
+use Rattle.provenance.proofs.Runs.{scan_begins, scan_ends, scan_stops, scan_newline, scan_other}
 use Rattle.provenance.proofs.run.white_run.Goals as goal
 
 pub loop-len-init : goal.loop-len-init

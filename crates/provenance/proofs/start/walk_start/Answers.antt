@@ -7,7 +7,6 @@ use Rattle.provenance.specs.Start.{header_end}
 use Rattle.letters.proofs.Chunks.{part_is}
 use Rattle.provenance.specs.RunLaws.{header_within}
 use Rattle.provenance.proofs.Starts.{start_quoted, start_plain, start_content, start_header}
-use borrow.Author.Rules.{rules}
 use Rattle.provenance.proofs.start.walk_start.Goals as goal
 
 pub returns-then-is_quoted : goal.returns-then-is_quoted

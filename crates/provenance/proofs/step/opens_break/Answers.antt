@@ -1,7 +1,6 @@
 -- `provenance::step::opens_break` meets its contract: first the value's byte, then the source's.
 use mathlib.Core.Path.{sym, ◌∙◌}
 use Rattle.provenance.proofs.Steps.{opens_not, opens_wide, opens_newline, opens_return}
-use borrow.Author.Rules.{rules}
 use Rattle.provenance.proofs.step.opens_break.Goals as goal
 
 pub returns-then-not-is_break_byte : goal.returns-then-not-is_break_byte

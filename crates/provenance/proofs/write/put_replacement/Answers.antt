@@ -6,7 +6,6 @@ use mathlib.Core.List.{List}
 use Rattle.provenance.specs.Reading.{Piece, piece, replacement}
 use Rattle.provenance.specs.Writing.{put_piece, put_open, put_replacement, count_open}
 use Rattle.provenance.proofs.Turn.{count_more}
-use borrow.Author.Rules.{rules}
 use Rattle.provenance.proofs.write.put_replacement.Goals as goal
 
 pub overflow_add-result : goal.overflow_add-result
