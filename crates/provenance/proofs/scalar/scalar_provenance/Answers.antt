@@ -5,7 +5,6 @@ use lib.ListN.{length, length-drop}
 use Rattle.utf8.proofs.Utf8Laws.{is_boundary_lem}
 use Rattle.letters.proofs.Chunks.{part_is}
 use Rattle.provenance.proofs.Starts.{cannot_start, can_start}
-use borrow.Author.Rules.{rules}
 use Rattle.provenance.proofs.scalar.scalar_provenance.Goals as goal
 
 pub returns-then-not-is_boundary : goal.returns-then-not-is_boundary
