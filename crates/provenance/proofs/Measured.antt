@@ -57,9 +57,9 @@ module _ (column len : ℕ) {text value : List ℕ} {start n : ℕ} (u : Utf8 te
       ∙ measured_list column (boundary_splits u b).back w measured
 
   -- whose last piece ends so far past the span
-  pub pieces_end_lem : (ps : List Piece) → scalar_list text start len value plain column ≡ some ps
+  pub pieces_end_at : (ps : List Piece) → scalar_list text start len value plain column ≡ some ps
       → pieces_end start ps ≡ start + (n + past_span (codes value) (codes (drop start text)))
-  pieces_end_lem ps e =
+  pieces_end_at ps e =
       let r = of_reading start (reading_of (rules_of plain column) (drop start text) value) ps (sym (plain_list text start len value column b) ∙ e) in
       ap (pieces_end start) r.are
       ∙ reading_end (rules_of plain column) (style_fair plain) (drop start text) value start r.steps r.is

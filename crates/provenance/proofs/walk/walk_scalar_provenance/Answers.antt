@@ -54,7 +54,7 @@ replaced c =
     let p = c.put_replacement-n in
     on_replacement _ _ _ _ _ _ (fair_here a.style a.column a.src.now a.value.now) _ w.s w.v w.from w.n w.invariant.0 c.loop-v-test.true _ _ (sym c.step_at-t.ensures ∙ c.in-Replacement.is) p.result p.new.pieces p.ensures.value p.ensures.pieces_after
 
--- ---- the needs
+-- ---- the goals
 pub loop-v-init : goal.loop-v-init
 loop-v-init c = (begins _ _ _ _ _ _ _ refl c.requires.pieces_value, λ i h k. absurd (omega arith))
 
