@@ -2,7 +2,7 @@
 use borrow.Author.Rules.{rules}
 use mathlib.Core.Path.{ap}
 use lib.ListN.{length}
-use Rattle.text.specs.OffsetLaws.{offset_boundary, stands_start}
+use Rattle.text.proofs.OffsetLaws.{offset_boundary, stands_start}
 use Rattle.parser.proofs.Starts.{cursor_offset}
 use Rattle.parser.proofs.Wholes.{alone_counted, one_told, style_unknown}
 use Rattle.parser.proofs.one.one_scalar.Goals as goal

@@ -46,18 +46,15 @@ module _ (s : List ℕ) (x : Bool) (e : admission s ≡ Admitted x) where
   admitted_ascii = tests.told
 
 module _ (s v : List ℕ) (x : Bool) (e : admission_of_both s v ≡ Admitted x) where
-  pub both_admitted_text : AdmittedText s
+  both_tests : Passed (is_too_long s || is_too_long v) (is_utf8 s && is_utf8 v) (is_ascii s) x
   unfolding admission_of_both
-  both_admitted_text =
-      let tests = passed (is_too_long s || is_too_long v) (is_utf8 s && is_utf8 v) (is_ascii s) x e in
-      admitted s (or_left (is_too_long s) (is_too_long v) tests.short) (and_left (is_utf8 s) (is_utf8 v) tests.whole)
+  both_tests = passed (is_too_long s || is_too_long v) (is_utf8 s && is_utf8 v) (is_ascii s) x e
+
+  pub both_admitted_text : AdmittedText s
+  both_admitted_text = admitted s (or_left (is_too_long s) (is_too_long v) both_tests.short) (and_left (is_utf8 s) (is_utf8 v) both_tests.whole)
 
   pub both_admitted_value : AdmittedText v
-  unfolding admission_of_both
-  both_admitted_value =
-      let tests = passed (is_too_long s || is_too_long v) (is_utf8 s && is_utf8 v) (is_ascii s) x e in
-      admitted v (or_right (is_too_long s) (is_too_long v) tests.short) (and_right (is_utf8 s) (is_utf8 v) tests.whole)
+  both_admitted_value = admitted v (or_right (is_too_long s) (is_too_long v) both_tests.short) (and_right (is_utf8 s) (is_utf8 v) both_tests.whole)
 
   pub both_ascii : x ≡ is_ascii s
-  unfolding admission_of_both
-  both_ascii = (passed (is_too_long s || is_too_long v) (is_utf8 s && is_utf8 v) (is_ascii s) x e).told
+  both_ascii = both_tests.told
