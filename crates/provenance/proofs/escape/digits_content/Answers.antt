@@ -40,12 +40,3 @@ code_content-requires c = let q = sixteens_four c.loop-i.i (omega arith) in omeg
 
 pub returns : goal.returns
 returns c = c.code_content.ensures ∙ ap code_content (sym (digits_end c.args.tail.now c.loop-i.i c.loop-i.code c.loop-i-test.false) ∙ c.loop-i.invariant.2)
-
-pub bounds-tail-i : goal.bounds-tail-i
-bounds-tail-i c = omega arith
-
-pub overflow_add-i : goal.overflow_add-i
-overflow_add-i c = omega arith
-
-pub loop-i-smaller : goal.loop-i-smaller
-loop-i-smaller c = omega arith

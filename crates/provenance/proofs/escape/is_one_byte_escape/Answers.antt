@@ -18,9 +18,3 @@ loop-i-preserved c = (omega arith, sym (one_later one_byte_escapes c.loop-i.i c.
 pub returns : goal.returns
 unfolding one_byte_escapes
 returns c = sym (one_none one_byte_escapes c.loop-i.i c.args.c (omega arith)) ∙ c.loop-i.invariant.1
-
-pub overflow_add-i : goal.overflow_add-i
-overflow_add-i c = omega arith
-
-pub loop-i-smaller : goal.loop-i-smaller
-loop-i-smaller c = omega arith

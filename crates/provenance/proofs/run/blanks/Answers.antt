@@ -17,12 +17,3 @@ loop-n-preserved c = let z = blank_more c.args.tail.now c.loop-n.n c.loop-n-test
 
 pub returns : goal.returns
 returns c = let z = blank_ends c.args.tail.now c.loop-n.n c.loop-n-test.false in omega arith
-
-pub bounds-tail-n : goal.bounds-tail-n
-bounds-tail-n c = omega arith
-
-pub overflow_add-n : goal.overflow_add-n
-overflow_add-n c = omega arith
-
-pub loop-n-smaller : goal.loop-n-smaller
-loop-n-smaller c = omega arith

@@ -17,18 +17,3 @@ loop-len-preserved c = (omega arith, omega arith, sym (scan_other _ c.loop-len.l
 
 pub returns : goal.returns
 returns c = sym (scan_ends _ c.loop-len.len _ _ c.loop-len-test.false) ∙ c.loop-len.invariant.2
-
-pub bounds-tail-len : goal.bounds-tail-len
-bounds-tail-len c = omega arith
-
-pub overflow_add-len : goal.overflow_add-len
-overflow_add-len c = omega arith
-
-pub overflow_add-newlines : goal.overflow_add-newlines
-overflow_add-newlines c = omega arith
-
-pub loop-len-smaller-then-b-eq-NEWLINE : goal.loop-len-smaller-then-b-eq-NEWLINE
-loop-len-smaller-then-b-eq-NEWLINE c = omega arith
-
-pub loop-len-smaller : goal.loop-len-smaller
-loop-len-smaller c = omega arith
