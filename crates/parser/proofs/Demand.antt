@@ -43,7 +43,7 @@ use Rattle.provenance.specs.Start.{list_from}
 use Rattle.provenance.specs.Layout.{flat, laid_by, piece_numbers, walked_number, answer_of, left_of, laid_pieces}
 use Rattle.provenance.specs.Demand.{Demand3}
 use Rattle.provenance.specs.Alike.{pieces_end, is_some}
-use Rattle.provenance.specs.DemandLaws.{listed_only, listed_if, demand3}
+use Rattle.provenance.proofs.DemandLaws.{listed_only, listed_if, demand3}
 use Rattle.provenance.specs.declared.step.Step.{Step}
 use Rattle.provenance.specs.declared.walk.Walked.{Walked}
 use Rattle.provenance.specs.declared.walk.Walked.TheVariants.{Listed, NoRoom, NoList}

@@ -375,8 +375,8 @@ joined_ends first (p ∷ ps) = on_ends (joined ps) ∙ joined_ends p.end ps
 steps_end : (at : ℕ → ℕ → Step) (len s v first : ℕ) (ts : List Step) → IsReading at len s v ts → pieces_end first (step_pieces first ts) ≡ first + source_lens ts
 unfolding IsReading pieces_end step_pieces source_lens
 steps_end at len s v first [] r = sym (add-zero first)
-steps_end at len s v first (Verbatim n ∷ ts) r = steps_end at len _ _ (first + n) ts r.3 ∙ add_assoc first n (source_lens ts)
-steps_end at len s v first (Replacement a b ∷ ts) r = steps_end at len _ _ (first + a) ts r.3 ∙ add_assoc first a (source_lens ts)
+steps_end at len s v first (Verbatim n ∷ ts) r = steps_end at len (s + n) (v + n) (first + n) ts r.3 ∙ add_assoc first n (source_lens ts)
+steps_end at len s v first (Replacement a b ∷ ts) r = steps_end at len (s + a) (v + b) (first + a) ts r.3 ∙ add_assoc first a (source_lens ts)
 steps_end at len s v first (NoStep ∷ ts) r = absurd r.2
 
 pub reading_end : (r : Rules) {reach : EscapeReach} → FairTable r.escapes reach → (src val : List ℕ) (first : ℕ) (ts : List Step) → reading_of r src val ≡ some ts
