@@ -34,11 +34,11 @@ unfolding event_node
 returns c =
     let a = c.args in
     let begins = c.scalar_start-start in
-    let info = c.tag_info_is in
+    let info = c.tag_info-info in
     let is = range_is a.events.now a.e.value in
     let from = rw is at begins.ensures in
     let tag : info.result ≡ tag_info a.text.now begins.result (suffix_of a.e.tag) =
     info.ensures ∙ ap (tag_info a.text.now begins.result) c.suffix_of.ensures in
     let what = rw is at c.resolve-resolved.ensures in
     let walked = rw is at c.walk_scalar.ensures in
-    record { value = rw (← from, ← tag, ← what) walked.0; pieces_after = rw (← from) walked.1 }
+    record { value = rw (← from, ← tag, ← what) walked.value; pieces_after = rw (← from) walked.pieces_after }
