@@ -14,4 +14,4 @@ pub returns : goal.returns
 returns c = λ text size pieces_size st p on h.
     let a = c.args in
     let l : a.c.nodes < record_room size = rw (← h.size_is) c.requires.room in
-    pushed text size pieces_size st a.c a.stack.now a.records.now p h a.x _ _ l on c.add_child.auto.0 c.add_child.ensures c.put_record.auto.0 c.put_record.ensures
+    pushed text size pieces_size st a.c a.stack.now a.records.now p h a.x _ _ l on c.add_child.auto.stack c.add_child.ensures c.put_record.auto.records c.put_record.ensures

@@ -28,8 +28,8 @@ pub alone-requires : goal.alone-requires
 alone-requires c =
     let a = c.args in
     let x = c.walk_scalar in
-    let y = x.new.1.1.1.1.1.1.1.0 in
-    let len = x.auto.1.1.1.1.1.1.1.0 in
+    let y = x.new.pieces in
+    let len = x.auto.pieces in
     alone_counted (length a.pieces.now) c.requires.pieces_value.1 y len _ x.result.walked (ap (λ z. z.walked) x.ensures.value) x.ensures.pieces_after
 
 pub returns : goal.returns
@@ -39,8 +39,8 @@ returns c =
     let e = cursor_offset a.text.now a.m.index cur.result cur.ensures in
     let r = c.resolve_scalar-resolved in
     let x = c.walk_scalar in
-    let y = x.new.1.1.1.1.1.1.1.0 in
-    let len = x.auto.1.1.1.1.1.1.1.0 in
+    let y = x.new.pieces in
+    let len = x.auto.pieces in
     rw c.alone.ensures
     (one_told (length a.pieces.now) c.requires.pieces_value.1 y len a.text.now a.m a.value.now cur.result.offset r.result x.result
     c.if-m-gt-FOLDED.false e r.ensures x.ensures.value x.ensures.pieces_after)
