@@ -3,7 +3,7 @@ use Rattle.std.specs.Prelude.{◌≡◌, refl, Bool, true, false, ◌&&◌, ◌|
 use Rattle.std.proofs.Common.{ltb-false}
 use Rattle.utf8.specs.Utf8.{Utf8, is_ascii}
 use Rattle.utf8.specs.Characters.{is_utf8}
-use Rattle.utf8.specs.Utf8Laws.{utf8_sound}
+use Rattle.utf8.proofs.Utf8Laws.{utf8_sound}
 use Rattle.utf8.specs.Tests.{and_left, and_right}
 use Rattle.text.specs.Admission.{text_limit, is_too_long, admission, admission_of_both}
 use Rattle.text.specs.declared.admission.Admission.TheVariants.{Admitted, TooLong, NotUtf8}

@@ -9,7 +9,7 @@ use Rattle.utf8.specs.Characters.{character, first_char, codes, chars_after, is_
 use Rattle.utf8.specs.Boundary.{Boundary}
 use Rattle.text.specs.Offset.{byte_offset, cursor_at, Stands}
 use Rattle.utf8.specs.Tests.{and_left, and_right}
-use Rattle.utf8.specs.Utf8Laws.{Place, place_front, place_back, place_boundary, codes_are, codes_encode, codes_scalars, codes-encode_all, encode_all_append, scalars_front, encode_some, read, last_of_lem, first_char_ascii, codes_step}
+use Rattle.utf8.proofs.Utf8Laws.{Place, place_front, place_back, place_boundary, codes_are, codes_encode, codes_scalars, codes-encode_all, encode_all_append, scalars_front, encode_some, read, last_of_lem, first_char_ascii, codes_step}
 use Rattle.utf8.specs.declared.utf8.Char.{Char}
 
 -- ---- offsets
