@@ -1,5 +1,4 @@
 -- `build` meets its contract: sizes, then the text, then the run.
-use borrow.Author.Rules.{rules}
 use mathlib.Core.Path.{sym, ap, ◌∙◌, subst₂}
 use Prim.Native.Nat.{ℕ}
 use lib.ListN.{length}
@@ -25,7 +24,7 @@ fill_or_clear-requires c =
     let ascii = c.in-Admitted.ascii in
     record {
       given = (record { sound = admitted_text a.text.now ascii told; ascii_is = admitted_ascii a.text.now ascii told }, c.if-events-gt-EVENTS_LIMIT.false);
-      records_value = (b.ensures ∙ ap zeros (sym b.auto.buffer), p.ensures ∙ ap zeros (sym p.auto.buffer));
+      buffers_zero = (b.ensures ∙ ap zeros (sym b.auto.buffer), p.ensures ∙ ap zeros (sym p.auto.buffer));
     }
 
 pub returns-in-TooLong : goal.returns-in-TooLong

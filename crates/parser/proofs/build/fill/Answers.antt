@@ -1,17 +1,16 @@
 use mathlib.Core.Path.{refl, sym, ◌∙◌}
-use Prim.Native.Nat.{◌-◌}
 use native.Mathlib.Omega.{arith}
 use lib.ListN.{length}
 use borrow.Author.Rules.{rules}
-use Rattle.parser.proofs.Heads.{Head, first_head, read_of, ready, next_head, refused_here, built_now, not_built}
+use Rattle.parser.proofs.Heads.{first_head, read_of, ready, next_head, refused_here, built_now, not_built}
 use Rattle.utf8.specs.Ascii.{Bytes}
 use Rattle.parser.proofs.build.fill.Goals as goal
 
 pub loop-at-init : goal.loop-at-init
-loop-at-init c = first_head c.args.text.now c.args.events.now c.args.records.now c.args.pieces.now _ c.requires.records_value.0 c.requires.records_value.1 c.requires.records_value.2 refl
+loop-at-init c = first_head c.args.text.now c.args.events.now c.args.records.now c.args.pieces.now _ c.requires.buffers_zero.0 c.requires.buffers_zero.1 c.requires.buffers_zero.2 refl
 
 pub slice_bounds-on_event-end : goal.slice_bounds-on_event-end
-slice_bounds-on_event-end c = let l = c.loop-at.invariant.held.stack_size_lem in search rules
+slice_bounds-on_event-end c = let l = c.loop-at.invariant.held.stack_size_is in search rules
 
 pub on_event-requires : goal.on_event-requires
 on_event-requires c =

@@ -1,5 +1,4 @@
 -- `keep_scalar` meets its contract, by what the walk answered: the free part of the pieces is as it was, or has the list in it.
-use borrow.Author.Rules.{rules}
 use mathlib.Core.Path.{refl, sym, ◌∙◌}
 use native.Mathlib.Omega.{arith}
 use Rattle.provenance.specs.declared.walk.Walked.TheVariants.{Listed, NoRoom, NoList}

@@ -1,7 +1,6 @@
 -- `on_end` meets its contract: rows 4 and 7 by the innermost frame and the counts; then that frame's record is complete.
-use borrow.Author.Rules.{rules}
 use mathlib.Core.Path.{◌≡◌, refl, sym, ap, ◌∙◌}
-use Prim.Native.Nat.{◌-◌, ◌≤◌, ◌<◌}
+use Prim.Native.Nat.{◌≤◌, ◌<◌}
 use native.Mathlib.Omega.{arith}
 use Rattle.records.specs.Layout.{record_room}
 use Rattle.parser.proofs.Turns.{moved_on, no_room, in_room, pushable, none_open, mismatched, matched, inner_below, inner_on, popped, outside, inner}

@@ -1,6 +1,6 @@
 -- `scalar` meets its contract: text and value, then the scalar over the part of the pieces that is used.
 use mathlib.Core.Path.{◌≡◌, sym, ap, ◌∙◌}
-use Prim.Native.Nat.{ℕ, ◌-◌, ◌≤◌}
+use Prim.Native.Nat.{ℕ, ◌≤◌}
 use native.Mathlib.Omega.{arith}
 use lib.ListN.{length, take, replicate}
 use Rattle.parser.proofs.Wholes.{zeros_front, scalar_too_long, scalar_no_utf8, scalar_read}
@@ -9,7 +9,6 @@ use Rattle.text.specs.AdmissionLaws.{both_admitted_text, both_admitted_value, bo
 use Prim.Native.Nat.{min}
 use Rattle.records.specs.Layout.{pieces_limit}
 use Rattle.spans.specs.Scalar.{mark}
-use borrow.Author.Rules.{rules}
 use Rattle.parser.proofs.one.scalar.Goals as goal
 
 pub slice_bounds-one_scalar-end-in-Admitted : goal.slice_bounds-one_scalar-end-in-Admitted
@@ -28,7 +27,7 @@ one_scalar-requires c =
     let ascii = c.in-Admitted.ascii in
     record {
       given = (record { sound = both_admitted_text a.text.now a.value.now ascii told; ascii_is = both_ascii a.text.now a.value.now ascii told }, both_admitted_value a.text.now a.value.now ascii told);
-      pieces_value = (zeros_front n.result size p.new.buffer p.ensures l ∙ ap (λ (m : ℕ). replicate m 0) (sym part), omega arith);
+      pieces_zero = (zeros_front n.result size p.new.buffer p.ensures l ∙ ap (λ (m : ℕ). replicate m 0) (sym part), omega arith);
     }
 
 pub returns-in-TooLong : goal.returns-in-TooLong

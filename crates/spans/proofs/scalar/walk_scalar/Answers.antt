@@ -74,7 +74,7 @@ returns-clause-value c =
     let w = c.scalar_provenance-walked in
     let at = (goal.at.returns-clause-value c).After-scalar_len-span in
     entry_is _ a.text.now (scalar_now at) a.tag a.resolved c.scalar_len-span.result _ w.result (measure_is at)
-        c.scalar_node-node.ensures (w.ensures.value ∙ ap (answer_of _) (sym (list_is at)))
+    c.scalar_node-node.ensures (w.ensures.value ∙ ap (answer_of _) (sym (list_is at)))
 
 pub returns-clause-pieces_after : goal.returns-clause-pieces_after
 returns-clause-pieces_after c = rw (list_is (goal.at.returns-clause-pieces_after c).After-scalar_len-span) c.scalar_provenance-walked.ensures.pieces_after
