@@ -7,7 +7,7 @@ use Prim.Native.Nat.{ℕ, ◌+◌, ◌-◌, ◌/◌, ◌≤◌, ◌<◌, zero-le
 use native.Mathlib.Omega.{arith}
 use lib.Dec.{eqb, ltb}
 use lib.ListN.{length, replicate}
-use Rattle.text.specs.OffsetLaws.{stands_start}
+use Rattle.text.proofs.OffsetLaws.{stands_start}
 use Rattle.utf8.specs.Ascii.{Bytes}
 use Rattle.event.specs.Encode.{YamlEvent, sequence_start, sequence_end, mapping_start, mapping_end, scalar, alias, SoundEvent}
 use Rattle.event.proofs.EncodeLaws.{body_length, rest_length}

@@ -13,7 +13,7 @@ use Rattle.utf8.specs.Utf8.{Utf8}
 use Rattle.utf8.specs.Boundary.{Boundary}
 use Rattle.utf8.proofs.Utf8Laws.{boundary_start}
 use Rattle.text.specs.Offset.{byte_offset, cursor_at}
-use Rattle.text.specs.OffsetLaws.{cursor_stands, offset_boundary}
+use Rattle.text.proofs.OffsetLaws.{cursor_stands, offset_boundary}
 use Rattle.text.specs.declared.offset.Cursor.{Cursor}
 use Rattle.provenance.specs.Reading.{Piece}
 use Rattle.provenance.specs.Layout.{room, laid_pieces, answer_of, buffer_of}

@@ -4,7 +4,7 @@ use Prim.Native.Nat.{◌+◌, ◌-◌, ◌≤◌}
 use native.Mathlib.Omega.{arith}
 use lib.ListN.{length}
 use Rattle.text.specs.Offset.{Stands}
-use Rattle.text.specs.OffsetLaws.{stands_start, cursor_stands}
+use Rattle.text.proofs.OffsetLaws.{stands_start, cursor_stands}
 use Rattle.replay_offsets.proofs.same_offsets.Statement.{statement}
 use Rattle.replay_offsets.proofs.same_offsets.Tie as tie
 

@@ -1,6 +1,6 @@
 -- `replay_offsets::verdict` is safe: the offsets are asked for only of an admitted text.
 use mathlib.Core.Path.{sym, ◌∙◌}
-use Rattle.text.specs.AdmissionLaws.{admitted_text, admitted_ascii}
+use Rattle.text.proofs.AdmissionLaws.{admitted_text, admitted_ascii}
 use borrow.Author.Rules.{rules}
 use Rattle.replay_offsets.proofs.verdict.Statement.{statement}
 use Rattle.replay_offsets.proofs.verdict.Tie as tie

@@ -2,7 +2,7 @@
 use mathlib.Core.Path.{sym, ap, ◌∙◌, subst₂}
 use Prim.Native.Nat.{ℕ}
 use lib.ListN.{length}
-use Rattle.text.specs.AdmissionLaws.{admitted_text, admitted_ascii}
+use Rattle.text.proofs.AdmissionLaws.{admitted_text, admitted_ascii}
 use Rattle.provenance.specs.Layout.{zeros}
 use Rattle.records.specs.Layout.{record_room, piece_room}
 use Rattle.parser.specs.Machine.{run_all}

@@ -5,7 +5,7 @@ use native.Mathlib.Omega.{arith}
 use Rattle.records.specs.Layout.{record_room}
 use Rattle.parser.proofs.Turns.{moved_on, after_root, before_root_lem, no_room, in_room, moved_cursor}
 use Rattle.parser.proofs.Starts.{cursor_offset}
-use Rattle.text.specs.OffsetLaws.{offset_within, offset_boundary}
+use Rattle.text.proofs.OffsetLaws.{offset_within, offset_boundary}
 use Rattle.parser.specs.Machine.{on_alias}
 use Rattle.parser.proofs.on_event.on_alias.Goals as goal
 

@@ -3,7 +3,7 @@
 use mathlib.Core.Path.{◌≡◌, refl, sym, ap, ◌∙◌}
 use Prim.Native.Nat.{◌*◌, ◌≤◌, ◌<◌}
 use lib.ListN.{length}
-use Rattle.text.specs.OffsetLaws.{offset_boundary}
+use Rattle.text.proofs.OffsetLaws.{offset_boundary}
 use Rattle.utf8.specs.Boundary.{Boundary}
 use Rattle.event.specs.Read.{part_of}
 use Rattle.records.specs.Layout.{record_room}

@@ -3,7 +3,7 @@ use mathlib.Core.Path.{refl, sym, ◌∙◌}
 use native.Mathlib.Omega.{arith}
 use Rattle.parser.proofs.Turns.{after_root, before_root_lem, too_deep, opened}
 use Rattle.parser.proofs.Starts.{cursor_offset, suffix_placed}
-use Rattle.text.specs.OffsetLaws.{offset_within}
+use Rattle.text.proofs.OffsetLaws.{offset_within}
 use Rattle.parser.specs.Machine.{on_start}
 use Rattle.parser.proofs.on_event.on_start.Goals as goal
 

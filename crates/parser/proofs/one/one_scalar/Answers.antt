@@ -1,7 +1,7 @@
 -- `one_scalar` meets its contract: the machine's scalar from the empty state, by what its walk answers.
 use mathlib.Core.Path.{ap}
 use lib.ListN.{length}
-use Rattle.text.specs.OffsetLaws.{offset_boundary, stands_start}
+use Rattle.text.proofs.OffsetLaws.{offset_boundary, stands_start}
 use Rattle.parser.proofs.Starts.{cursor_offset}
 use Rattle.parser.proofs.Wholes.{alone_counted, one_told, style_unknown}
 use Rattle.parser.proofs.one.one_scalar.Goals as goal

@@ -5,7 +5,7 @@ use native.Mathlib.Omega.{arith}
 use lib.ListN.{length, take, replicate}
 use Rattle.parser.proofs.Wholes.{zeros_front, scalar_too_long, scalar_no_utf8, scalar_read}
 use lib.Seq.{length-take-le}
-use Rattle.text.specs.AdmissionLaws.{both_admitted_text, both_admitted_value, both_ascii}
+use Rattle.text.proofs.AdmissionLaws.{both_admitted_text, both_admitted_value, both_ascii}
 use Prim.Native.Nat.{min}
 use Rattle.records.specs.Layout.{pieces_limit}
 use Rattle.spans.specs.Scalar.{mark}
