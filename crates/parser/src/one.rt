@@ -94,7 +94,7 @@ fn one_scalar(
     pieces: &mut [u32],
 ) -> ScalarAnswer
     requires given { Given text.now ascii × AdmittedText value.now }
-    requires pieces_value { (pieces.old ≡ zeros (length pieces.old)) × (length pieces.old ≤ pieces_limit) }
+    requires pieces_zero { (pieces.old ≡ zeros (length pieces.old)) × (length pieces.old ≤ pieces_limit) }
     ensures { DeliveredScalar (length pieces.old) (one_scalar text.now m value.now (length pieces.old))
         (scalar_measured text.now m value.now) result pieces.new }
 {
