@@ -1,4 +1,4 @@
-/* The records of `k: [1, x]`, from events written by hand. After `rt staticlib quarto_yaml`, from the repository's root:
+/* The records of `k: [1, x]`, from events written by hand. After `tools/archive`, from the repository's root:
  *
  *     cc -Iinclude examples/build.c target/staticlib/libquarto_yaml.a -o target/example && target/example
  */

@@ -2,7 +2,7 @@
  * quarto_yaml: from the text of a YAML file and the events of a YAML parser to a record for each node and, for each scalar, the
  * pieces that say from which bytes of the file every stretch of its value came.
  *
- *     rt staticlib quarto_yaml                                             makes target/staticlib/libquarto_yaml.a
+ *     tools/archive                                                        makes target/staticlib/libquarto_yaml.a
  *     cc -Iinclude program.c target/staticlib/libquarto_yaml.a -o program  links it; it needs nothing but `memset`
  *
  * No heap, no threads, no state, no input or output, a few kilobytes of stack: a call reads what it is given, writes the buffers that

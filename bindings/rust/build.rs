@@ -1,4 +1,4 @@
-//! Links the archive that `rt staticlib quarto_yaml` makes. It is looked for in the directory that QUARTO_YAML_LIB_DIR names, or else
+//! Links the archive that `tools/archive` makes. It is looked for in the directory that QUARTO_YAML_LIB_DIR names, or else
 //! where that command leaves it, in `target/staticlib` of the repository.
 
 use std::env;
@@ -21,7 +21,7 @@ fn main() {
     println!("cargo::rerun-if-changed={}", archive.display());
     if !archive.is_file() {
         println!(
-            "cargo::error={ARCHIVE} is not in {}: run `rt staticlib quarto_yaml` at the top of the repository, or set \
+            "cargo::error={ARCHIVE} is not in {}: run `tools/archive` in the repository, or set \
              QUARTO_YAML_LIB_DIR to the directory that has it",
             folder.display()
         );

@@ -1,4 +1,4 @@
-//! Links the archive that `rt staticlib quarto_yaml` makes.
+//! Links the archive that `tools/archive` makes.
 
 fn main() {
     let folder = concat!(env!("CARGO_MANIFEST_DIR"), "/../../target/staticlib");

@@ -35,7 +35,7 @@
 //! # Ok::<(), Box<dyn std::error::Error>>(())
 //! ```
 //!
-//! The archive comes from `rt staticlib quarto_yaml` at the top of the repository. It is looked for there, or in the directory that
+//! The archive comes from `tools/archive` of the repository. It is looked for where that leaves it, or in the directory that
 //! QUARTO_YAML_LIB_DIR names when this package is built.
 
 pub mod call;

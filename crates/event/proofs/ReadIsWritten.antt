@@ -12,7 +12,7 @@ use lib.Dec.{ltb, leb, eqb}
 use lib.ListN.{length, get_or, drop, length-drop, take-append-drop}
 use lib.Seq.{drop-cons, drop-drop, length-take-le}
 use Rattle.utf8.specs.Characters.{is_utf8}
-use Rattle.utf8.specs.Utf8Laws.{utf8_sound}
+use Rattle.utf8.proofs.Utf8Laws.{utf8_sound}
 use Rattle.event.specs.Number.{high_first, number_at}
 use Rattle.utf8.specs.Ascii.{Bytes}
 use Rattle.event.proofs.NumberLaws.{capacity, number_fits, number_written}

@@ -9,7 +9,7 @@ use borrow.Author.Tests.{le-ltb, eq-eqb}
 use lib.Dec.{eqb}
 use lib.ListN.{length, drop}
 use Rattle.utf8.specs.Characters.{is_utf8}
-use Rattle.utf8.specs.Utf8Laws.{utf8_complete}
+use Rattle.utf8.proofs.Utf8Laws.{utf8_complete}
 use Rattle.event.specs.Number.{high_first}
 use Rattle.event.proofs.NumberLaws.{capacity, number_read}
 use Rattle.event.specs.Encode.{Tag, untagged, tagged, YamlEvent, sequence_start, sequence_end, mapping_start, mapping_end, scalar, alias, encode_string, encode_tag, encode_flag, tag_byte, marker_index, encode_rest, encode_body, encode_event, SoundString, SoundTag, SoundScalar, SoundRest}

@@ -12,7 +12,7 @@ use lib.Seq.{drop-cons, drop-drop, get_or-drop}
 use Rattle.utf8.specs.Class.{inside, is_continuation}
 use Rattle.utf8.specs.WhiteSpace.{white_space, is_in, is_white_space}
 use Rattle.utf8.specs.Characters.{character, no_char, code_of2, code_of3, code_of4, two_bytes, three_bytes, four_bytes, multi_byte, char_of, first_char}
-use Rattle.utf8.specs.Utf8Laws.{CharAt}
+use Rattle.utf8.proofs.Utf8Laws.{CharAt}
 use Rattle.utf8.specs.declared.utf8.Char.{Char}
 use Rattle.letters.specs.Letters.{WordByte, AfterE2, LetterByte, Letters}
 use Rattle.letters.specs.LetterLaws.{letters_less}

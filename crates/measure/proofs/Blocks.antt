@@ -11,7 +11,7 @@ use lib.ListN.{length, drop}
 use Rattle.utf8.specs.Utf8.{Utf8, encode, encode_all}
 use Rattle.utf8.specs.Characters.{codes}
 use Rattle.utf8.specs.Boundary.{Boundary}
-use Rattle.utf8.specs.Utf8Laws.{boundary_start}
+use Rattle.utf8.proofs.Utf8Laws.{boundary_start}
 use Rattle.measure.specs.Run.{bytes_of, white_space_run}
 use Rattle.utf8.specs.Ascii.{newline}
 use Rattle.measure.specs.Block.{lines, is_blank, trimmed_len, ends_block, past_line, later_reach, block_reach, block_len}

@@ -13,7 +13,7 @@ use Rattle.utf8.specs.Utf8.{Utf8, encode, encode_all}
 use Rattle.utf8.specs.Characters.{codes, character, first_char}
 use Rattle.utf8.specs.Boundary.{Boundary}
 use Rattle.utf8.specs.WhiteSpace.{white_space, is_in, is_white_space}
-use Rattle.utf8.specs.Utf8Laws.{CharAt, char_at, boundary_start}
+use Rattle.utf8.proofs.Utf8Laws.{CharAt, char_at, boundary_start}
 use Rattle.utf8.specs.declared.utf8.Char.{Char}
 use Rattle.measure.specs.Run.{bytes_of, white_space_run}
 use Rattle.utf8.specs.Ascii.{newline}

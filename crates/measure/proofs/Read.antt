@@ -7,7 +7,7 @@ use Rattle.letters.proofs.Chunks.{part_is}
 use Rattle.utf8.specs.Utf8.{Utf8}
 use Rattle.utf8.specs.Characters.{codes, chars_after, first_char}
 use Rattle.utf8.specs.Boundary.{Boundary}
-use Rattle.utf8.specs.Utf8Laws.{CharAt, char_at, boundary_splits}
+use Rattle.utf8.proofs.Utf8Laws.{CharAt, char_at, boundary_splits}
 use Rattle.utf8.specs.declared.utf8.Char.{Char}
 
 pub char_read : {s : List ℕ} {i : ℕ} {k : Char} → Utf8 s → Boundary s i → i < length s → k ≡ first_char (drop i s) → CharAt s i k

@@ -11,7 +11,7 @@ use Rattle.utf8.specs.Utf8.{Utf8, encode, encode_all}
 use Rattle.utf8.specs.Characters.{codes}
 use Rattle.utf8.specs.Boundary.{Boundary}
 use Rattle.utf8.specs.WhiteSpace.{is_white_space}
-use Rattle.utf8.specs.Utf8Laws.{CharAt, boundary_start}
+use Rattle.utf8.proofs.Utf8Laws.{CharAt, boundary_start}
 use Rattle.utf8.specs.declared.utf8.Char.{Char}
 use Rattle.measure.specs.Run.{bytes_of, white_space_run, holds_newline}
 use Rattle.measure.specs.Counted.{run_of}

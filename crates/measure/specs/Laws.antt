@@ -7,7 +7,7 @@ use Rattle.utf8.specs.Tests.{below_inside}
 use Rattle.utf8.specs.Utf8.{Utf8, encode, encode_all}
 use Rattle.utf8.specs.Characters.{codes}
 use Rattle.utf8.specs.Boundary.{Boundary}
-use Rattle.utf8.specs.Utf8Laws.{char_at, first_char_ascii}
+use Rattle.utf8.proofs.Utf8Laws.{char_at, first_char_ascii}
 use Rattle.utf8.specs.declared.utf8.Char.{Char}
 use Rattle.measure.specs.Run.{bytes_of, white_space_run, after_run}
 use Rattle.utf8.specs.Ascii.{newline}

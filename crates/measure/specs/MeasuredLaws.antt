@@ -6,7 +6,7 @@ use Rattle.utf8.specs.Tests.{clash}
 use Rattle.utf8.specs.Utf8.{Utf8, encode, encode_all}
 use Rattle.utf8.specs.Characters.{codes, chars_after}
 use Rattle.utf8.specs.Boundary.{Boundary}
-use Rattle.utf8.specs.Utf8Laws.{boundary_start}
+use Rattle.utf8.proofs.Utf8Laws.{boundary_start}
 use Rattle.utf8.specs.Ascii.{single_quote, double_quote}
 use Rattle.measure.specs.Length.{measured}
 use Rattle.measure.specs.Run.{bytes_of, white_space_run, after_run, holds_newline}

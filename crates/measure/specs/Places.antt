@@ -5,7 +5,7 @@ use Rattle.std.proofs.Common.{sym, ◌∙◌, ap, subst, append_assoc, zero-add,
 use Rattle.utf8.specs.Utf8.{ScalarValues, Utf8, encode, encode_all}
 use Rattle.utf8.specs.Characters.{codes}
 use Rattle.utf8.specs.Boundary.{Boundary}
-use Rattle.utf8.specs.Utf8Laws.{Place, place_at_lem, place_back, place_boundary, scalars_back, codes_encode, codes-encode_all, encode_all_append, boundary_start, boundary_splits}
+use Rattle.utf8.proofs.Utf8Laws.{Place, place_at_lem, place_back, place_boundary, scalars_back, codes_encode, codes-encode_all, encode_all_append, boundary_start, boundary_splits}
 use Rattle.utf8.specs.WhiteSpace.{is_white_space}
 use Rattle.measure.specs.Run.{bytes_of, white_space_run, after_run}
 

@@ -18,7 +18,7 @@ use Rattle.text.specs.Admission.{text_limit, admission, admission_of_both}
 use Rattle.text.specs.declared.admission.Admission.{Admission}
 use Rattle.text.specs.declared.admission.Admission.TheVariants.{Admitted, TooLong, NotUtf8}
 use Rattle.utf8.specs.Boundary.{Boundary}
-use Rattle.utf8.specs.Utf8Laws.{utf8_complete}
+use Rattle.utf8.proofs.Utf8Laws.{utf8_complete}
 use Rattle.schema.specs.Tag.{resolve_scalar}
 use Rattle.schema.specs.declared.plain.Resolved.{Resolved}
 use Rattle.measure.specs.Scalar.{plain, folded, scalar_measure}

@@ -11,7 +11,7 @@ use lib.ListN.{length, take, drop, replicate, length-append}
 use lib.Seq.{sets, length-sets}
 use Rattle.utf8.specs.Utf8.{Utf8}
 use Rattle.utf8.specs.Boundary.{Boundary}
-use Rattle.utf8.specs.Utf8Laws.{boundary_start}
+use Rattle.utf8.proofs.Utf8Laws.{boundary_start}
 use Rattle.text.specs.Offset.{byte_offset, cursor_at}
 use Rattle.text.specs.OffsetLaws.{cursor_stands, offset_boundary}
 use Rattle.text.specs.declared.offset.Cursor.{Cursor}

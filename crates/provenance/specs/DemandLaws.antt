@@ -9,7 +9,7 @@ use Prim.{tt}
 use Rattle.std.proofs.Math.ListN.{length-drop}
 use Rattle.std.proofs.lemmas.Bool.{lt-leb}
 use Rattle.utf8.specs.Boundary.{Boundary, is_boundary}
-use Rattle.utf8.specs.Utf8Laws.{is_boundary_lem, boundary_is}
+use Rattle.utf8.proofs.Utf8Laws.{is_boundary_lem, boundary_is}
 use Rattle.provenance.specs.declared.step.Step.{Step}
 use Rattle.provenance.specs.declared.step.Step.TheVariants.{Verbatim, Replacement, NoStep}
 use Rattle.provenance.specs.declared.walk.Walked.{Walked}

@@ -8,7 +8,7 @@ use Rattle.utf8.specs.Class.{inside, is_hex_digit}
 use Rattle.utf8.specs.Utf8.{Utf8, encode}
 use Rattle.utf8.specs.Characters.{first_char}
 use Rattle.utf8.specs.Boundary.{Boundary, is_boundary}
-use Rattle.utf8.specs.Utf8Laws.{first_char_ascii, boundary_is, char_at}
+use Rattle.utf8.proofs.Utf8Laws.{first_char_ascii, boundary_is, char_at}
 use Rattle.utf8.specs.declared.utf8.Char.{Char}
 use Rattle.measure.specs.Scalar.{single_quoted, double_quoted}
 use Rattle.provenance.specs.declared.escape.Escape.{Escape}

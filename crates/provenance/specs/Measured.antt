@@ -7,7 +7,7 @@ use Rattle.utf8.specs.Ascii.{bytes}
 use Rattle.utf8.specs.Utf8.{Utf8, encode, encode_all, is_ascii}
 use Rattle.utf8.specs.Boundary.{Boundary}
 use Rattle.utf8.specs.Characters.{codes}
-use Rattle.utf8.specs.Utf8Laws.{codes_encode, codes_scalars, boundary_splits}
+use Rattle.utf8.proofs.Utf8Laws.{codes_encode, codes_scalars, boundary_splits}
 use Rattle.utf8.specs.WhiteSpace.{white_space, is_in, is_white_space}
 use Rattle.measure.specs.Run.{white_space_run, after_run, holds_newline}
 use Rattle.measure.specs.Plain.{is_fold, reaches, begins_with, takes_run, plain_reach}

@@ -17,7 +17,7 @@ use Rattle.utf8.specs.Utf8.{ScalarValue, ScalarValues, encode, encode_all, is_as
 use Rattle.utf8.specs.Boundary.{Boundary}
 use Rattle.utf8.specs.Characters.{character, first_char}
 use Rattle.utf8.specs.WhiteSpace.{is_white_space}
-use Rattle.utf8.specs.Utf8Laws.{read, encode_all_append, scalars_back, boundary_is}
+use Rattle.utf8.proofs.Utf8Laws.{read, encode_all_append, scalars_back, boundary_is}
 use Rattle.utf8.specs.Tests.{clash, by_order, and_left, and_right}
 use Rattle.utf8.specs.declared.utf8.Char.{Char}
 use Rattle.measure.specs.Run.{bytes_of, white_space_run, after_run, holds_newline}

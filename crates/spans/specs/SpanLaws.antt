@@ -9,7 +9,7 @@ use Rattle.utf8.specs.Utf8.{Utf8}
 use Rattle.utf8.specs.Characters.{codes, first_char, char_of}
 use Rattle.utf8.specs.Class.{is_continuation}
 use Rattle.utf8.specs.Boundary.{Boundary, is_boundary}
-use Rattle.utf8.specs.Utf8Laws.{char_at, boundary_splits, boundary_is}
+use Rattle.utf8.proofs.Utf8Laws.{char_at, boundary_splits, boundary_is}
 use Rattle.text.specs.Offset.{byte_offset}
 use Rattle.text.specs.OffsetLaws.{offset_boundary}
 use Rattle.text.specs.Admission.{text_limit}

@@ -12,7 +12,7 @@ use Rattle.utf8.specs.Utf8.{ScalarValues, Utf8, encode, encode_all}
 use Rattle.utf8.specs.Characters.{codes, chars_after, last_char}
 use Rattle.utf8.specs.Boundary.{Boundary}
 use Rattle.utf8.specs.WhiteSpace.{is_white_space}
-use Rattle.utf8.specs.Utf8Laws.{codes_encode, codes-encode_all, encode_all_append, scalars_front, Place, place_at_lem, place_front, place_back, place_boundary, boundary_splits, char_before}
+use Rattle.utf8.proofs.Utf8Laws.{codes_encode, codes-encode_all, encode_all_append, scalars_front, Place, place_at_lem, place_front, place_back, place_boundary, boundary_splits, char_before}
 use Rattle.utf8.specs.declared.utf8.Char.{Char}
 use Rattle.tag.specs.Tokens.{byte_length, chars_before, token, with_word, tokens, tokens_before}
 use Rattle.tag.specs.Proved.{All, Edge, TokensAre}

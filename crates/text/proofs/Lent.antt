@@ -1,15 +1,15 @@
--- A cursor in memory, for the two walks by hand over one that is lent by `&mut`, and a contract of three plain facts.
---     spelled, offset-fits     what is known of a cursor's machine value
+-- A cursor in memory, as one that is lent by `&mut` lies there, and a contract of three plain facts. Only a walk by hand needs it.
+--     spelled, offset_fits     what is known of a cursor's machine value
 --     well_typed, made         the value has the struct's MIR type, and what the type owns of it is had for nothing
---     put-down, picked-up      a cursor in a local's cell can be lent; and one that has come back is in the local's cell
---     learns, shows-all        the three facts of a `requires`: learned by the function, and shown to a callee
+--     put_down, picked_up      a cursor in a local's cell can be lent; and one that has come back is in the local's cell
+--     learns, shows_all        the three facts of a `requires`: learned by the function, and shown to a callee
 -- Assumes `Logic`.
 use mathlib.Core.Path.{◌≡◌, subst, ap}
 use Prim.Native.Nat.{ℕ, ◌<◌, ◌^◌}
 use mathlib.Core.List.{List, [], ◌∷◌}
 use lib.Dec.{T as Holds}
 use seplogic.Ra.Ura.{Ura}
-use seplogic.Ra.TreeShare.{full_share}
+use base.Fraction.{full_share}
 use mir.Val.{Val, WT, has_ty}
 use base.Logic.{SProp, ent, sep, emp, via, fst∗, snd∗, comm∗, mono_l, mono_r, emp∗}
 use base.Fml.{Fml, fsep, fat}

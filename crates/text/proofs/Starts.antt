@@ -13,10 +13,10 @@ use Rattle.utf8.specs.Class.{is_continuation, counts}
 use Rattle.utf8.specs.Utf8.{ScalarValues, Utf8, encode, encode_all}
 use Rattle.utf8.specs.Characters.{codes}
 use Rattle.utf8.specs.Boundary.{Boundary}
-use Rattle.utf8.specs.Bytes.{Continue, encoding}
+use Rattle.utf8.proofs.Bytes.{Continue, encoding}
 use Rattle.text.specs.Offset.{byte_offset, Stands}
 use Rattle.text.specs.Starts.{begun, starts}
-use Rattle.utf8.specs.Utf8Laws.{place_at_lem, place_front, codes-encode_all, codes_scalars, encode_all_append, scalars_front}
+use Rattle.utf8.proofs.Utf8Laws.{place_at_lem, place_front, codes-encode_all, codes_scalars, encode_all_append, scalars_front}
 use Rattle.text.specs.OffsetLaws.{index_front}
 use Rattle.utf8.specs.Tests.{clash}
 

@@ -3,7 +3,7 @@ use Rattle.std.specs.Prelude.{◌≡◌, refl, Bool, true, false, ◌&&◌, ◌|
 use Rattle.std.proofs.Common.{ltb-false}
 use Rattle.utf8.specs.Utf8.{Utf8, is_ascii}
 use Rattle.utf8.specs.Characters.{is_utf8}
-use Rattle.utf8.specs.Utf8Laws.{utf8_sound}
+use Rattle.utf8.proofs.Utf8Laws.{utf8_sound}
 use Rattle.utf8.specs.Tests.{and_left, and_right}
 use Rattle.text.specs.Admission.{text_limit, is_too_long, admission, admission_of_both}
 use Rattle.text.specs.declared.admission.Admission.TheVariants.{Admitted, TooLong, NotUtf8}
@@ -46,15 +46,18 @@ module _ (s : List ℕ) (x : Bool) (e : admission s ≡ Admitted x) where
   admitted_ascii = tests.told
 
 module _ (s v : List ℕ) (x : Bool) (e : admission_of_both s v ≡ Admitted x) where
-  both_tests : Passed (is_too_long s || is_too_long v) (is_utf8 s && is_utf8 v) (is_ascii s) x
-  unfolding admission_of_both
-  both_tests = passed (is_too_long s || is_too_long v) (is_utf8 s && is_utf8 v) (is_ascii s) x e
-
   pub both_admitted_text : AdmittedText s
-  both_admitted_text = admitted s (or_left (is_too_long s) (is_too_long v) both_tests.short) (and_left (is_utf8 s) (is_utf8 v) both_tests.whole)
+  unfolding admission_of_both
+  both_admitted_text =
+      let tests = passed (is_too_long s || is_too_long v) (is_utf8 s && is_utf8 v) (is_ascii s) x e in
+      admitted s (or_left (is_too_long s) (is_too_long v) tests.short) (and_left (is_utf8 s) (is_utf8 v) tests.whole)
 
   pub both_admitted_value : AdmittedText v
-  both_admitted_value = admitted v (or_right (is_too_long s) (is_too_long v) both_tests.short) (and_right (is_utf8 s) (is_utf8 v) both_tests.whole)
+  unfolding admission_of_both
+  both_admitted_value =
+      let tests = passed (is_too_long s || is_too_long v) (is_utf8 s && is_utf8 v) (is_ascii s) x e in
+      admitted v (or_right (is_too_long s) (is_too_long v) tests.short) (and_right (is_utf8 s) (is_utf8 v) tests.whole)
 
   pub both_ascii : x ≡ is_ascii s
-  both_ascii = both_tests.told
+  unfolding admission_of_both
+  both_ascii = (passed (is_too_long s || is_too_long v) (is_utf8 s && is_utf8 v) (is_ascii s) x e).told

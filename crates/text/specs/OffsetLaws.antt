@@ -9,14 +9,17 @@ use Rattle.utf8.specs.Characters.{character, first_char, codes, chars_after, is_
 use Rattle.utf8.specs.Boundary.{Boundary}
 use Rattle.text.specs.Offset.{byte_offset, cursor_at, Stands}
 use Rattle.utf8.specs.Tests.{and_left, and_right}
-use Rattle.utf8.specs.Utf8Laws.{Place, place_front, place_back, place_boundary, codes_are, codes_encode, codes_scalars, codes-encode_all, encode_all_append, scalars_front, encode_some, read, last_of_lem, first_char_ascii, codes_step}
+use Rattle.utf8.proofs.Utf8Laws.{Place, place_front, place_back, place_boundary, codes_are, codes_encode, codes_scalars, codes-encode_all, encode_all_append, scalars_front, encode_some, read, last_of_lem, first_char_ascii, codes_step}
 use Rattle.utf8.specs.declared.utf8.Char.{Char}
 
 -- ---- offsets
 
+-- what `byte_offset` is. The lemmas that are not `pub` speak of it, and each law by itself unfolds `byte_offset`.
+abbrev front_len : List ℕ → ℕ → ℕ
+front_len s k = length (encode_all (take k (codes s)))
+
 -- the place before character k
-index_place : {s : List ℕ} → Utf8 s → (k : ℕ) → Place s (byte_offset s k)
-unfolding byte_offset
+index_place : {s : List ℕ} → Utf8 s → (k : ℕ) → Place s (front_len s k)
 index_place {s} u k =
     record {
       before = take k (codes s);
@@ -27,33 +30,42 @@ index_place {s} u k =
     }
 
 pub index_front : {s : List ℕ} → Utf8 s → (k : ℕ) → take (byte_offset s k) s ≡ encode_all (take k (codes s))
-unfolding index_place
+unfolding byte_offset index_place
 index_front u k = place_front (index_place u k)
 
-index_back : {s : List ℕ} → Utf8 s → (k : ℕ) → drop (byte_offset s k) s ≡ encode_all (drop k (codes s))
+index_back : {s : List ℕ} → Utf8 s → (k : ℕ) → drop (front_len s k) s ≡ encode_all (drop k (codes s))
 unfolding index_place
 index_back u k = place_back (index_place u k)
 
 pub offset_boundary : {s : List ℕ} → Utf8 s → (k : ℕ) → Boundary s (byte_offset s k)
+unfolding byte_offset
 offset_boundary u k = place_boundary (index_place u k)
 
 pub offset_within : {s : List ℕ} → Utf8 s → (k : ℕ) → byte_offset s k ≤ length s
-offset_within u k = (offset_boundary u k).within
+unfolding byte_offset
+offset_within u k = (place_boundary (index_place u k)).within
 
 -- one character more
-pub offset_next : (s : List ℕ) (k : ℕ) → k < length (codes s) → byte_offset s (suc k) ≡ byte_offset s k + length (encode (get_or (codes s) k 0))
-unfolding byte_offset encode_all
-offset_next s k h =
+front_next : (s : List ℕ) (k : ℕ) → k < length (codes s) → front_len s (suc k) ≡ front_len s k + length (encode (get_or (codes s) k 0))
+unfolding encode_all
+front_next s k h =
     let c = get_or (codes s) k 0 in
     ap (λ (l : List ℕ). length (encode_all l)) (take-suc (codes s) k 0 h)
     ∙ ap length (encode_all_append (take k (codes s)) (c ∷ []))
     ∙ length-append (encode_all (take k (codes s))) (encode c ++ [])
     ∙ ap (λ (l : List ℕ). length (encode_all (take k (codes s))) + length l) (append-nil (encode c))
 
+pub offset_next : (s : List ℕ) (k : ℕ) → k < length (codes s) → byte_offset s (suc k) ≡ byte_offset s k + length (encode (get_or (codes s) k 0))
+unfolding byte_offset
+offset_next s k h = front_next s k h
+
 -- past the last character
+front_past : (s : List ℕ) (k m : ℕ) → length (codes s) ≤ k → length (codes s) ≤ m → front_len s k ≡ front_len s m
+front_past s k m h l = rw (take_all k (codes s) h, take_all m (codes s) l)
+
 pub offset_past : (s : List ℕ) (k m : ℕ) → length (codes s) ≤ k → length (codes s) ≤ m → byte_offset s k ≡ byte_offset s m
 unfolding byte_offset
-offset_past s k m h l = rw (take_all k (codes s) h, take_all m (codes s) l)
+offset_past s k m h l = front_past s k m h l
 
 scalar_at_lem : (cs : List ℕ) (k : ℕ) → ScalarValues cs → k < length cs → ScalarValue (get_or cs k 0)
 scalar_at_lem [] k v h = absurd (omega arith)
@@ -61,10 +73,10 @@ scalar_at_lem (c ∷ cs) zero v h = v.0
 scalar_at_lem (c ∷ cs) (suc k) v h = scalar_at_lem cs k v.1 (omega arith)
 
 -- before the last character's end
-offset_inside : {s : List ℕ} → Utf8 s → (k : ℕ) → k < length (codes s) → byte_offset s k < length s
-offset_inside {s} u k h =
-    let next = offset_next s k h in
-    let within = offset_within u (suc k) in
+front_inside : {s : List ℕ} → Utf8 s → (k : ℕ) → k < length (codes s) → front_len s k < length s
+front_inside {s} u k h =
+    let next = front_next s k h in
+    let within = (place_boundary (index_place u (suc k))).within in
     let some = encode_some (get_or (codes s) k 0) (scalar_at_lem (codes s) k (codes_scalars u) h) in
     omega arith
 
@@ -77,7 +89,8 @@ offset_of_characters u k = rw (codes_are u)
 
 -- an index past the text gives the text's length
 pub offset_past_text : {s : List ℕ} (u : Utf8 s) (k : ℕ) → length u.characters ≤ k → byte_offset s k ≡ length s
-offset_past_text u k h = offset_of_characters u k ∙ rw (take_all k u.characters h) (sym (ap length u.encoded))
+unfolding byte_offset
+offset_past_text u k h = rw (codes_are u, take_all k u.characters h) (sym (ap length u.encoded))
 
 -- and at every other a character begins
 pub record CharacterAt (s : List ℕ) (i : ℕ) : Type 0 where
@@ -85,39 +98,41 @@ pub record CharacterAt (s : List ℕ) (i : ℕ) : Type 0 where
   pub begins : Boundary s i
 
 pub offset_in_text : {s : List ℕ} (u : Utf8 s) (k : ℕ) → k < length u.characters → CharacterAt s (byte_offset s k)
-offset_in_text u k h = record { inside = offset_inside u k (rw (codes_are u) h); begins = offset_boundary u k }
+unfolding byte_offset
+offset_in_text u k h = record { inside = front_inside u k (rw (codes_are u) h); begins = place_boundary (index_place u k) }
 
 -- ---- the cursor
 
 pub stands_boundary : {s : List ℕ} {k i : ℕ} → Utf8 s → Stands s k i → Boundary s i
-stands_boundary {s} {k} {i} u h = rw h.placed (offset_boundary u k)
+unfolding byte_offset
+stands_boundary {s} {k} {i} u h = rw h.placed (place_boundary (index_place u k))
 
 pub stands_start : (s : List ℕ) → Stands s 0 0
 unfolding byte_offset encode_all
 stands_start s = record { counted = omega arith; placed = refl }
 
 -- where there is a byte, there is a character
-more : {s : List ℕ} {k i : ℕ} → Utf8 s → Stands s k i → i < length s → k < length (codes s)
+more : {s : List ℕ} (k : ℕ) {i : ℕ} → Utf8 s → i ≡ front_len s k → i < length s → k < length (codes s)
 unfolding encode_all
-more {s} {k} {i} u h l = go (dec_lt k (length (codes s)))
+more {s} k {i} u h l = go (dec_lt k (length (codes s)))
   where
     go : Dec (k < length (codes s)) → k < length (codes s)
     go (yes p) = p
     go (no p) =
         absurd
-        (let e : drop i s ≡ [] = rw h.placed (index_back u k) ∙ ap encode_all (drop_of_length-le (codes s) {i = k} (omega arith)) in
+        (let e : drop i s ≡ [] = rw h (index_back u k) ∙ ap encode_all (drop_of_length-le (codes s) {i = k} (omega arith)) in
         let n : length s - i ≡ 0 = rw length-drop at (ap length e) in
         omega arith)
 
 pub stands_next : {s : List ℕ} {k i : ℕ} → Utf8 s → Stands s k i → i < length s → Stands s (k + 1) (i + (first_char (drop i s)).len)
-unfolding encode_all
+unfolding byte_offset encode_all
 stands_next {s} {k} {i} u h l =
-    let m = more u h l in
+    let m = more k u h.placed l in
     let c = get_or (codes s) k 0 in
     let rest = encode_all (drop (suc k) (codes s)) in
     let e : drop i s ≡ encode c ++ rest = rw h.placed (index_back u k) ∙ ap encode_all (drop-cons (codes s) k 0 m) in
     let f : (first_char (drop i s)).len ≡ length (encode c) = ap (λ (x : List ℕ). (first_char x).len) e ∙ ap (λ (x : Char). x.len) (read c rest (scalar_at_lem (codes s) k (codes_scalars u) m)) in
-    let o = offset_next s k m in
+    let o = front_next s k m in
     let p = h.placed in
     record { counted = omega arith; placed = rw (f, one k) (omega arith) }
   where
@@ -129,23 +144,24 @@ pub record StepsBack (s : List ℕ) (k i : ℕ) : Type 0 where
   pub fits : (last_char (take i s)).len ≤ i
   pub stands : Stands s (k - 1) (i - (last_char (take i s)).len)
 
-last_passed : (s : List ℕ) (k : ℕ) → Utf8 s → k < length (codes s) → last_char (take (byte_offset s (suc k)) s) ≡ character (get_or (codes s) k 0) (length (encode (get_or (codes s) k 0)))
-unfolding last_char
+last_passed : (s : List ℕ) (k : ℕ) → Utf8 s → k < length (codes s) → last_char (take (front_len s (suc k)) s) ≡ character (get_or (codes s) k 0) (length (encode (get_or (codes s) k 0)))
+unfolding last_char index_place
 last_passed s k u h =
     let front = codes_scalars u in
     let scalars : ScalarValues (take (suc k) (codes s)) = scalars_front (take (suc k) (codes s)) (drop (suc k) (codes s)) (rw (take-append-drop (suc k) (codes s)) front) in
-    ap (λ (l : List ℕ). last_of (codes l)) (index_front u (suc k))
+    ap (λ (l : List ℕ). last_of (codes l)) (place_front (index_place u (suc k)))
     ∙ ap last_of (codes-encode_all (take (suc k) (codes s)) scalars ∙ take-suc (codes s) k 0 h)
     ∙ last_of_lem (take k (codes s)) (get_or (codes s) k 0)
 
 pub stands_previous : {s : List ℕ} {k i : ℕ} → Utf8 s → Stands s k i → 0 < k → StepsBack s k i
+unfolding byte_offset
 stands_previous {s} {k} {i} u h l = go k h l
   where
     go : (k : ℕ) → Stands s k i → 0 < k → StepsBack s k i
     go zero h l = absurd (omega arith)
     go (suc k) h l =
         let e : (last_char (take i s)).len ≡ length (encode (get_or (codes s) k 0)) = rw h.placed (ap (λ (x : Char). x.len) (last_passed s k u h.counted)) in
-        let o = offset_next s k h.counted in
+        let o = front_next s k h.counted in
         let p = h.placed in
         let m = h.counted in
         let d : suc k - 1 ≡ k = omega arith in
@@ -158,24 +174,24 @@ stands_cursor {s} {k} {i} h = let m = h.counted in let e : min k (length (codes 
 
 -- at the end it is the cursor at every index from there on
 pub stands_end : {s : List ℕ} {k i : ℕ} → Utf8 s → Stands s k i → length s ≤ i → (m : ℕ) → k ≤ m → record { chars = k; offset = i } ≡ cursor_at s m
-unfolding cursor_at
+unfolding cursor_at byte_offset
 stands_end {s} {k} {i} u h l m g =
     let n = all (dec_lt k (length (codes s))) in
     let e : min m (length (codes s)) ≡ k = omega arith in
-    rw (e, h.placed, offset_past s k m (omega arith) (omega arith))
+    rw (e, h.placed, front_past s k m (omega arith) (omega arith))
   where
     all : Dec (k < length (codes s)) → k ≡ length (codes s)
     all (no p) = let c = h.counted in omega arith
-    all (yes p) = absurd (let e = h.placed in let o = offset_inside u k p in omega arith)
+    all (yes p) = absurd (let e = h.placed in let o = front_inside u k p in omega arith)
 
 -- the cursor at an index stands
 pub cursor_stands : (s : List ℕ) (k : ℕ) → Stands s (cursor_at s k).chars (cursor_at s k).offset
-unfolding cursor_at
+unfolding cursor_at byte_offset
 cursor_stands s k = record { counted = omega arith; placed = go (dec_lt k (length (codes s))) }
   where
-    go : Dec (k < length (codes s)) → byte_offset s k ≡ byte_offset s (min k (length (codes s)))
+    go : Dec (k < length (codes s)) → front_len s k ≡ front_len s (min k (length (codes s)))
     go (yes p) = let e : min k (length (codes s)) ≡ k = omega arith in rw e
-    go (no p) = offset_past s k (min k (length (codes s))) (omega arith) (omega arith)
+    go (no p) = front_past s k (min k (length (codes s))) (omega arith) (omega arith)
 
 -- ---- ASCII
 

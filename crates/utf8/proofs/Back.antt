@@ -11,7 +11,7 @@ use Rattle.utf8.specs.Utf8.{Utf8}
 use Rattle.utf8.specs.Boundary.{Boundary}
 use Rattle.utf8.specs.Characters.{first_char, last_char}
 use Rattle.utf8.specs.Tests.{clash}
-use Rattle.utf8.specs.Utf8Laws.{CharBefore, char_before}
+use Rattle.utf8.proofs.Utf8Laws.{CharBefore, char_before}
 
 module _ {s : List ℕ} {i : ℕ} (u : Utf8 s) (p : Boundary s i) (some : i ≡ 0 → ⊥) where
   -- where the character begins that ends at i

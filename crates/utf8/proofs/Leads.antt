@@ -12,7 +12,7 @@ use Rattle.utf8.specs.Class.{inside, is_continuation}
 use Rattle.utf8.specs.Utf8.{Utf8}
 use Rattle.utf8.specs.Characters.{character, no_char, code_of2, code_of3, code_of4, two_bytes, three_bytes, four_bytes, multi_byte, first_char}
 use Rattle.utf8.specs.Boundary.{Boundary}
-use Rattle.utf8.specs.Utf8Laws.{char_at, first_char_ascii, first_char_multi}
+use Rattle.utf8.proofs.Utf8Laws.{char_at, first_char_ascii, first_char_multi}
 use Rattle.utf8.specs.declared.utf8.Char.{Char}
 
 some_len : (t : Bool) (c n : ℕ) → 1 ≤ (cond t (character c n) no_char).len → (cond t (character c n) no_char).len ≡ n

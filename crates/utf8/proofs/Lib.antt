@@ -13,3 +13,7 @@ pub mod Windows
 pub mod Search
 -- the length of a character by its first byte
 pub mod Leads
+-- the laws of texts, characters and boundaries
+pub mod Utf8Laws
+-- the bytes of one character, both ways
+pub mod Bytes

@@ -9,7 +9,7 @@ use native.Mathlib.Omega.{arith}
 use borrow.Author.Tests.{lt-ltb, le-ltb, le-leb, lt-leb}
 use lib.ListN.{length, drop, get_or}
 use Rattle.utf8.specs.Characters.{character, code_of2, code_of3, code_of4, two_bytes, three_bytes, four_bytes, multi_byte, first_char, is_utf8}
-use Rattle.utf8.specs.Utf8Laws.{first_char_ascii, first_char_multi, utf8_on, utf8_end}
+use Rattle.utf8.proofs.Utf8Laws.{first_char_ascii, first_char_multi, utf8_on, utf8_end}
 use Rattle.utf8.specs.Tests.{inside_low, inside_high, is_inside, below_inside, above_inside, clash}
 use Rattle.utf8.specs.Class.{inside, is_continuation}
 use Rattle.utf8.specs.declared.utf8.Char.{Char}

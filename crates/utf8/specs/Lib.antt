@@ -14,15 +14,11 @@ pub mod WhiteSpace
 -- Statements: theorems and laws that a caller may use, and worked cases. Proved; nothing here is to be believed.
 -- characters read from bytes, by definitions that compute: `characters_read` says what each is
 pub mod Characters
--- the laws of texts, characters and boundaries
-pub mod Utf8Laws
 -- laws of tests
 pub mod Tests
 -- the classes of all bytes, spelt out
 pub mod ClassTable
 -- Arguments: the lemmas behind the statements.
--- the bytes of one character, both ways
-pub mod Bytes
 -- For speed only: how fast paths are told. Nothing of 01 rests on them.
 -- what a byte may be after the three before it
 pub mod Window

@@ -1,7 +1,7 @@
 -- `replay_measures::same_span` is safe: a scalar is measured only where both texts are UTF-8.
 use mathlib.Core.Path.{sym, ◌∙◌}
 use borrow.Author.Tests.{not-false}
-use Rattle.utf8.specs.Utf8Laws.{utf8_sound}
+use Rattle.utf8.proofs.Utf8Laws.{utf8_sound}
 use borrow.Author.Rules.{rules}
 use Rattle.replay_measures.proofs.same_span.Statement.{statement}
 use Rattle.replay_measures.proofs.same_span.Tie as tie

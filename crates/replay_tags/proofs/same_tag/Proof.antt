@@ -1,7 +1,7 @@
 -- `replay_tags::same_tag` is safe: the tag is searched only from a boundary.
 use mathlib.Core.Path.{sym, ◌∙◌}
 use borrow.Author.Tests.{not-false}
-use Rattle.utf8.specs.Utf8Laws.{is_boundary_lem}
+use Rattle.utf8.proofs.Utf8Laws.{is_boundary_lem}
 use borrow.Author.Rules.{rules}
 use Rattle.replay_tags.proofs.same_tag.Statement.{statement}
 use Rattle.replay_tags.proofs.same_tag.Tie as tie

@@ -1,7 +1,7 @@
 -- `replay_tags::verdict` is safe: tags are asked for only of a text that is UTF-8.
 use mathlib.Core.Path.{sym, ◌∙◌}
 use borrow.Author.Tests.{not-false}
-use Rattle.utf8.specs.Utf8Laws.{utf8_sound}
+use Rattle.utf8.proofs.Utf8Laws.{utf8_sound}
 use borrow.Author.Rules.{rules}
 use Rattle.replay_tags.proofs.verdict.Statement.{statement}
 use Rattle.replay_tags.proofs.verdict.Tie as tie

@@ -1,7 +1,6 @@
 -- `letters::letter::ends_word` meets its contract.
 use mathlib.Core.Path.{sym, ap, ◌∙◌}
 use Rattle.utf8.specs.Class.{is_continuation}
-use borrow.Author.Rules.{rules}
 use Rattle.letters.proofs.letter.ends_word.Goals as goal
 
 pub returns-then-is_continuation : goal.returns-then-is_continuation

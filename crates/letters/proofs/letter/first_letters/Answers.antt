@@ -1,8 +1,7 @@
-use Prim.Native.Nat.{◌-◌}
 use native.Mathlib.Omega.{arith}
 use lib.ListN.{length}
 use Rattle.letters.specs.Letters.{ChunkLetter}
-use Rattle.letters.proofs.Chunks.{not_differ, Chunked, chunked_none, chunked_more, chunked_all}
+use Rattle.letters.proofs.Chunks.{not_differ, chunked_none, chunked_more, chunked_all}
 use Rattle.letters.proofs.letter.first_letters.Goals as goal
 
 pub overflow_cast-first : goal.overflow_cast-first

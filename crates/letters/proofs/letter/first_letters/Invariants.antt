@@ -1,10 +1,9 @@
 -- `letters::letter::first_letters` meets its contract. The loop's invariant: of the bytes passed those before `first` are letters. The measure
 -- is what is left.
 use Prim.Native.Nat.{◌-◌}
-use native.Mathlib.Omega.{arith}
 use lib.ListN.{length}
 use Rattle.letters.specs.Letters.{ChunkLetter}
-use Rattle.letters.proofs.Chunks.{not_differ, Chunked, chunked_none, chunked_more, chunked_all}
+use Rattle.letters.proofs.Chunks.{Chunked}
 use Rattle.letters.proofs.letter.first_letters.Given as goal
 
 abbrev pub invariant-loop-i : goal.invariant-loop-i

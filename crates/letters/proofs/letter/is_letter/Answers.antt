@@ -2,7 +2,6 @@
 use mathlib.Core.Path.{sym}
 use mathlib.Core.Logic.{inl, inr}
 use native.Mathlib.Omega.{arith}
-use borrow.Author.Rules.{rules}
 use borrow.Author.Tests.{eqb-true, eqb-false, not-true}
 use Rattle.utf8.specs.Tests.{clash}
 use Rattle.letters.proofs.letter.is_letter.Goals as goal

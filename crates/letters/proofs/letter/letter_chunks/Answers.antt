@@ -1,8 +1,6 @@
 use mathlib.Core.Path.{◌≡◌, subst}
-use Prim.Native.Nat.{◌-◌}
 use native.Mathlib.Omega.{arith}
-use lib.ListN.{length}
-use Rattle.letters.specs.Letters.{MoreLetters, LetterRun}
+use Rattle.letters.specs.Letters.{MoreLetters}
 use Rattle.letters.proofs.Letters.{no_letters, run_more}
 use Rattle.letters.proofs.letter.letter_chunks.Goals as goal
 
@@ -29,9 +27,6 @@ loop-i-preserved c =
 
 pub returns : goal.returns
 returns c = c.loop-i.invariant
-
-pub overflow_add-t-5 : goal.overflow_add-t-5
-overflow_add-t-5 c = omega arith
 
 pub overflow_sub-src : goal.overflow_sub-src
 overflow_sub-src c = c.loop-i.invariant.in_source

@@ -1,9 +1,8 @@
 use mathlib.Core.Path.{subst}
-use Prim.Native.Nat.{ℕ, ◌+◌, ◌-◌}
+use Prim.Native.Nat.{ℕ, ◌+◌}
 use native.Mathlib.Omega.{arith}
-use borrow.Author.Tests.{not-false}
-use lib.ListN.{length, get_or}
-use Rattle.letters.specs.Letters.{LetterByte, LetterRun}
+use lib.ListN.{get_or}
+use Rattle.letters.specs.Letters.{LetterByte}
 use Rattle.letters.proofs.Letters.{letter_more}
 use Rattle.letters.proofs.letter.letter_run.Goals as goal
 
@@ -23,7 +22,7 @@ pub loop-i-preserved : goal.loop-i-preserved
 loop-i-preserved c =
     let w = c.loop-i in
     let a = c.args in
-    let l = c.is_letter.ensures (not-false _ c.if-not-is_letter.false) in
+    let l = c.is_letter.ensures c.if-not-is_letter.false in
     let m = subst (λ (b : ℕ). LetterByte (get_or a.src.now w.i 0) b (get_or a.src.now (w.i + 2) 0)) c.byte_at.ensures (subst (λ (b : ℕ). LetterByte (get_or a.src.now w.i 0) c.byte_at.result b) c.byte_at-in-loop-i.ensures l) in
     letter_more a.src.now a.value.now w.i w.invariant (omega arith) (omega arith) (c.if-a-value.false, m)
 
@@ -38,12 +37,6 @@ bounds-value-i c = omega arith
 
 pub overflow_add-i : goal.overflow_add-i
 overflow_add-i c = omega arith
-
-pub overflow_add-i-in-loop-i : goal.overflow_add-i-in-loop-i
-overflow_add-i-in-loop-i c = omega arith
-
-pub overflow_add-i-in-loop-i-2 : goal.overflow_add-i-in-loop-i-2
-overflow_add-i-in-loop-i-2 c = omega arith
 
 pub loop-i-smaller : goal.loop-i-smaller
 loop-i-smaller c = omega arith

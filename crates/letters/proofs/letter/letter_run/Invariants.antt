@@ -1,12 +1,7 @@
 -- `letters::letter::letter_run` meets its contract. The loop's invariant: the bytes passed are letters. The measure is what is left of the value.
---
-use mathlib.Core.Path.{subst}
-use Prim.Native.Nat.{ℕ, ◌+◌, ◌-◌}
-use native.Mathlib.Omega.{arith}
-use borrow.Author.Tests.{not-false}
-use lib.ListN.{length, get_or}
-use Rattle.letters.specs.Letters.{LetterByte, LetterRun}
-use Rattle.letters.proofs.Letters.{letter_more}
+use Prim.Native.Nat.{◌-◌}
+use lib.ListN.{length}
+use Rattle.letters.specs.Letters.{LetterRun}
 use Rattle.letters.proofs.letter.letter_run.Given as goal
 
 abbrev pub invariant-loop-i : goal.invariant-loop-i

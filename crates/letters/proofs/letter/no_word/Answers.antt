@@ -1,7 +1,6 @@
 -- `letters::letter::no_word` meets its contract.
 use mathlib.Core.Logic.{inl, inr}
 use Rattle.letters.proofs.Chunks.{not_same, not_up_to}
-use borrow.Author.Rules.{rules}
 use Rattle.letters.proofs.letter.no_word.Goals as goal
 
 pub returns : goal.returns

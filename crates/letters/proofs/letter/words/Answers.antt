@@ -1,6 +1,5 @@
 use mathlib.Core.Path.{sym, ◌∙◌}
 use native.Mathlib.Omega.{arith}
-use Rattle.letters.specs.Letters.{LetterRun}
 use Rattle.letters.proofs.Letters.{run_less, word_ends, no_word}
 use Rattle.letters.proofs.letter.words.Goals as goal
 

@@ -1,8 +1,5 @@
 -- `letters::letter::words` meets its contract. The loop's invariant: the bytes before `n` are letters. The measure is `n`.
-use mathlib.Core.Path.{sym, ◌∙◌}
-use native.Mathlib.Omega.{arith}
 use Rattle.letters.specs.Letters.{LetterRun}
-use Rattle.letters.proofs.Letters.{run_less, word_ends, no_word}
 use Rattle.letters.proofs.letter.words.Given as goal
 
 abbrev pub invariant-loop-n : goal.invariant-loop-n

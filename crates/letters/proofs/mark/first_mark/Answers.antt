@@ -1,8 +1,7 @@
-use Prim.Native.Nat.{◌-◌}
 use native.Mathlib.Omega.{arith}
 use lib.ListN.{length, get_or}
 use Rattle.letters.specs.Marks.{Ordinary}
-use Rattle.letters.proofs.Chunks.{not_same, Chunked, chunked_none, chunked_more, chunked_all}
+use Rattle.letters.proofs.Chunks.{not_same, chunked_none, chunked_more, chunked_all}
 use Rattle.letters.proofs.mark.first_mark.Goals as goal
 
 pub loop-i-preserved : goal.loop-i-preserved

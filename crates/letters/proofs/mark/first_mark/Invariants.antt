@@ -1,10 +1,9 @@
 -- `letters::mark::first_mark` meets its contract. The loop's invariant: of the bytes passed those before `first` are ordinary. The measure is
 -- what is left.
 use Prim.Native.Nat.{◌-◌}
-use native.Mathlib.Omega.{arith}
 use lib.ListN.{length, get_or}
 use Rattle.letters.specs.Marks.{Ordinary}
-use Rattle.letters.proofs.Chunks.{not_same, Chunked, chunked_none, chunked_more, chunked_all}
+use Rattle.letters.proofs.Chunks.{Chunked}
 use Rattle.letters.proofs.mark.first_mark.Given as goal
 
 abbrev pub invariant-loop-i : goal.invariant-loop-i

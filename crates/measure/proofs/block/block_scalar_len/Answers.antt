@@ -7,7 +7,7 @@ use native.Mathlib.Omega.{arith}
 use lib.ListN.{length, drop}
 use Rattle.utf8.specs.Utf8.{Utf8}
 use Rattle.utf8.specs.Characters.{codes}
-use Rattle.utf8.specs.Utf8Laws.{boundary_start}
+use Rattle.utf8.proofs.Utf8Laws.{boundary_start}
 use Rattle.measure.specs.Counted.{line_of}
 use Rattle.letters.proofs.Chunks.{part_is}
 use Rattle.measure.proofs.Read.{part_utf8}

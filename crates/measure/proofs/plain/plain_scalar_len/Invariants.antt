@@ -12,7 +12,7 @@ use borrow.Author.Tests.{not-true, not-false}
 use lib.ListN.{length, drop}
 use Rattle.utf8.specs.Utf8.{Utf8}
 use Rattle.utf8.specs.Characters.{codes}
-use Rattle.utf8.specs.Utf8Laws.{CharAt}
+use Rattle.utf8.proofs.Utf8Laws.{CharAt}
 use Rattle.measure.specs.Counted.{run_of}
 use Rattle.measure.proofs.Read.{char_read, part_utf8}
 use Rattle.measure.proofs.Matches.{Equal, equal_more, equal_all, equal_char, Matching, Comparing, run_read, run_fits, match_begins, match_at-end, match_run, compare_known, compare_other, compare_looked, match_equal, match_fails, match_letters}

@@ -6,7 +6,7 @@ use Prim.Native.Nat.{◌-◌}
 use native.Mathlib.Omega.{arith}
 use borrow.Author.Tests.{not-true, not-false}
 use lib.ListN.{length}
-use Rattle.utf8.specs.Utf8Laws.{CharAt}
+use Rattle.utf8.proofs.Utf8Laws.{CharAt}
 use Rattle.measure.proofs.Read.{char_read}
 use Rattle.measure.proofs.Runs.{CountingRun, run_begins, run_at_end, counting_stops, counting_goes_on, newline_now, newline_not_now}
 use Rattle.measure.proofs.run.white_space_run.Given as goal

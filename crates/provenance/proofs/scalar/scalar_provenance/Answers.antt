@@ -3,7 +3,7 @@ use mathlib.Core.Path.{sym, ◌∙◌}
 use borrow.Author.Tests.{not-true, not-false}
 use native.Mathlib.Omega.{arith}
 use lib.ListN.{length, length-drop}
-use Rattle.utf8.specs.Utf8Laws.{is_boundary_lem}
+use Rattle.utf8.proofs.Utf8Laws.{is_boundary_lem}
 use Rattle.letters.proofs.Chunks.{part_is}
 use Rattle.provenance.proofs.Starts.{cannot_start, can_start}
 use borrow.Author.Rules.{rules}

@@ -1,5 +1,4 @@
 -- `text::admission::admit_text` meets its contract.
-use borrow.Author.Rules.{rules}
 use mathlib.Core.Path.{sym, ◌∙◌}
 use borrow.Author.Tests.{lt-ltb, le-ltb}
 use Rattle.text.specs.Admission.{admission}

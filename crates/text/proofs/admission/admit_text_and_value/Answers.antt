@@ -1,9 +1,7 @@
 -- `text::admission::admit_text_and_value` meets its contract: the value's length first, then the text, then the value's bytes.
---
 use mathlib.Core.Path.{sym, ◌∙◌}
 use borrow.Author.Tests.{lt-ltb, le-ltb}
 use Rattle.text.proofs.Admit.{both_long, both_admitted, both_too_long, both_not_utf8}
-use borrow.Author.Rules.{rules}
 use Rattle.text.proofs.admission.admit_text_and_value.Goals as goal
 
 pub returns-then-value-gt-TEXT_LIMIT : goal.returns-then-value-gt-TEXT_LIMIT

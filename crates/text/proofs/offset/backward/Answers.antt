@@ -1,12 +1,12 @@
 use mathlib.Core.Path.{◌∙◌, ap}
-use Prim.Native.Nat.{ℕ, ◌≤◌}
+use Prim.Native.Nat.{ℕ}
 use native.Mathlib.Omega.{arith}
-use Rattle.text.specs.Offset.{cursor_at, Stands}
+use Rattle.text.specs.Offset.{cursor_at}
 use Rattle.text.specs.OffsetLaws.{stands_boundary, stands_previous, stands_cursor}
 use Rattle.text.proofs.offset.backward.Goals as goal
 
 pub loop-chars-init : goal.loop-chars-init
-loop-chars-init c = c.requires.1
+loop-chars-init c = (c.requires.stands, c.requires.target_le_chars)
 
 pub last_char-c-requires : goal.last_char-c-requires
 last_char-c-requires c = record { utf8 = c.requires.utf8; boundary = stands_boundary c.requires.utf8 c.loop-chars.invariant.0 }

@@ -1,6 +1,5 @@
 -- `text::offset::begun` meets its contract.
 use mathlib.Core.Path.{sym, ◌∙◌}
-use borrow.Author.Rules.{rules}
 use Rattle.text.proofs.offset.begun.Goals as goal
 
 pub returns-then-is_continuation : goal.returns-then-is_continuation

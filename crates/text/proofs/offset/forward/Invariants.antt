@@ -1,11 +1,7 @@
 -- `text::offset::forward` meets its contract. The loop's invariant: the cursor stands, not past the target. The measure is how many
 -- characters the target is away.
-use mathlib.Core.Path.{◌∙◌, ap}
-use Prim.Native.Nat.{ℕ, ◌-◌, ◌≤◌}
-use native.Mathlib.Omega.{arith}
-use Rattle.text.specs.Offset.{cursor_at, Stands}
-use Rattle.utf8.specs.Utf8Laws.{char_room}
-use Rattle.text.specs.OffsetLaws.{stands_boundary, stands_next, stands_cursor, stands_end}
+use Prim.Native.Nat.{◌-◌, ◌≤◌}
+use Rattle.text.specs.Offset.{Stands}
 use Rattle.text.proofs.offset.forward.Given as goal
 
 abbrev pub invariant-loop-chars : goal.invariant-loop-chars

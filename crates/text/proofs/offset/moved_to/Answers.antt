@@ -1,11 +1,9 @@
 -- `text::offset::moved_to` meets its contract: in ASCII an index is its own offset, else the cursor moves there.
---
 use mathlib.Core.Path.{◌≡◌, sym, ◌∙◌}
 use Prim.Native.Nat.{min}
 use native.Mathlib.Omega.{arith}
 use lib.ListN.{length}
 use Rattle.text.specs.OffsetLaws.{ascii_cursor}
-use borrow.Author.Rules.{rules}
 use Rattle.text.proofs.offset.moved_to.Goals as goal
 
 pub returns-then-target-text : goal.returns-then-target-text

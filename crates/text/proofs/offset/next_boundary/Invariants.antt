@@ -1,14 +1,8 @@
 -- `text::offset::next_boundary` meets its contract. The loop's invariant: no character begins on the way. The measure is what is left.
---
-use mathlib.Core.Path.{◌≡◌, refl, sym, ◌∙◌, ap}
-use mathlib.Core.Bool.{Bool, true}
-use mathlib.Core.List.{List}
-use Prim.Native.Nat.{ℕ, ◌+◌, ◌-◌, ◌≤◌, ◌<◌}
-use native.Mathlib.Omega.{arith}
-use lib.ListN.{length, take, get_or}
-use Rattle.utf8.specs.Class.{is_continuation}
+use mathlib.Core.Path.{◌≡◌}
+use Prim.Native.Nat.{◌-◌, ◌≤◌}
+use lib.ListN.{length, take}
 use Rattle.text.specs.Starts.{starts}
-use Rattle.text.proofs.Starts.{goes_on}
 use Rattle.text.proofs.offset.next_boundary.Given as goal
 
 abbrev pub invariant-loop-end : goal.invariant-loop-end

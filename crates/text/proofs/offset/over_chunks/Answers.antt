@@ -2,7 +2,7 @@ use mathlib.Core.Path.{◌≡◌, ◌∙◌, subst}
 use mathlib.Core.List.{List}
 use Prim.Native.Nat.{ℕ, ◌+◌, ◌-◌, ◌≤◌}
 use native.Mathlib.Omega.{arith}
-use lib.ListN.{length, take, drop, length-take}
+use lib.ListN.{take, drop, length-take}
 use Rattle.text.specs.Offset.{Stands}
 use Rattle.text.specs.Starts.{starts}
 use Rattle.text.specs.OffsetLaws.{stands_boundary}
@@ -14,7 +14,9 @@ few : (i : ℕ) (s : List ℕ) {r : ℕ} → r ≡ starts (take (i + 32 - i) (dr
 few i s e = let m = starts_most (take (i + 32 - i) (drop i s)) in let l = length-take (i + 32 - i) (drop i s) in omega arith
 
 pub loop-chars-init : goal.loop-chars-init
-loop-chars-init c = let p = c.requires in (p.1.1, (stands_boundary p.0 p.1.0).within, stands_starts p.0 p.1.0)
+loop-chars-init c =
+    let p = c.requires in
+    (p.chars_le_target, (stands_boundary p.utf8 p.stands).within, stands_starts p.utf8 p.stands)
 
 pub overflow_sub-target : goal.overflow_sub-target
 overflow_sub-target c = c.loop-chars.invariant.0

@@ -1,14 +1,9 @@
 -- `text::offset::over_chunks` meets its contract. The loop's invariant: `chars` characters begin before `offset`, and the target is not
 -- passed. The measure is what is left of the text.
-use mathlib.Core.Path.{◌≡◌, ◌∙◌, subst}
-use mathlib.Core.List.{List}
-use Prim.Native.Nat.{ℕ, ◌+◌, ◌-◌, ◌≤◌}
-use native.Mathlib.Omega.{arith}
-use lib.ListN.{length, take, drop, length-take}
-use Rattle.text.specs.Offset.{Stands}
+use mathlib.Core.Path.{◌≡◌}
+use Prim.Native.Nat.{◌-◌, ◌≤◌}
+use lib.ListN.{length, take}
 use Rattle.text.specs.Starts.{starts}
-use Rattle.text.specs.OffsetLaws.{stands_boundary}
-use Rattle.text.proofs.Starts.{starts_most, starts_part, stands_starts, starts_stands}
 use Rattle.text.proofs.offset.over_chunks.Given as goal
 
 abbrev pub invariant-loop-chars : goal.invariant-loop-chars

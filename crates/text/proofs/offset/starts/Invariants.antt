@@ -1,12 +1,9 @@
 -- `text::offset::starts` meets its contract. The loop's invariant: `n` characters begin among the bytes passed. The measure is what is
 -- left.
-use mathlib.Core.Path.{◌≡◌, refl, ◌∙◌, ap}
-use Prim.Native.Nat.{◌+◌, ◌-◌, ◌≤◌}
-use native.Mathlib.Omega.{arith}
-use lib.ListN.{length, take, length-take}
-use lib.Seq.{take_all}
+use mathlib.Core.Path.{◌≡◌}
+use Prim.Native.Nat.{◌-◌, ◌≤◌}
+use lib.ListN.{length, take}
 use Rattle.text.specs.Starts.{starts}
-use Rattle.text.proofs.Starts.{starts_next, starts_most}
 use Rattle.text.proofs.offset.starts.Given as goal
 
 abbrev pub invariant-loop-i : goal.invariant-loop-i

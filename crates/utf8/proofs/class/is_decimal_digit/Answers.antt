@@ -1,5 +1,4 @@
 -- `utf8::class::is_decimal_digit` meets its contract: one range.
-use borrow.Author.Rules.{rules}
 use Rattle.utf8.proofs.class.is_decimal_digit.Goals as goal
 
 pub returns : goal.returns

@@ -1,5 +1,4 @@
 -- `utf8::class::is_hex_digit` meets its contract: each return by the tests that lead to it.
-use borrow.Author.Rules.{rules}
 use Rattle.utf8.proofs.Asked.{or_yes, or_no}
 use Rattle.utf8.proofs.class.is_hex_digit.Goals as goal
 

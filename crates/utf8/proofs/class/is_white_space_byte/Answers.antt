@@ -1,6 +1,5 @@
 -- `utf8::class::is_white_space_byte` meets its contract: each return by the tests that lead to it.
 use mathlib.Core.Path.{refl}
-use borrow.Author.Rules.{rules}
 use borrow.Author.Tests.{eq-eqb, ne_eqb}
 use Rattle.utf8.proofs.Asked.{or_yes, or_no}
 use Rattle.utf8.proofs.class.is_white_space_byte.Goals as goal

@@ -1,7 +1,6 @@
 -- `utf8::utf8::char_len` meets its contract.
 use mathlib.Core.Path.{sym}
 use Rattle.utf8.proofs.Leads.{one_there, two_there, three_there, four_there}
-use borrow.Author.Rules.{rules}
 use Rattle.utf8.proofs.utf8.char_len.Goals as goal
 
 pub returns-then-lead-lt128 : goal.returns-then-lead-lt128

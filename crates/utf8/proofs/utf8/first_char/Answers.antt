@@ -2,8 +2,7 @@
 use mathlib.Core.Path.{sym, ◌∙◌}
 use lib.ListN.{drop_of_length-le}
 use Rattle.utf8.specs.Characters.{first_char}
-use Rattle.utf8.specs.Utf8Laws.{first_char_ascii, first_char_multi}
-use borrow.Author.Rules.{rules}
+use Rattle.utf8.proofs.Utf8Laws.{first_char_ascii, first_char_multi}
 use Rattle.utf8.proofs.utf8.first_char.Goals as goal
 
 pub returns-then-s-i : goal.returns-then-s-i

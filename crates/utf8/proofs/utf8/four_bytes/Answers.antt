@@ -2,7 +2,6 @@
 use mathlib.Core.Path.{sym, ◌∙◌}
 use Rattle.utf8.specs.Tests.{inside_low, is_inside, below_inside, above_inside}
 use Rattle.utf8.specs.Characters.{four_bytes}
-use borrow.Author.Rules.{rules}
 use Rattle.utf8.proofs.utf8.four_bytes.Goals as goal
 
 pub overflow_sub-code-then-is_continuation-3 : goal.overflow_sub-code-then-is_continuation-3

@@ -1,7 +1,5 @@
-use Prim.Native.Nat.{◌-◌, ◌≤◌}
 use native.Mathlib.Omega.{arith}
-use lib.ListN.{length}
-use Rattle.utf8.proofs.Ascii.{Met, met_start, met_on, met_end}
+use Rattle.utf8.proofs.Ascii.{met_start, met_on, met_end}
 use Rattle.utf8.proofs.utf8.is_ascii.Goals as goal
 
 pub loop-i-init : goal.loop-i-init

@@ -1,7 +1,6 @@
 -- `utf8::utf8::is_boundary` meets its contract: each return by the test that leads to it.
 use borrow.Author.Tests.{le-leb, lt-leb}
 use Rattle.utf8.specs.Boundary.{is_boundary}
-use borrow.Author.Rules.{rules}
 use Rattle.utf8.proofs.utf8.is_boundary.Goals as goal
 
 pub returns-then-i-s : goal.returns-then-i-s

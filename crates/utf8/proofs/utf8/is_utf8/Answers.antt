@@ -1,5 +1,4 @@
 -- `utf8::utf8::is_utf8` meets its contract.
-use borrow.Author.Rules.{rules}
 use mathlib.Core.Path.{sym}
 use Rattle.utf8.proofs.utf8.is_utf8.Goals as goal
 

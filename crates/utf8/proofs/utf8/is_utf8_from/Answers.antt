@@ -1,9 +1,6 @@
-use mathlib.Core.Path.{◌≡◌, refl, sym, ◌∙◌, ap}
-use Prim.Native.Nat.{◌-◌}
+use mathlib.Core.Path.{refl, sym, ◌∙◌, ap}
 use native.Mathlib.Omega.{arith}
-use lib.ListN.{length, drop}
-use Rattle.utf8.specs.Characters.{is_utf8}
-use Rattle.utf8.specs.Utf8Laws.{char_room, utf8_on, utf8_stops, utf8_end}
+use Rattle.utf8.proofs.Utf8Laws.{char_room, utf8_on, utf8_stops, utf8_end}
 use Rattle.utf8.specs.declared.utf8.Char.{Char}
 use Rattle.utf8.proofs.utf8.is_utf8_from.Goals as goal
 

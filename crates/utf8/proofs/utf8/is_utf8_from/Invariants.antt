@@ -1,12 +1,9 @@
 -- `utf8::utf8::is_utf8_from` meets its contract. The loop's invariant: the rest from `i` on is UTF-8 exactly when all from `from`
 -- on is. The measure is what is left.
-use mathlib.Core.Path.{◌≡◌, refl, sym, ◌∙◌, ap}
+use mathlib.Core.Path.{◌≡◌}
 use Prim.Native.Nat.{◌-◌}
-use native.Mathlib.Omega.{arith}
 use lib.ListN.{length, drop}
 use Rattle.utf8.specs.Characters.{is_utf8}
-use Rattle.utf8.specs.Utf8Laws.{char_room, utf8_on, utf8_stops, utf8_end}
-use Rattle.utf8.specs.declared.utf8.Char.{Char}
 use Rattle.utf8.proofs.utf8.is_utf8_from.Given as goal
 
 abbrev pub invariant-loop-i : goal.invariant-loop-i

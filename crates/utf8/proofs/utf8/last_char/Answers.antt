@@ -1,7 +1,5 @@
 use mathlib.Core.Path.{◌∙◌}
-use Prim.Native.Nat.{◌-◌, ◌≤◌, ◌<◌}
 use native.Mathlib.Omega.{arith}
-use lib.ListN.{take}
 use Rattle.utf8.specs.Characters.{codes, chars_after, last_of, last_char}
 use Rattle.utf8.proofs.Back.{ends_there, past_start, at_start}
 use Rattle.utf8.proofs.utf8.last_char.Goals as goal

@@ -1,11 +1,8 @@
 -- `utf8::utf8::last_char` meets its contract. The loop's invariant: `j` is in the character that ends at `i`. It stops at the one byte
 -- there that continues nothing. The measure is `j`.
-use mathlib.Core.Path.{◌∙◌}
 use Prim.Native.Nat.{◌-◌, ◌≤◌, ◌<◌}
-use native.Mathlib.Omega.{arith}
 use lib.ListN.{take}
-use Rattle.utf8.specs.Characters.{codes, chars_after, last_of, last_char}
-use Rattle.utf8.proofs.Back.{ends_there, past_start, at_start}
+use Rattle.utf8.specs.Characters.{last_char}
 use Rattle.utf8.proofs.utf8.last_char.Given as goal
 
 abbrev pub invariant-loop-j : goal.invariant-loop-j

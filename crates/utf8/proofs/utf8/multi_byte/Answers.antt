@@ -1,7 +1,6 @@
 -- `utf8::utf8::multi_byte` meets its contract: each return by the tests that lead to it.
 use borrow.Author.Tests.{lt-ltb, le-ltb}
 use Rattle.utf8.specs.Characters.{multi_byte}
-use borrow.Author.Rules.{rules}
 use Rattle.utf8.proofs.utf8.multi_byte.Goals as goal
 
 pub returns-then-a-lt192 : goal.returns-then-a-lt192

@@ -3,7 +3,6 @@ use mathlib.Core.Path.{sym, ◌∙◌}
 use borrow.Author.Tests.{lt-leb, le-leb}
 use Rattle.utf8.specs.Tests.{inside_low, is_inside, below_inside, above_inside}
 use Rattle.utf8.specs.Characters.{three_bytes}
-use borrow.Author.Rules.{rules}
 use Rattle.utf8.proofs.utf8.three_bytes.Goals as goal
 
 pub overflow_sub-code-then-is_continuation-2 : goal.overflow_sub-code-then-is_continuation-2

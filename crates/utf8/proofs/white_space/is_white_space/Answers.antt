@@ -1,10 +1,7 @@
-use borrow.Author.Rules.{rules}
-use mathlib.Core.Path.{◌≡◌, refl, sym, ◌∙◌}
-use Prim.Native.Nat.{◌-◌, ◌≤◌}
+use mathlib.Core.Path.{refl, sym, ◌∙◌}
 use native.Mathlib.Omega.{arith}
-use lib.ListN.{drop}
 use Rattle.utf8.specs.WhiteSpace.{white_space}
-use Rattle.utf8.proofs.Search.{find, find_here, find_on, find_none, spelt, white_space_found, none_between, blank_is, none_between_wide, none_past}
+use Rattle.utf8.proofs.Search.{find_here, find_on, find_none, spelt, white_space_found, none_between, blank_is, none_between_wide, none_past}
 use Rattle.utf8.proofs.white_space.is_white_space.Goals as goal
 
 pub returns-then-code-lt-NEXT_LINE : goal.returns-then-code-lt-NEXT_LINE

@@ -1,5 +1,4 @@
 -- `utf8::window::fits` meets its contract: a byte that is awaited, or one that begins a character.
-use borrow.Author.Rules.{rules}
 use mathlib.Core.Path.{sym, ◌∙◌}
 use Rattle.utf8.specs.Tests.{clash}
 use Rattle.utf8.proofs.Windows.{fits_more, fits_start}

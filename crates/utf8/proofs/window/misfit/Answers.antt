@@ -1,5 +1,4 @@
 -- `utf8::window::misfit` meets its contract.
-use borrow.Author.Rules.{rules}
 use native.Mathlib.Omega.{arith}
 use Rattle.utf8.proofs.window.misfit.Goals as goal
 

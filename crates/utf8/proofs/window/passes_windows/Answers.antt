@@ -1,9 +1,6 @@
-use mathlib.Core.Path.{◌≡◌, sym, ◌∙◌}
-use Prim.{tt}
-use Prim.Native.Nat.{ℕ, ◌-◌, ◌≤◌, ◌<◌}
+use mathlib.Core.Path.{sym, ◌∙◌}
 use native.Mathlib.Omega.{arith}
 use lib.ListN.{length}
-use Rattle.utf8.specs.Window.{FitsAt}
 use Rattle.utf8.specs.Tests.{clash}
 use Rattle.utf8.proofs.Windows.{fits_at, awaits_at, met_more, all_met, fit_utf8}
 use Rattle.utf8.proofs.window.passes_windows.Goals as goal

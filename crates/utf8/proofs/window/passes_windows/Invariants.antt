@@ -1,13 +1,9 @@
 -- `utf8::window::passes_windows` meets its contract. The loop's invariant: as long as nothing misfits, each byte met fits those before it. The
 -- measure is what is left.
-use mathlib.Core.Path.{◌≡◌, sym, ◌∙◌}
-use Prim.{tt}
+use mathlib.Core.Path.{◌≡◌}
 use Prim.Native.Nat.{ℕ, ◌-◌, ◌≤◌, ◌<◌}
-use native.Mathlib.Omega.{arith}
 use lib.ListN.{length}
 use Rattle.utf8.specs.Window.{FitsAt}
-use Rattle.utf8.specs.Tests.{clash}
-use Rattle.utf8.proofs.Windows.{fits_at, awaits_at, met_more, all_met, fit_utf8}
 use Rattle.utf8.proofs.window.passes_windows.Given as goal
 
 abbrev pub invariant-loop-i : goal.invariant-loop-i

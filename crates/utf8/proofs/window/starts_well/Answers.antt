@@ -1,6 +1,5 @@
 -- `utf8::window::starts_well` meets its contract.
 use mathlib.Core.Path.{sym}
-use borrow.Author.Rules.{rules}
 use Rattle.utf8.specs.Tests.{clash}
 use Rattle.utf8.proofs.window.starts_well.Goals as goal
 

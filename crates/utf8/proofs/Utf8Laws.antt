@@ -12,7 +12,7 @@ use Rattle.utf8.specs.Class.{is_continuation}
 use Rattle.utf8.specs.Utf8.{ScalarValue, ScalarValues, Utf8, encode, encode_all}
 use Rattle.utf8.specs.Characters.{Written, character, multi_byte, char_of, first_char, chars_after, codes, all_some, is_utf8, last_of, last_char}
 use Rattle.utf8.specs.Boundary.{Boundary, is_boundary}
-use Rattle.utf8.specs.Bytes.{Continue, encoding, written}
+use Rattle.utf8.proofs.Bytes.{Continue, encoding, written}
 use Rattle.utf8.specs.Tests.{clash, and_left, and_right}
 use Rattle.utf8.specs.declared.utf8.Char.{Char}
 
