@@ -13,7 +13,8 @@ use lib.ListN.{length, drop, replicate}
 use lib.Seq.{drop-append_seam}
 use Rattle.utf8.specs.Utf8.{is_ascii}
 use Rattle.utf8.specs.Tests.{clash, by_order}
-use Rattle.text.proofs.AdmissionLaws.{AdmittedText, admitted_text}
+use Rattle.text.specs.Admitted.{AdmittedText}
+use Rattle.text.proofs.AdmissionLaws.{admitted_text}
 use Rattle.text.specs.Admission.{text_limit, admission, admission_of_both}
 use Rattle.text.specs.declared.admission.Admission.{Admission}
 use Rattle.text.specs.declared.admission.Admission.TheVariants.{Admitted, TooLong, NotUtf8}

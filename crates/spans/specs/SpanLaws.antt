@@ -13,7 +13,7 @@ use Rattle.utf8.proofs.Utf8Laws.{char_at, boundary_splits, boundary_is}
 use Rattle.text.specs.Offset.{byte_offset}
 use Rattle.text.proofs.OffsetLaws.{offset_boundary}
 use Rattle.text.specs.Admission.{text_limit}
-use Rattle.text.proofs.AdmissionLaws.{AdmittedText}
+use Rattle.text.specs.Admitted.{AdmittedText}
 use Rattle.measure.specs.Length.{assumed}
 use Rattle.measure.specs.Scalar.{plain, scalar_measure}
 use Rattle.measure.specs.Plain.{reaches, plain_reach}
