@@ -24,7 +24,7 @@ use Rattle.schema.specs.Tag.{resolve_scalar}
 use Rattle.schema.specs.declared.plain.Resolved.{Resolved}
 use Rattle.measure.specs.Scalar.{plain, folded, scalar_measure}
 use Rattle.measure.specs.Measured.{SaysMeasured}
-use Rattle.measure.specs.MeasuredLaws.{scalar_says}
+use Rattle.measure.proofs.MeasuredLaws.{scalar_says}
 use Rattle.measure.specs.declared.length.Measure.{Measure}
 use Rattle.utf8.specs.Ascii.{Bytes}
 use Rattle.event.specs.Read.{events_limit, part, part_of, read_event}

@@ -17,7 +17,7 @@ use Rattle.text.specs.Admitted.{AdmittedText}
 use Rattle.measure.specs.Length.{assumed}
 use Rattle.measure.specs.Scalar.{plain, scalar_measure}
 use Rattle.measure.specs.Plain.{reaches, plain_reach}
-use Rattle.measure.specs.MeasuredLaws.{measured_boundary, scalar_reaches}
+use Rattle.measure.proofs.MeasuredLaws.{measured_boundary, scalar_reaches}
 use Rattle.measure.specs.declared.length.Measure.{Measure}
 use Rattle.event.specs.Read.{events_limit, part_of}
 use Rattle.event.specs.Proved.{TextPart, TextParts}
