@@ -71,7 +71,7 @@ first_head text events b p s zb zp l n =
     record {
       st = empty;
       held = record {
-        stack_size_lem = n;
+        stack_size_is = n;
         size_is = refl;
         pieces_size_is = refl;
         nodes_are = refl;
