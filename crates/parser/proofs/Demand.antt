@@ -13,7 +13,8 @@ use lib.ListN.{length, drop, replicate}
 use lib.Seq.{drop-append_seam}
 use Rattle.utf8.specs.Utf8.{is_ascii}
 use Rattle.utf8.specs.Tests.{clash, by_order}
-use Rattle.text.proofs.AdmissionLaws.{AdmittedText, admitted_text}
+use Rattle.text.specs.Admitted.{AdmittedText}
+use Rattle.text.proofs.AdmissionLaws.{admitted_text}
 use Rattle.text.specs.Admission.{text_limit, admission, admission_of_both}
 use Rattle.text.specs.declared.admission.Admission.{Admission}
 use Rattle.text.specs.declared.admission.Admission.TheVariants.{Admitted, TooLong, NotUtf8}
@@ -23,7 +24,7 @@ use Rattle.schema.specs.Tag.{resolve_scalar}
 use Rattle.schema.specs.declared.plain.Resolved.{Resolved}
 use Rattle.measure.specs.Scalar.{plain, folded, scalar_measure}
 use Rattle.measure.specs.Measured.{SaysMeasured}
-use Rattle.measure.specs.MeasuredLaws.{scalar_says}
+use Rattle.measure.proofs.MeasuredLaws.{scalar_says}
 use Rattle.measure.specs.declared.length.Measure.{Measure}
 use Rattle.utf8.specs.Ascii.{Bytes}
 use Rattle.event.specs.Read.{events_limit, part, part_of, read_event}
@@ -43,7 +44,7 @@ use Rattle.provenance.specs.Start.{list_from}
 use Rattle.provenance.specs.Layout.{flat, laid_by, piece_numbers, walked_number, answer_of, left_of, laid_pieces}
 use Rattle.provenance.specs.Demand.{Demand3}
 use Rattle.provenance.specs.Alike.{pieces_end, is_some}
-use Rattle.provenance.specs.DemandLaws.{listed_only, listed_if, demand3}
+use Rattle.provenance.proofs.DemandLaws.{listed_only, listed_if, demand3}
 use Rattle.provenance.specs.declared.step.Step.{Step}
 use Rattle.provenance.specs.declared.walk.Walked.{Walked}
 use Rattle.provenance.specs.declared.walk.Walked.TheVariants.{Listed, NoRoom, NoList}

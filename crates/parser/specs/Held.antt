@@ -5,7 +5,7 @@ use Rattle.utf8.specs.Utf8.{is_ascii}
 use Rattle.utf8.specs.Boundary.{Boundary}
 use Rattle.text.specs.Offset.{Stands}
 use Rattle.text.specs.Admission.{text_limit}
-use Rattle.text.proofs.AdmissionLaws.{AdmittedText}
+use Rattle.text.specs.Admitted.{AdmittedText}
 use Rattle.schema.specs.Record.{truth}
 use Rattle.event.specs.Read.{events_limit}
 use Rattle.event.specs.Proved.{EventWithin}

@@ -1,6 +1,6 @@
 // The call on one scalar. (01: the table's last lines; RS, RZ, B1. 02: (b).)
 ghost use Rattle.std.specs.Prelude.{◌≡◌, false, ◌≤◌, length};
-ghost use Rattle.text.proofs.AdmissionLaws.{AdmittedText};
+ghost use Rattle.text.specs.Admitted.{AdmittedText};
 ghost use Rattle.provenance.specs.Layout.{zeros};
 ghost use Rattle.records.specs.Record.{zero_node};
 ghost use Rattle.records.specs.Layout.{pieces_limit};

@@ -2,7 +2,7 @@
 ghost use Rattle.std.specs.Prelude.{◌≡◌, ◌+◌, ◌≤◌, length};
 ghost use Rattle.utf8.specs.Boundary.{Boundary};
 ghost use Rattle.text.specs.Admission.{text_limit};
-ghost use Rattle.text.proofs.AdmissionLaws.{AdmittedText};
+ghost use Rattle.text.specs.Admitted.{AdmittedText};
 ghost use Rattle.event.specs.Proved.{TextParts};
 ghost use Rattle.provenance.specs.Layout.{room, zeros, buffer_of};
 ghost use Rattle.spans.specs.Scalar.{step_past, scalar_start, scalar_from, list_at, suffix_of, tag_info, resolved_by};

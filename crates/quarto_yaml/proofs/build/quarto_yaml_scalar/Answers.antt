@@ -15,9 +15,9 @@ pub of_answer-answer-requires : goal.of_answer-answer-requires
 of_answer-answer-requires c =
     let a = c.args in
     told_fits 1 piece_limit
-    (scalar_outcome a.text.now a.index a.column a.style a.empty_span_is a.value.now a.pieces.now) _
+    (scalar_outcome a.text.now a.index a.column a.style a.empty_span a.value.now a.pieces.now) _
     (omega arith) (omega arith)
-    (scalar_bounded a.text.now (mark a.index a.column a.style a.empty_span_is) a.value.now (length a.pieces.now))
+    (scalar_bounded a.text.now (mark a.index a.column a.style a.empty_span) a.value.now (length a.pieces.now))
     c.scalar-r.ensures.answer
 
 pub returns : goal.returns
