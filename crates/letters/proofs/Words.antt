@@ -210,11 +210,11 @@ module _ (s val : List ℕ) (i n : ℕ) (l : Letters (drop i s) val n) (more : 0
   pub fits : {k : Char} → CharAt s i k → k.len ≤ n
   fits {k} a =
       by_order n k.len
-      (λ lt. absurd (clash (sym (a.continues (i + n) (omega arith) (omega arith)) ∙ sym (get_d_of (get_or-drop i s n 0)) ∙ l.whole more)))
+      (λ lt. absurd (clash (sym (a.continues (i + n) (omega arith) (omega arith)) ∙ sym (get_or_of (get_or-drop i s n 0)) ∙ l.whole more)))
       (λ le. le)
     where
-      get_d_of : get_or (drop i s) n 0 ≡ get_or s (i + n) 0 → is_continuation (get_or (drop i s) n 0) ≡ is_continuation (get_or s (i + n) 0)
-      get_d_of e = ap is_continuation e
+      get_or_of : get_or (drop i s) n 0 ≡ get_or s (i + n) 0 → is_continuation (get_or (drop i s) n 0) ≡ is_continuation (get_or s (i + n) 0)
+      get_or_of e = ap is_continuation e
 
   -- they are more than a blank
   pub after_blank : get_or s i 0 ≡ 32 → 1 < n

@@ -13,7 +13,8 @@ use lib.ListN.{length, drop, replicate}
 use lib.Seq.{drop-append_seam}
 use Rattle.utf8.specs.Utf8.{is_ascii}
 use Rattle.utf8.specs.Tests.{clash, by_order}
-use Rattle.text.specs.AdmissionLaws.{AdmittedText, admitted_text}
+use Rattle.text.specs.Admitted.{AdmittedText}
+use Rattle.text.proofs.AdmissionLaws.{admitted_text}
 use Rattle.text.specs.Admission.{text_limit, admission, admission_of_both}
 use Rattle.text.specs.declared.admission.Admission.{Admission}
 use Rattle.text.specs.declared.admission.Admission.TheVariants.{Admitted, TooLong, NotUtf8}
@@ -23,7 +24,7 @@ use Rattle.schema.specs.Tag.{resolve_scalar}
 use Rattle.schema.specs.declared.plain.Resolved.{Resolved}
 use Rattle.measure.specs.Scalar.{plain, folded, scalar_measure}
 use Rattle.measure.specs.Measured.{SaysMeasured}
-use Rattle.measure.specs.MeasuredLaws.{scalar_says}
+use Rattle.measure.proofs.MeasuredLaws.{scalar_says}
 use Rattle.measure.specs.declared.length.Measure.{Measure}
 use Rattle.utf8.specs.Ascii.{Bytes}
 use Rattle.event.specs.Read.{events_limit, part, part_of, read_event}
@@ -43,7 +44,7 @@ use Rattle.provenance.specs.Start.{list_from}
 use Rattle.provenance.specs.Layout.{flat, laid_by, piece_numbers, walked_number, answer_of, left_of, laid_pieces}
 use Rattle.provenance.specs.Demand.{Demand3}
 use Rattle.provenance.specs.Alike.{pieces_end, is_some}
-use Rattle.provenance.specs.DemandLaws.{listed_only, listed_if, demand3}
+use Rattle.provenance.proofs.DemandLaws.{listed_only, listed_if, demand3}
 use Rattle.provenance.specs.declared.step.Step.{Step}
 use Rattle.provenance.specs.declared.walk.Walked.{Walked}
 use Rattle.provenance.specs.declared.walk.Walked.TheVariants.{Listed, NoRoom, NoList}
@@ -66,7 +67,7 @@ use Rattle.records.specs.declared.record.PieceList.{PieceList}
 use Rattle.spans.specs.declared.open.Open.{Open}
 use Rattle.spans.specs.SpanLaws.{start_boundary, span_from, pieces_are, measured_list, measured_pieces_end}
 use Rattle.parser.proofs.Pieces.{filled_none}
-use Rattle.parser.proofs.EventRun.{go_is, stop_is, refused_not_built, in_order_lem, events_as_list, through-last, passing, StoppedAt, stopped_at}
+use Rattle.parser.proofs.EventRun.{go_is, stop_is, refused_not_built, in_order_lem, events_as_list, over_through, passing, StoppedAt, stopped_at}
 use Rattle.parser.proofs.Growths.{gate, past_root, past_room, Grown, run_grown}
 
 -- ---- the walk of a scalar starts where document 01 says
@@ -726,7 +727,7 @@ module _ (text events : List ℕ) (size pieces_size : ℕ) where
         let numbered : 0 + length n.before ≡ k = omega arith in
         building_runs text events size pieces_size n.events_short n.text_sound
         ∙ in_order_lem text events records_in most last i (λ f m st h. run_enough text events bytes records_in most f (length events) i m st h (omega arith)) (length events) 0 0 n.before empty stand (omega arith)
-        ∙ through-last text events records_in most last 0 0 n.before empty n.st n.let_through
+        ∙ over_through text events records_in most last 0 0 n.before empty n.st n.let_through
         ∙ run_stopped text events records_in most (length events) i (0 + length n.before) 8 n.st (omega arith) (omega arith) (ap (λ (e : Event). on_event text events records_in most e n.st) read ∙ stops)
         ∙ ap (refused 8) numbered
 

@@ -7,7 +7,7 @@ use Prim.Native.Nat.{ℕ, ◌+◌, ◌-◌, ◌/◌, ◌≤◌, ◌<◌, zero-le
 use native.Mathlib.Omega.{arith}
 use lib.Dec.{eqb, ltb}
 use lib.ListN.{length, replicate}
-use Rattle.text.specs.OffsetLaws.{stands_start}
+use Rattle.text.proofs.OffsetLaws.{stands_start}
 use Rattle.utf8.specs.Ascii.{Bytes}
 use Rattle.event.specs.Encode.{YamlEvent, sequence_start, sequence_end, mapping_start, mapping_end, scalar, alias, SoundEvent}
 use Rattle.event.proofs.EncodeLaws.{body_length, rest_length}
@@ -71,7 +71,7 @@ first_head text events b p s zb zp l n =
     record {
       st = empty;
       held = record {
-        stack_size_lem = n;
+        stack_size_is = n;
         size_is = refl;
         pieces_size_is = refl;
         nodes_are = refl;

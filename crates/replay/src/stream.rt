@@ -1,12 +1,14 @@
-// A list on standard input, a case at a time.
-ghost use Rattle.std.specs.Prelude.{◌≡◌, ◌≤◌, min, length};
+// A list that is read, as from standard input, a case at a time.
+ghost use Rattle.std.specs.Prelude.{◌≡◌, ◌≤◌, min, length, IfOk};
+ghost use Rattle.std.specs.Io.{ReadsAtMost};
 ghost use Rattle.replay.specs.Case.{part_of};
 ghost use Rattle.replay.specs.Stream.{Fits, case_len};
 
 use crate::case::{bytes_at, number_at};
-use libc::STDIN_FILENO;
+use std::io;
+use std::io::Read;
 
-// The bytes of `io::buffer`.
+// How many bytes are read away at a time.
 const CHUNK: usize = 4096;
 
 #[derive(Clone, Copy)]
@@ -27,52 +29,68 @@ fn least(a: usize, b: usize) -> usize
     if a < b { a } else { b }
 }
 
+// Reads until the buffer is full or the list ends, and answers how many bytes were read.
+fn read_full<R: Read>(list: &mut R, buffer: &mut [u8]) -> io::Result<usize>
+    ensures { ReadsAtMost result buffer.new }
+{
+    let mut done = 0;
+    while done < buffer.len() {
+        let read = list.read(&mut buffer[done..])?;
+        if read == 0 {
+            break;
+        }
+        done += read;
+    }
+    Ok(done)
+}
+
 // Reads some of the next `left` bytes away, and answers how many; 0 at the list's end.
-fn skip_some(left: usize) -> usize
-    ensures { result ≤ left }
+fn skip_some<R: Read>(list: &mut R, left: usize) -> io::Result<usize>
+    ensures { IfOk result (λ read. read ≤ left) }
 {
     let part = least(left, CHUNK);
-    let mut chunk = io::buffer();
-    least(io::read_full(STDIN_FILENO, &mut chunk[..part]), left)
+    let mut chunk = [0u8; CHUNK];
+    let read = read_full(list, &mut chunk[..part])?;
+    Ok(least(read, left))
 }
 
 // Reads `size` bytes of the list away, and answers whether they were there.
-fn skip(size: usize) -> bool {
+fn skip<R: Read>(list: &mut R, size: usize) -> io::Result<bool> {
     let mut left = size;
     while left > 0 {
-        let read = skip_some(left);
+        let read = skip_some(list, left)?;
         if read == 0 {
-            return false;
+            return Ok(false);
         }
         left -= read;
     }
-    true
+    Ok(true)
 }
 
 // Reads the next case of the list into the buffer.
-pub fn next_case(buffer: &mut [u8]) -> Next
-    ensures { Fits result (length buffer.new) }
+pub fn next_case<R: Read>(list: &mut R, buffer: &mut [u8]) -> io::Result<Next>
+    ensures { IfOk result (λ next. Fits next (length buffer.new)) }
 {
     let mut head = [0u8; 4];
-    let got = io::read_full(STDIN_FILENO, &mut head);
+    let got = read_full(list, &mut head)?;
     if got == 0 {
-        return Next::End;
+        return Ok(Next::End);
     }
     if got < 4 {
-        return Next::Broken;
+        return Ok(Next::Broken);
     }
     let size = number_at(&head, 0) as usize;
     if buffer.len() < size {
-        if skip(size) {
-            return Next::TooLarge;
+        if skip(list, size)? {
+            return Ok(Next::TooLarge);
         }
-        return Next::Broken;
+        return Ok(Next::Broken);
     }
-    let read = io::read_full(STDIN_FILENO, &mut buffer[..size]);
+    let read = read_full(list, &mut buffer[..size])?;
     if read < size {
-        return Next::Broken;
+        return Ok(Next::Broken);
     }
-    Next::Case(size)
+    Ok(Next::Case(size))
 }
 
 // How many bytes of the buffer are the case that was read into it; 0 where none was.

@@ -4,7 +4,7 @@ ghost use Rattle.replay.specs.Tally.{one_more, judged_of, verdict_of, counted_of
 
 use crate::case::{Case, PANICKED};
 use crate::stream::Next;
-use libc::STDOUT_FILENO;
+use std::io;
 
 // What one case came to.
 #[derive(Clone, Copy)]
@@ -127,20 +127,20 @@ pub fn after(mut t: Tally, next: Next, v: Verdict) -> Tally
     }
 }
 
-fn line(n: u64, what: &[u8]) {
-    io::print_decimal(STDOUT_FILENO, n);
-    io::write_all(STDOUT_FILENO, what);
+fn line(rt: &impl Print, n: u64, what: &str) -> io::Result<()> {
+    println!(rt; "{n} {what}")
 }
 
 // Prints the counts, and whether the list was read to its end.
-pub fn print(t: Tally) {
-    line(t.same, b" the same\n");
-    line(t.panicked, b" not answered by the original\n");
-    line(t.different, b" different\n");
+pub fn print(rt: &impl Print, t: Tally) -> io::Result<()> {
+    line(rt, t.same, "the same")?;
+    line(rt, t.panicked, "not answered by the original")?;
+    line(rt, t.different, "different")?;
     if t.passed > 0 {
-        line(t.passed, b" too large for this program\n");
+        line(rt, t.passed, "too large for this program")?;
     }
     if t.broken {
-        io::write_all(STDOUT_FILENO, b"the list is broken\n");
+        println!(rt; "the list is broken")?;
     }
+    Ok(())
 }

@@ -10,6 +10,7 @@ use replay::case::Case;
 use replay::tally::Verdict;
 use replay_accessors::matched::{Matched, entry, place};
 use replay_accessors::questions::{about, at_index};
+use std::io;
 
 // How far from the last child, or from the count of children, is asked.
 const LIMIT: usize = 3;
@@ -93,13 +94,17 @@ fn verdict(bytes: &[u8]) -> Verdict {
     replay::tally::verdict_of(case, replay::case::has_room(count), same)
 }
 
-fn main() {
-    let mut space = io::large_buffer();
+// The largest case that there is room for, in bytes.
+const SPACE: usize = 65536;
+
+fn main(rt: HostRuntime) -> io::Result<()> {
+    let mut list = rt.reader();
+    let mut space = vec![in rt.alloc(); 0u8; SPACE]?;
     let mut tally = replay::tally::START;
     while tally.left > 0 {
-        let next = replay::stream::next_case(&mut space);
+        let next = replay::stream::next_case(&mut list, &mut space)?;
         let v = verdict(replay::stream::read_case(&space, next));
         tally = replay::tally::after(tally, next, v);
     }
-    replay::tally::print(tally);
+    replay::tally::print(&rt, tally)
 }

@@ -8,6 +8,7 @@ ghost use Rattle.utf8.specs.Utf8.{Utf8, is_ascii};
 use replay::tally::Verdict;
 use text::admission::Admission;
 use text::offset::START;
+use std::io;
 
 // The events: a sequence start of 8 bytes, then the aliases, the marker's index behind tag and length, then a sequence end.
 const START_BYTES: usize = 8;
@@ -55,13 +56,17 @@ fn verdict(bytes: &[u8]) -> Verdict {
     replay::tally::judged(same_offsets(text, ascii, events, records))
 }
 
-fn main() {
-    let mut space = io::large_buffer();
+// The largest case that there is room for, in bytes.
+const SPACE: usize = 65536;
+
+fn main(rt: HostRuntime) -> io::Result<()> {
+    let mut list = rt.reader();
+    let mut space = vec![in rt.alloc(); 0u8; SPACE]?;
     let mut tally = replay::tally::START;
     while tally.left > 0 {
-        let next = replay::stream::next_case(&mut space);
+        let next = replay::stream::next_case(&mut list, &mut space)?;
         let v = verdict(replay::stream::read_case(&space, next));
         tally = replay::tally::after(tally, next, v);
     }
-    replay::tally::print(tally);
+    replay::tally::print(&rt, tally)
 }

@@ -6,6 +6,7 @@ use node::marker::{Scanned, scan_error};
 use replay::case::Case;
 use replay::tally::Verdict;
 use replay_accessors::matched::{DIFFERENT, Matched, START, is_whole, number};
+use std::io;
 
 const INDEX_BYTES: usize = 4;
 
@@ -50,13 +51,17 @@ fn verdict(bytes: &[u8]) -> Verdict {
     replay::tally::judged(same_errors(text, indices, case, list))
 }
 
-fn main() {
-    let mut space = io::large_buffer();
+// The largest case that there is room for, in bytes.
+const SPACE: usize = 65536;
+
+fn main(rt: HostRuntime) -> io::Result<()> {
+    let mut list = rt.reader();
+    let mut space = vec![in rt.alloc(); 0u8; SPACE]?;
     let mut tally = replay::tally::START;
     while tally.left > 0 {
-        let next = replay::stream::next_case(&mut space);
+        let next = replay::stream::next_case(&mut list, &mut space)?;
         let v = verdict(replay::stream::read_case(&space, next));
         tally = replay::tally::after(tally, next, v);
     }
-    replay::tally::print(tally);
+    replay::tally::print(&rt, tally)
 }

@@ -4,6 +4,7 @@
 ghost use Rattle.utf8.specs.Utf8.{Utf8};
 
 use replay::tally::Verdict;
+use std::io;
 
 // A record's bytes, and where its span start, its tag span and the length of its tag's suffix stand in them.
 const RECORD_BYTES: usize = 48;
@@ -64,13 +65,17 @@ fn verdict(bytes: &[u8]) -> Verdict {
     replay::tally::judged(same_tags(text, records))
 }
 
-fn main() {
-    let mut space = io::large_buffer();
+// The largest case that there is room for, in bytes.
+const SPACE: usize = 65536;
+
+fn main(rt: HostRuntime) -> io::Result<()> {
+    let mut list = rt.reader();
+    let mut space = vec![in rt.alloc(); 0u8; SPACE]?;
     let mut tally = replay::tally::START;
     while tally.left > 0 {
-        let next = replay::stream::next_case(&mut space);
+        let next = replay::stream::next_case(&mut list, &mut space)?;
         let v = verdict(replay::stream::read_case(&space, next));
         tally = replay::tally::after(tally, next, v);
     }
-    replay::tally::print(tally);
+    replay::tally::print(&rt, tally)
 }

@@ -4,6 +4,7 @@
 use parser::answer::Answer;
 use replay::case::Case;
 use replay::tally::Verdict;
+use std::io;
 
 // Whether the answer is what the case says is returned.
 fn same_answer(answer: Answer, case: Case) -> bool {
@@ -40,13 +41,17 @@ fn verdict(bytes: &[u8]) -> Verdict {
     replay::tally::verdict_of(case, replay::case::fits(case), same)
 }
 
-fn main() {
-    let mut space = io::large_buffer();
+// The largest case that there is room for, in bytes.
+const SPACE: usize = 65536;
+
+fn main(rt: HostRuntime) -> io::Result<()> {
+    let mut list = rt.reader();
+    let mut space = vec![in rt.alloc(); 0u8; SPACE]?;
     let mut tally = replay::tally::START;
     while tally.left > 0 {
-        let next = replay::stream::next_case(&mut space);
+        let next = replay::stream::next_case(&mut list, &mut space)?;
         let v = verdict(replay::stream::read_case(&space, next));
         tally = replay::tally::after(tally, next, v);
     }
-    replay::tally::print(tally);
+    replay::tally::print(&rt, tally)
 }

@@ -8,6 +8,7 @@ use parser::one::ScalarAnswer;
 use records::record::Node;
 use replay::case::Case;
 use replay::tally::Verdict;
+use std::io;
 
 // Where numbers of a record stand, in bytes. The payload of a real or a string names its place in the event bytes, which this call
 // does not have, and is left to `replay_schema`.
@@ -87,13 +88,17 @@ fn verdict(bytes: &[u8]) -> Verdict {
     replay::tally::verdict_of(case, replay::case::fits(case), same)
 }
 
-fn main() {
-    let mut space = io::large_buffer();
+// The largest case that there is room for, in bytes.
+const SPACE: usize = 65536;
+
+fn main(rt: HostRuntime) -> io::Result<()> {
+    let mut list = rt.reader();
+    let mut space = vec![in rt.alloc(); 0u8; SPACE]?;
     let mut tally = replay::tally::START;
     while tally.left > 0 {
-        let next = replay::stream::next_case(&mut space);
+        let next = replay::stream::next_case(&mut list, &mut space)?;
         let v = verdict(replay::stream::read_case(&space, next));
         tally = replay::tally::after(tally, next, v);
     }
-    replay::tally::print(tally);
+    replay::tally::print(&rt, tally)
 }

@@ -8,7 +8,7 @@ use Prim.Native.Nat.{ℕ}
 use lib.Dec.{eqb}
 use Rattle.utf8.specs.Ascii.{bytes, Bytes, same_bytes}
 use Rattle.schema.specs.Matcher.{nullable, derivative, accepts}
-use Rattle.schema.specs.Rows.{true_word, decimal, octal, hexadecimal, number, infinity, not_anumber}
+use Rattle.schema.specs.Rows.{true_word, decimal, octal, hexadecimal, number, infinity, not_a_number}
 use Rattle.schema.specs.Integer.{ten, eight, sixteen, integer_in, held}
 use Rattle.schema.specs.Standard.{Kind, null, bool, int, float, Row, table, Meaning, null_value, truth, integer, real, string, reads, first_match, standard}
 use Rattle.schema.specs.CoreSchema.{integer_or, beyond, limited, core_schema}
@@ -167,7 +167,7 @@ fitted-real false false false = refl
 
 pub tagged_float : (s : List ℕ) → cond (core_real s) Real BadValue ≡ tagged_as (bytes "float") s
 unfolding core_real tagged_as read_as table first_match same_bytes
-tagged_float s = fitted-real (accepts number s) (accepts infinity s) (accepts not_anumber s)
+tagged_float s = fitted-real (accepts number s) (accepts infinity s) (accepts not_a_number s)
 
 -- ---- booleans and nulls: what the schema reads, where it is of the kind
 no_integer_of_kind : (kind : ℕ) (other : Resolved) → eqb 3 kind ≡ false → of_kind other kind ≡ BadValue → (p : Parsed) → of_kind (integer_or p other) kind ≡ BadValue

@@ -1,7 +1,7 @@
 -- How the code finds a scalar's form: by an automaton over its bytes. A state stands for what the rows of the table still
 -- await after some bytes; `texts` has one such text for each state. A step over a byte is then the rows' derivatives, which
 -- is what the code's tables are asked to be (`Tables`), and a scalar's form is told by the state in which it ends.
-use Rattle.std.specs.Prelude.{ℕ, ◌-◌, ◌≤◌, ◌<◌, ◌≡◌, Bool, true, false, ◌||◌, cond, List, [], ◌∷◌, ◌++◌, map, eqb, length, get_or}
+use Rattle.std.specs.Prelude.{ℕ, ◌-◌, ◌≤◌, ◌<◌, ◌≡◌, Bool, ◌||◌, cond, List, [], ◌∷◌, ◌++◌, map, eqb, length, get_or}
 use Prim.Native.String.{String}
 use Rattle.utf8.specs.Class.{inside}
 use Rattle.utf8.specs.Ascii.{bytes}

@@ -1,7 +1,6 @@
 -- Regular expressions over bytes, and which byte lists each of them matches. `Matches` is the meaning that every other
 -- definition of the crate is held to: it mentions no scanner, and a reader can check it rule by rule.
 use Rattle.std.specs.Prelude.{ℕ, ◌≤◌, List, [], ◌∷◌, ◌++◌}
-use Rattle.std.proofs.Math.Decide.{ℕ_discrete}
 use Rattle.utf8.specs.Ascii.{bytes}
 use Prim.Native.String.{String}
 

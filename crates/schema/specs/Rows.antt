@@ -66,5 +66,5 @@ abbrev pub infinity : Regex
 infinity = seq (opt sign) (any_of (".inf" ∷ ".Inf" ∷ ".INF" ∷ []))
 
 -- \.nan | \.NaN | \.NAN
-abbrev pub not_anumber : Regex
-not_anumber = any_of (".nan" ∷ ".NaN" ∷ ".NAN" ∷ [])
+abbrev pub not_a_number : Regex
+not_a_number = any_of (".nan" ∷ ".NaN" ∷ ".NAN" ∷ [])

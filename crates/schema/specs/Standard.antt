@@ -5,7 +5,7 @@
 use Rattle.std.specs.Prelude.{ℕ, Bool, cond, List, [], ◌∷◌, ℤ}
 use Rattle.schema.specs.Regex.{Regex}
 use Rattle.schema.specs.Matcher.{accepts}
-use Rattle.schema.specs.Rows.{null_word, nothing, boolean, true_word, decimal, octal, hexadecimal, number, infinity, not_anumber}
+use Rattle.schema.specs.Rows.{null_word, nothing, boolean, true_word, decimal, octal, hexadecimal, number, infinity, not_a_number}
 use Rattle.schema.specs.Integer.{Base, ten, eight, sixteen, integer_in}
 
 -- what a row resolves to, by the name of its tag; an integer with its base
@@ -32,7 +32,7 @@ table =
     ∷ row hexadecimal (int sixteen)
     ∷ row number float
     ∷ row infinity float
-    ∷ row not_anumber float
+    ∷ row not_a_number float
     ∷ []
 
 -- what a scalar means by the standard; a real and a string stand in the scalar's own bytes

@@ -5,3 +5,7 @@ pub mod Admit
 pub mod Lent
 -- characters counted by the bytes they begin with
 pub mod Starts
+-- the laws of marker offsets
+pub mod OffsetLaws
+-- the laws of an admitted text
+pub mod AdmissionLaws

@@ -17,7 +17,7 @@ use Rattle.utf8.proofs.Bytes.{Continue, encoding}
 use Rattle.text.specs.Offset.{byte_offset, Stands}
 use Rattle.text.specs.Starts.{begun, starts}
 use Rattle.utf8.proofs.Utf8Laws.{place_at_lem, place_front, codes-encode_all, codes_scalars, encode_all_append, scalars_front}
-use Rattle.text.specs.OffsetLaws.{index_front}
+use Rattle.text.proofs.OffsetLaws.{index_front}
 use Rattle.utf8.specs.Tests.{clash}
 
 starts_append : (a b : List ℕ) → starts (a ++ b) ≡ starts a + starts b

@@ -2,8 +2,8 @@
 use mathlib.Core.Path.{sym, ◌∙◌}
 use native.Mathlib.Omega.{arith}
 use borrow.Author.Rules.{rules}
-use Rattle.text.specs.AdmissionLaws.{admitted_text, admitted_ascii}
-use Rattle.text.specs.OffsetLaws.{stands_start, cursor_stands}
+use Rattle.text.proofs.AdmissionLaws.{admitted_text, admitted_ascii}
+use Rattle.text.proofs.OffsetLaws.{stands_start, cursor_stands}
 use Rattle.node.specs.Marker.{scan_error}
 use Rattle.node.proofs.Parts.{cursor_offset, offset_few}
 use Rattle.node.proofs.marker.scan_error.Goals as goal

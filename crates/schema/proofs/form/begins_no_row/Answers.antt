@@ -1,7 +1,6 @@
 -- `schema::form::begins_no_row` meets its contract: range by range.
 use mathlib.Core.Path.{sym, ◌∙◌}
 use Rattle.schema.specs.Automaton.{begins_no_row}
-use borrow.Author.Rules.{rules}
 use Rattle.schema.proofs.form.begins_no_row.Goals as goal
 
 pub returns-then-is_between : goal.returns-then-is_between

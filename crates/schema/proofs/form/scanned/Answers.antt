@@ -1,5 +1,4 @@
 -- `schema::form::scanned` meets its contract: its tables are right, each by a computed test of the table as the code has it.
-use borrow.Author.Rules.{rules}
 use mathlib.Core.Path.{refl}
 use native.Mathlib.Decide.{ℕ_discrete}
 use Rattle.schema.specs.Matcher.{nullable, derivative}

@@ -1,5 +1,4 @@
 -- `schema::integer::decimal` meets its contract: by the first byte, a minus, a plus or neither.
-use borrow.Author.Rules.{rules}
 use mathlib.Core.Path.{◌∙◌, ap}
 use Rattle.schema.specs.Integer.{held}
 use Rattle.schema.proofs.Digits.{no_digits, after_minus, after_plus, no_sign}

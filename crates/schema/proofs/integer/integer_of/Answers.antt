@@ -1,5 +1,4 @@
 -- `schema::integer::integer_of` meets its contract: each arm reads the integer of its form.
-use borrow.Author.Rules.{rules}
 use mathlib.Core.Path.{◌∙◌, ap, sym}
 use Rattle.schema.specs.Form.{integer_of}
 use Rattle.schema.specs.declared.form.Form.{Form}

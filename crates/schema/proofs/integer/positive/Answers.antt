@@ -1,6 +1,5 @@
 -- `schema::integer::positive` meets its contract: what was gathered below zero is turned about, the lowest integer apart,
 -- which has no positive.
-use borrow.Author.Rules.{rules}
 use mathlib.Core.Path.{◌∙◌, sym}
 use Prim.Native.Nat.{ℕ, ◌^◌, ◌≤◌}
 use native.Mathlib.Nat.{le_of_lt}

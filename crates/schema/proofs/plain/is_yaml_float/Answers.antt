@@ -1,5 +1,4 @@
 -- `schema::plain::is_yaml_float` meets its contract: of the forms, a digit run and the three real rows are reals.
-use borrow.Author.Rules.{rules}
 use mathlib.Core.Path.{◌∙◌, ap, sym}
 use Rattle.schema.specs.Form.{real_form}
 use Rattle.schema.proofs.Forms.{core_real_lem}
@@ -9,4 +8,4 @@ pub returns : goal.returns
 returns c =
     c.real_form.ensures
     ∙ ap real_form c.form_of.ensures
-    ∙ sym (core_real_lem _ (λ k. (c.shared_slice_known-1.given k).fits))
+    ∙ sym (core_real_lem _ (λ k. (c.type_inv.value k).fits))

@@ -1,5 +1,4 @@
 -- `schema::plain::resolve_plain_scalar` meets its contract: what the form says, with the integer or without.
-use borrow.Author.Rules.{rules}
 use mathlib.Core.Path.{◌∙◌, ap, ap₂, sym}
 use Rattle.schema.specs.CoreSchema.{integer_or}
 use Rattle.schema.specs.Form.{integer_of, no_integer}

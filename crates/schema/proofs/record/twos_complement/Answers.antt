@@ -2,7 +2,7 @@
 -- is cast, so that the lowest integer needs no wider type.
 use mathlib.Core.Path.{◌≡◌, refl, ◌∙◌, ap, sym}
 use mathlib.Core.Bool.{true, false}
-use Prim.Native.Nat.{ℕ, suc, ◌+◌, ◌-◌, ◌^◌, ◌<◌}
+use Prim.Native.Nat.{ℕ, suc, ◌-◌, ◌^◌, ◌<◌}
 use native.Mathlib.Omega.{arith}
 use borrow.Author.Tests.{ltb-true}
 use lib.Dec.{T}
@@ -31,7 +31,6 @@ record Above (z : ℤ) : Type 0 where
 
 from_zero : (z : ℤ) → SFits w64 z → lt_z z (pos 0) ≡ false → Above z
 from_zero (pos a) f t = record { k = a; is = refl; low = f.sfits }
-
 from_zero (negsuc k) f t = absurd (let e : ◌≡◌ {A = ℕ} 0 1 = cc in omega arith)
 
 module _ (c : goal.Then-n-lt0) where

@@ -1,6 +1,5 @@
 -- `schema::tag::ofKind` meets its contract: by whether the kind's number is the tag's.
 use mathlib.Core.Path.{sym, ◌∙◌}
-use borrow.Author.Rules.{rules}
 use borrow.Author.Tests.{eq-eqb, ne_eqb}
 use Rattle.schema.proofs.tag.of_kind.Goals as goal
 

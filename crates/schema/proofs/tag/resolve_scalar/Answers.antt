@@ -1,5 +1,4 @@
 -- `schema::tag::resolve_scalar` meets its contract: a standard tag's name decides, and without one the style.
-use borrow.Author.Rules.{rules}
 use mathlib.Core.Path.{◌∙◌, ap, sym}
 use mathlib.Core.List.{List}
 use Prim.Native.Nat.{ℕ}

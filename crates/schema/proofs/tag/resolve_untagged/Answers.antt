@@ -1,5 +1,4 @@
 -- `schema::tag::resolve_untagged` meets its contract.
-use borrow.Author.Rules.{rules}
 use mathlib.Core.Path.{◌∙◌}
 use Rattle.schema.proofs.Tags.{when_plain, when_not_plain}
 use Rattle.schema.proofs.tag.resolve_untagged.Goals as goal

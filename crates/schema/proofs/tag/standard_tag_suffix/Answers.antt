@@ -1,8 +1,6 @@
 -- `schema::tag::standard_tag_suffix` meets its contract: its tests are the definition's.
-use borrow.Author.Rules.{rules}
 use mathlib.Core.Path.{◌≡◌, ◌∙◌, sym}
 use lib.ListN.{take}
-use lib.Seq.{length-take-le}
 use Rattle.utf8.specs.Ascii.{same_bytes}
 use Rattle.schema.specs.Tag.{standard_handle}
 use Rattle.schema.proofs.Tags.{told, by_handle, by_suffix, other_suffix, short_suffix, other_handle}

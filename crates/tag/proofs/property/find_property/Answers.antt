@@ -1,7 +1,7 @@
 use mathlib.Core.Path.{refl}
 use native.Mathlib.Omega.{arith}
 use Rattle.tag.proofs.TokenLaws.{LastToken, end_boundary, last_token}
-use Rattle.tag.proofs.Turn.{Searching, Turn, turn, tag_fits, tag_found, none_found, anchor_less, anchor_passed}
+use Rattle.tag.proofs.Turn.{Turn, turn, tag_fits, tag_found, none_found, anchor_less, anchor_passed}
 use Rattle.tag.proofs.property.find_property.Goals as goal
 use Rattle.tag.proofs.property.find_property.Goals.{After-back_over-start, After-byte_at-mark}
 

@@ -2,7 +2,7 @@
 use mathlib.Core.Path.{sym, ◌∙◌}
 use borrow.Author.Tests.{lt-ltb, le-ltb}
 use Rattle.text.specs.Admission.{admission}
-use Rattle.text.specs.OffsetLaws.{ascii_utf8}
+use Rattle.text.proofs.OffsetLaws.{ascii_utf8}
 use Rattle.text.proofs.admission.admit_text.Goals as goal
 
 pub returns-then-text-gt-TEXT_LIMIT : goal.returns-then-text-gt-TEXT_LIMIT

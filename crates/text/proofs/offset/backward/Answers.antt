@@ -2,7 +2,7 @@ use mathlib.Core.Path.{◌∙◌, ap}
 use Prim.Native.Nat.{ℕ}
 use native.Mathlib.Omega.{arith}
 use Rattle.text.specs.Offset.{cursor_at}
-use Rattle.text.specs.OffsetLaws.{stands_boundary, stands_previous, stands_cursor}
+use Rattle.text.proofs.OffsetLaws.{stands_boundary, stands_previous, stands_cursor}
 use Rattle.text.proofs.offset.backward.Goals as goal
 
 pub loop-chars-init : goal.loop-chars-init

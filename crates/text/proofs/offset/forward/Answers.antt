@@ -3,7 +3,7 @@ use Prim.Native.Nat.{ℕ}
 use native.Mathlib.Omega.{arith}
 use Rattle.text.specs.Offset.{cursor_at}
 use Rattle.utf8.proofs.Utf8Laws.{char_room}
-use Rattle.text.specs.OffsetLaws.{stands_boundary, stands_next, stands_cursor, stands_end}
+use Rattle.text.proofs.OffsetLaws.{stands_boundary, stands_next, stands_cursor, stands_end}
 use Rattle.text.proofs.offset.forward.Goals as goal
 
 pub over_chunks-near-requires : goal.over_chunks-near-requires

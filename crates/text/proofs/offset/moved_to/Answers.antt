@@ -3,7 +3,7 @@ use mathlib.Core.Path.{◌≡◌, sym, ◌∙◌}
 use Prim.Native.Nat.{min}
 use native.Mathlib.Omega.{arith}
 use lib.ListN.{length}
-use Rattle.text.specs.OffsetLaws.{ascii_cursor}
+use Rattle.text.proofs.OffsetLaws.{ascii_cursor}
 use Rattle.text.proofs.offset.moved_to.Goals as goal
 
 pub returns-then-target-text : goal.returns-then-target-text

@@ -5,7 +5,7 @@ use native.Mathlib.Omega.{arith}
 use lib.ListN.{take, drop, length-take}
 use Rattle.text.specs.Offset.{Stands}
 use Rattle.text.specs.Starts.{starts}
-use Rattle.text.specs.OffsetLaws.{stands_boundary}
+use Rattle.text.proofs.OffsetLaws.{stands_boundary}
 use Rattle.text.proofs.Starts.{starts_most, starts_part, stands_starts, starts_stands}
 use Rattle.text.proofs.offset.over_chunks.Goals as goal
 
