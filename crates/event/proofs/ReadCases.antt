@@ -1,11 +1,11 @@
 -- The definitions of `Read`, case by case, and that nothing they read ends past the body.
-use mathlib.Core.Path.{◌≡◌, refl, ◌∙◌, subst}
+use mathlib.Core.Path.{◌≡◌, refl, ◌∙◌}
 use mathlib.Core.Bool.{Bool, true, false, cond}
 use mathlib.Core.List.{List}
 use Prim.Native.Nat.{ℕ, ◌+◌, ◌≤◌, ◌<◌}
 use native.Mathlib.Omega.{arith}
-use borrow.Author.Tests.{lt-ltb, le-ltb, le-leb, lt-leb, ne_eqb, ltb-true, leb-true}
-use lib.Dec.{ltb, leb, eqb}
+use borrow.Author.Tests.{lt-ltb, le-ltb, le-leb, lt-leb, ne_eqb, leb-true}
+use lib.Dec.{leb, eqb}
 use lib.ListN.{length, get_or}
 use Rattle.utf8.specs.Characters.{is_utf8}
 use Rattle.event.specs.Number.{number_at}
@@ -13,9 +13,7 @@ use Rattle.event.specs.Read.{part, part_of, read_string, with_suffix, with_handl
 use Rattle.event.specs.declared.string.Part.{Part}
 use Rattle.event.specs.declared.string.Text.{Text}
 use Rattle.event.specs.declared.string.Text.TheVariants as text
-use Rattle.event.specs.declared.tag.YamlTag.{YamlTag}
 use Rattle.event.specs.declared.tag.YamlTag.TheVariants.{Absent}
-use Rattle.event.specs.declared.tag.TagRead.{TagRead}
 use Rattle.event.specs.declared.tag.TagRead.TheVariants as tag
 use Rattle.event.specs.declared.read.Event.TheVariants.{Malformed}
 
@@ -118,30 +116,3 @@ string_ends s i e =
     (λ u. by_test (is_utf8 (part_of s (part (i + 2) (number_at s i 2)))) _ _ (StringEnds e) (λ v. leb-true _ _ u) (λ v. tt))
     (λ u. tt))
     (λ t. tt)
-
-pub string_ended : (s : List ℕ) (i e : ℕ) (p : Part) → read_string s i e ≡ text.Valid p → p.at + p.len ≤ e
-string_ended s i e p q = subst (StringEnds e) q (string_ends s i e)
-
--- and so does a YAML tag
-abbrev pub TagEnds : ℕ → TagRead → Type 0
-TagEnds e (tag.Valid t n) = n ≤ e
-TagEnds e tag.Invalid = Unit {0}
-
-pub tag_ends : (s : List ℕ) (i e : ℕ) → TagEnds e (read_tag s i e)
-unfolding read_tag
-tag_ends s i e =
-    by_test (ltb i e) _ _ (TagEnds e)
-    (λ t. by_test (eqb (get_or s i 0) 0) _ _ (TagEnds e) (λ u. let h = ltb-true i e t in omega arith)
-    (λ u. by_test (eqb (get_or s i 0) 1) _ _ (TagEnds e) (λ v. handle (read_string s (i + 1) e)) (λ v. tt)))
-    (λ t. tt)
-  where
-    suffix : (h : Part) (r : Text) → StringEnds e r → TagEnds e (with_suffix h r)
-    suffix h (text.Valid x) k = k
-    suffix h text.Invalid k = tt
-
-    handle : (r : Text) → TagEnds e (with_handle s e r)
-    handle (text.Valid h) = suffix h (read_string s (h.at + h.len) e) (string_ends s (h.at + h.len) e)
-    handle text.Invalid = tt
-
-pub tag_ended : (s : List ℕ) (i e : ℕ) (t : YamlTag) (n : ℕ) → read_tag s i e ≡ tag.Valid t n → n ≤ e
-tag_ended s i e t n q = subst (TagEnds e) q (tag_ends s i e)

@@ -130,6 +130,7 @@ fn bare_event(kind: u8, index: u32, next: usize) -> Event
 }
 
 // The event of this kind whose body goes on after its marker index, at `at`, to `end`.
+#[tactic(auto, unfolding(crate::specs::Read::read_body))]
 fn read_body(events: &[u8], kind: u8, index: u32, at: usize, end: usize) -> Event
     requires at_le_end { at ≤ end }
     requires end_in_bounds { end ≤ length events.now }

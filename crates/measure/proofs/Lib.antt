@@ -1,4 +1,10 @@
--- Lemmas that serve the functions of `measure`, by subject.
+-- The laws that callers go by, and lemmas that serve the functions of `measure`, by subject.
+-- a length is within the text left; where it ends
+pub mod Laws
+-- what "measured" says, proved
+pub mod MeasuredLaws
+-- runs, and places of a text by the characters before them
+pub mod Places
 -- the character that was read at a place, and the part from there on
 pub mod Read
 -- a white-space run, character by character

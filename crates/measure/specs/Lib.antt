@@ -1,4 +1,4 @@
--- The definitions that the contracts of `measure` cite, in reading order, and the laws that callers go by.
+-- The definitions that the contracts of `measure` cite, in reading order. The laws that callers go by stand in proofs/.
 
 -- What it means: what contracts and theorems cite, from document 01 and the standards. To be believed.
 -- what a measure answers
@@ -14,17 +14,10 @@ pub mod Block
 -- the styles, and the choice by style, cut to the text left
 pub mod Scalar
 -- Statements: theorems and laws that a caller may use, and worked cases. Proved; nothing here is to be believed.
--- a length is within the text left; where it ends
-pub mod Laws
 -- what "measured" says, without the measures
 pub mod Measured
--- the same, proved
-pub mod MeasuredLaws
 -- worked cases, by computation
 pub mod Examples
 -- For speed only: how fast paths are told. Nothing of 01 rests on them.
 -- what the code counts in one pass
 pub mod Counted
--- Arguments: the lemmas behind the statements.
--- runs, and places of a text by the characters before them
-pub mod Places

@@ -1,6 +1,6 @@
 -- What "measured" says of a length (02, (b)), told without the measures: a plain scalar is measured exactly where every character of its
 -- value is matched in turn, and its span then ends after the last one that is equal; a quoted one exactly where a closing mark stands where
--- the rules say; a block always. `MeasuredLaws` proves it.
+-- the rules say; a block always. proofs/MeasuredLaws.antt proves it.
 use Rattle.std.specs.Prelude.{◌≡◌, ◌⊎◌, Bool, true, false, List, [], ◌∷◌, ◌++◌, ℕ, ◌+◌, ◌≤◌, ◌<◌, length, drop, get_or}
 use Rattle.utf8.specs.Characters.{codes}
 use Rattle.utf8.specs.Ascii.{single_quote, double_quote}

@@ -7,7 +7,7 @@ use lib.ListN.{length, take, drop, length-drop}
 use lib.Seq.{take_all}
 use Rattle.text.specs.Offset.{byte_offset, cursor_at}
 use Rattle.text.proofs.OffsetLaws.{offset_within}
-use Rattle.text.proofs.AdmissionLaws.{AdmittedText}
+use Rattle.text.specs.Admitted.{AdmittedText}
 use Rattle.text.specs.declared.offset.Cursor.{Cursor}
 
 -- the part from k to the end

@@ -5,7 +5,7 @@ use mathlib.Core.Bool.{Bool, true, false, cond}
 use mathlib.Core.Logic.{◌⊎◌, inl, inr}
 use mathlib.Core.List.{List, [], ◌∷◌, ◌++◌, append-nil, append_assoc}
 use mathlib.Core.Option.{Option, none, some}
-use Prim.Native.Nat.{ℕ, zero, ◌+◌, ◌-◌, ◌*◌, ◌≤◌, ◌<◌}
+use Prim.Native.Nat.{ℕ, ◌+◌, ◌-◌, ◌*◌, ◌≤◌, ◌<◌}
 use native.Mathlib.Omega.{arith}
 use borrow.Author.Tests.{lt-ltb, le-ltb, lt-leb, le-leb, ltb-true, ltb-false, leb-false, ne_eqb}
 use lib.Dec.{ltb, leb, eqb}
@@ -13,7 +13,8 @@ use lib.ListN.{length, drop, replicate}
 use lib.Seq.{drop-append_seam}
 use Rattle.utf8.specs.Utf8.{is_ascii}
 use Rattle.utf8.specs.Tests.{clash, by_order}
-use Rattle.text.proofs.AdmissionLaws.{AdmittedText, admitted_text}
+use Rattle.text.specs.Admitted.{AdmittedText}
+use Rattle.text.proofs.AdmissionLaws.{admitted_text}
 use Rattle.text.specs.Admission.{text_limit, admission, admission_of_both}
 use Rattle.text.specs.declared.admission.Admission.{Admission}
 use Rattle.text.specs.declared.admission.Admission.TheVariants.{Admitted, TooLong, NotUtf8}
@@ -23,7 +24,7 @@ use Rattle.schema.specs.Tag.{resolve_scalar}
 use Rattle.schema.specs.declared.plain.Resolved.{Resolved}
 use Rattle.measure.specs.Scalar.{plain, folded, scalar_measure}
 use Rattle.measure.specs.Measured.{SaysMeasured}
-use Rattle.measure.specs.MeasuredLaws.{scalar_says}
+use Rattle.measure.proofs.MeasuredLaws.{scalar_says}
 use Rattle.measure.specs.declared.length.Measure.{Measure}
 use Rattle.utf8.specs.Ascii.{Bytes}
 use Rattle.event.specs.Read.{events_limit, part, part_of, read_event}
@@ -43,7 +44,7 @@ use Rattle.provenance.specs.Start.{list_from}
 use Rattle.provenance.specs.Layout.{flat, laid_by, piece_numbers, walked_number, answer_of, left_of, laid_pieces}
 use Rattle.provenance.specs.Demand.{Demand3}
 use Rattle.provenance.specs.Alike.{pieces_end, is_some}
-use Rattle.provenance.specs.DemandLaws.{listed_only, listed_if, demand3}
+use Rattle.provenance.proofs.DemandLaws.{listed_only, listed_if, demand3}
 use Rattle.provenance.specs.declared.step.Step.{Step}
 use Rattle.provenance.specs.declared.walk.Walked.{Walked}
 use Rattle.provenance.specs.declared.walk.Walked.TheVariants.{Listed, NoRoom, NoList}
@@ -52,7 +53,7 @@ use Rattle.spans.specs.Scalar.{mark, start_at, scalar_at, walk_first, suffix_of,
 use Rattle.spans.specs.Collection.{awaits_value, closes}
 use Rattle.parser.specs.Machine.{State, empty, Next, go, stop, Outcome, built, refused, depth_limit, root_done, before_root, within_depth, within_room, completed, on_start, ended, on_end, on_alias, keeping}
 use Rattle.parser.specs.Machine.{scalar_kept, on_scalar, on_event, follow, ending, run, run_all}
-use Rattle.parser.specs.RunLaws.{stop_not_go, run_stopped, run_enough}
+use Rattle.parser.proofs.RunLaws.{stop_not_go, run_stopped, run_enough}
 use Rattle.parser.specs.EventRun.{reached, run_events, malformed, EventsAsList}
 use Rattle.records.specs.Layout.{record_room, piece_room}
 use Rattle.parser.specs.Call as call
@@ -64,9 +65,9 @@ use Rattle.records.specs.declared.record.TagInfo.{TagInfo}
 use Rattle.records.specs.declared.record.Node.{Node}
 use Rattle.records.specs.declared.record.PieceList.{PieceList}
 use Rattle.spans.specs.declared.open.Open.{Open}
-use Rattle.spans.specs.SpanLaws.{start_boundary, span_from, pieces_are, measured_list, measured_pieces_end}
+use Rattle.spans.proofs.SpanLaws.{start_boundary, span_from, pieces_are, measured_list, measured_pieces_end}
 use Rattle.parser.proofs.Pieces.{filled_none}
-use Rattle.parser.proofs.EventRun.{go_is, stop_is, refused_not_built, in_order_lem, events_as_list, through-last, passing, StoppedAt, stopped_at}
+use Rattle.parser.proofs.EventRun.{go_is, stop_is, refused_not_built, in_order_lem, events_as_list, over_through, passing, StoppedAt, stopped_at}
 use Rattle.parser.proofs.Growths.{gate, past_root, past_room, Grown, run_grown}
 
 -- ---- the walk of a scalar starts where document 01 says
@@ -726,7 +727,7 @@ module _ (text events : List ℕ) (size pieces_size : ℕ) where
         let numbered : 0 + length n.before ≡ k = omega arith in
         building_runs text events size pieces_size n.events_short n.text_sound
         ∙ in_order_lem text events records_in most last i (λ f m st h. run_enough text events bytes records_in most f (length events) i m st h (omega arith)) (length events) 0 0 n.before empty stand (omega arith)
-        ∙ through-last text events records_in most last 0 0 n.before empty n.st n.let_through
+        ∙ over_through text events records_in most last 0 0 n.before empty n.st n.let_through
         ∙ run_stopped text events records_in most (length events) i (0 + length n.before) 8 n.st (omega arith) (omega arith) (ap (λ (e : Event). on_event text events records_in most e n.st) read ∙ stops)
         ∙ ap (refused 8) numbered
 

@@ -24,9 +24,9 @@ use Rattle.event.proofs.ReadLaws.{sound_is_read, none_stands_malformed}
 use Rattle.event.specs.declared.read.Event.{Event}
 use Rattle.event.specs.declared.read.Event.TheVariants.{Malformed}
 use Rattle.parser.specs.Machine.{State, empty, Next, go, stop, Outcome, built, refused, on_event, next_place, ending, follow, run, run_all}
-use Rattle.parser.specs.RunLaws.{run_ended, run_on, run_stopped, stop_not_go}
+use Rattle.parser.proofs.RunLaws.{run_ended, run_on, run_stopped, stop_not_go}
 use Rattle.records.specs.declared.record.Node.{Node}
-use Rattle.parser.specs.Room.{next_placed}
+use Rattle.parser.proofs.Room.{next_placed}
 use Rattle.parser.specs.EventRun.{go_on, reached, run_events, malformed, EventsAsList, FaultyBytes}
 use Rattle.records.specs.Layout.{record_room, piece_room}
 use Rattle.parser.specs.Call.{building}
@@ -101,10 +101,10 @@ module _ (text events : List ℕ) (room piece_room : ℕ) where
   -- ---- what follows of a run over a list
 
   -- all are let through
-  pub through-last : (last : ℕ → State → Outcome) (i k : ℕ) (es : List YamlEvent) (st st' : State) → through i es st ≡ go st' → over last i k es st ≡ last (k + length es) st'
+  pub over_through : (last : ℕ → State → Outcome) (i k : ℕ) (es : List YamlEvent) (st st' : State) → through i es st ≡ go st' → over last i k es st ≡ last (k + length es) st'
   unfolding reached run_events
-  through-last last i k [] st st' e = let z : k ≡ k + 0 = omega arith in ap (last k) (go_is st st' e) ∙ ap (λ (n : ℕ). last n st') z
-  through-last last i k (x ∷ es) st st' e = by (step_of (placed i x) st) e (λ s h. through-last last (i + length (encode_event x)) (k + 1) es s st' h)
+  over_through last i k [] st st' e = let z : k ≡ k + 0 = omega arith in ap (last k) (go_is st st' e) ∙ ap (λ (n : ℕ). last n st') z
+  over_through last i k (x ∷ es) st st' e = by (step_of (placed i x) st) e (λ s h. over_through last (i + length (encode_event x)) (k + 1) es s st' h)
     where
       by : (n : Next) → go_on n (λ (s : State). through (i + length (encode_event x)) es s) ≡ go st'
           → ((s : State) → through (i + length (encode_event x)) es s ≡ go st' → over last (i + length (encode_event x)) (k + 1) es s ≡ last (k + 1 + length es) st')

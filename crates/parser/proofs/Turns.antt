@@ -84,7 +84,7 @@ module _ (text : List ℕ) (size pieces_size : ℕ) (st : State) (c : Counts) (s
   pub moved_cursor : (k : ℕ) (cur : Cursor) → cur ≡ cursor_at text k → Held text size pieces_size st (counts c.nodes c.depth c.used cur) s b p
   moved_cursor k cur e =
       record {
-        stack_size_lem = h.stack_size_lem;
+        stack_size_is = h.stack_size_is;
         size_is = h.size_is;
         pieces_size_is = h.pieces_size_is;
         nodes_are = h.nodes_are;
@@ -109,7 +109,7 @@ module _ (text : List ℕ) (size pieces_size : ℕ) (st : State) (c : Counts) (s
   unfolding completed
   pushed x s' b' l on len es lb eb =
       record {
-        stack_size_lem = len ∙ h.stack_size_lem;
+        stack_size_is = len ∙ h.stack_size_is;
         size_is = lb ∙ h.size_is;
         pieces_size_is = h.pieces_size_is;
         nodes_are = length-append st.nodes (x ∷ []) ∙ ap (λ (n : ℕ). n + 1) h.nodes_are;
@@ -128,7 +128,7 @@ module _ (text : List ℕ) (size pieces_size : ℕ) (st : State) (c : Counts) (s
 
   pub pushable : c.nodes < events_limit → c.nodes < record_room size → Pushable c s b
   pushable few l =
-      record { stack_size_lem = h.stack_size_lem; deep = h.deep; room = rw h.size_is l; few = few; below = h.below }
+      record { stack_size_is = h.stack_size_is; deep = h.deep; room = rw h.size_is l; few = few; below = h.below }
 
   -- ---- a collection starts
 
@@ -141,11 +141,11 @@ module _ (text : List ℕ) (size pieces_size : ℕ) (st : State) (c : Counts) (s
   unfolding on_start
   opened mapping index tag cur u e o x r l =
       let t : List ℕ = sets s (7 * c.depth) (frame_numbers (opening mapping cur.offset tag)) in
-      let long = h.stack_size_lem in
+      let long = h.stack_size_is in
       let on : open_of (c.depth + 1) t ≡ opening mapping cur.offset tag ∷ open_of c.depth s = open_push c.depth s (opening mapping cur.offset tag) (omega arith) x in
       rw (before_root_lem _ r, not_deep _ l) (
         record {
-          stack_size_lem = length-sets s (7 * c.depth) (frame_numbers (opening mapping cur.offset tag)) ∙ h.stack_size_lem;
+          stack_size_is = length-sets s (7 * c.depth) (frame_numbers (opening mapping cur.offset tag)) ∙ h.stack_size_is;
           size_is = h.size_is;
           pieces_size_is = h.pieces_size_is;
           nodes_are = h.nodes_are;
@@ -197,7 +197,7 @@ module _ (text : List ℕ) (size pieces_size : ℕ) (st : State) (c : Counts) (s
     pub popped : (k : ℕ) (cur : Cursor) → cur ≡ cursor_at text k → Held text size pieces_size outside (counts c.nodes (c.depth - 1) c.used cur) s b p
     popped k cur e =
         record {
-          stack_size_lem = h.stack_size_lem;
+          stack_size_is = h.stack_size_is;
           size_is = h.size_is;
           pieces_size_is = h.pieces_size_is;
           nodes_are = h.nodes_are;
@@ -225,8 +225,8 @@ module _ (text : List ℕ) (size pieces_size : ℕ) (st : State) (c : Counts) (s
   pub free_zero : free ≡ replicate (length free) 0
   free_zero = lent_zero pieces_size (4 * c.used) st.pieces p h.pieces_hold used_is h.pieces_size_is h.pieces_fit
 
-  pub free-length : length free ≡ pieces_size - 4 * c.used
-  free-length = lent_length pieces_size (4 * c.used) st.pieces p h.pieces_hold used_is h.pieces_size_is h.pieces_fit
+  pub free_len : length free ≡ pieces_size - 4 * c.used
+  free_len = lent_length pieces_size (4 * c.used) st.pieces p h.pieces_hold used_is h.pieces_size_is h.pieces_fit
 
   -- what the walk left there
   module _ (y : List ℕ) (len : length y ≡ pieces_size - 4 * c.used) where
@@ -265,7 +265,7 @@ module _ (text : List ℕ) (size pieces_size : ℕ) (st : State) (c : Counts) (s
         record {
           with_pieces_lem = record { nodes = st.nodes; opens = st.opens; pieces = st.pieces ++ ps };
           held = record {
-            stack_size_lem = h.stack_size_lem;
+            stack_size_is = h.stack_size_is;
             size_is = h.size_is;
             pieces_size_is = back_length pieces_size (4 * c.used) st.pieces p h.pieces_hold used_is h.pieces_size_is z y len;
             nodes_are = h.nodes_are;

@@ -1,7 +1,7 @@
 -- Demand 3 at the public calls, in document 01's terms: the marker index, the event that stands in the event bytes, the record and the piece
 -- numbers that are handed back. proofs/Demand.antt proves `ScalarDemand3` of `scalar` and `BuildDemand3` of `build`.
 use Rattle.std.specs.Prelude.{ℕ, zero, suc, ◌+◌, ◌-◌, ◌*◌, ◌≤◌, ◌<◌, ◌≡◌, ◌⊎◌, Bool, true, false, not, cond, List, [], ◌∷◌, ◌++◌, eqb, length, get_or, drop}
-use Rattle.text.proofs.AdmissionLaws.{AdmittedText}
+use Rattle.text.specs.Admitted.{AdmittedText}
 use Rattle.utf8.specs.Boundary.{Boundary}
 use Rattle.utf8.specs.Characters.{codes}
 use Rattle.schema.specs.Tag.{resolve_scalar}

@@ -5,7 +5,7 @@ use Rattle.utf8.specs.Utf8.{is_ascii}
 use Rattle.utf8.specs.Boundary.{Boundary}
 use Rattle.text.specs.Offset.{Stands}
 use Rattle.text.specs.Admission.{text_limit}
-use Rattle.text.proofs.AdmissionLaws.{AdmittedText}
+use Rattle.text.specs.Admitted.{AdmittedText}
 use Rattle.schema.specs.Record.{truth}
 use Rattle.event.specs.Read.{events_limit}
 use Rattle.event.specs.Proved.{EventWithin}
@@ -94,7 +94,7 @@ OnBoundaries text (o ∷ os) = Boundary text o.start × Boundary text o.first ×
 -- ---- the state
 
 pub record Held (text : List ℕ) (size pieces_size : ℕ) (st : State) (c : Counts) (s b p : List ℕ) : Type 0 where
-  pub stack_size_lem : length s ≡ stack_size
+  pub stack_size_is : length s ≡ stack_size
   pub size_is : length b ≡ size
   pub pieces_size_is : length p ≡ pieces_size
   pub nodes_are : length st.nodes ≡ c.nodes
@@ -146,7 +146,7 @@ ReadyBut text c s b = (p : List ℕ) × Ready text c s b p
 
 -- a node can be put: what `push_complete` asks for
 pub record Pushable (c : Counts) (s b : List ℕ) : Type 0 where
-  pub stack_size_lem : length s ≡ stack_size
+  pub stack_size_is : length s ≡ stack_size
   pub deep : c.depth ≤ depth_limit
   pub room : c.nodes < length b / record_width
   pub few : c.nodes < events_limit

@@ -50,7 +50,7 @@ fn next_place(e: Event) -> usize
 // All events in order, into buffers that are zero.
 fn fill(text: &[u8], ascii: bool, events: &[u8], records: &mut [u32], pieces: &mut [u32]) -> Answer
     requires given { Given text.now ascii × (length events.now ≤ events_limit) }
-    requires records_value { (records.old ≡ zeros (length records.old)) × (pieces.old ≡ zeros (length pieces.old)) × (length pieces.old ≤ pieces_limit) }
+    requires buffers_zero { (records.old ≡ zeros (length records.old)) × (pieces.old ≡ zeros (length pieces.old)) × (length pieces.old ≤ pieces_limit) }
     ensures { Fills text.now events.now records.old pieces.old result records.new pieces.new }
 {
     let mut stack = [0u32; STACK_SIZE];
@@ -114,7 +114,7 @@ fn fill_or_clear(
     pieces: &mut [u32],
 ) -> Answer
     requires given { Given text.now ascii × (length events.now ≤ events_limit) }
-    requires records_value { (records.old ≡ zeros (length records.old)) × (pieces.old ≡ zeros (length pieces.old)) }
+    requires buffers_zero { (records.old ≡ zeros (length records.old)) × (pieces.old ≡ zeros (length pieces.old)) }
     ensures { Settles text.now events.now records.old pieces.old result records.new pieces.new }
 {
     let n = usable(pieces.len());

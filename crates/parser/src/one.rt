@@ -1,6 +1,6 @@
 // The call on one scalar. (01: the table's last lines; RS, RZ, B1. 02: (b).)
 ghost use Rattle.std.specs.Prelude.{◌≡◌, false, ◌≤◌, length};
-ghost use Rattle.text.proofs.AdmissionLaws.{AdmittedText};
+ghost use Rattle.text.specs.Admitted.{AdmittedText};
 ghost use Rattle.provenance.specs.Layout.{zeros};
 ghost use Rattle.records.specs.Record.{zero_node};
 ghost use Rattle.records.specs.Layout.{pieces_limit};
@@ -94,7 +94,7 @@ fn one_scalar(
     pieces: &mut [u32],
 ) -> ScalarAnswer
     requires given { Given text.now ascii × AdmittedText value.now }
-    requires pieces_value { (pieces.old ≡ zeros (length pieces.old)) × (length pieces.old ≤ pieces_limit) }
+    requires pieces_zero { (pieces.old ≡ zeros (length pieces.old)) × (length pieces.old ≤ pieces_limit) }
     ensures { DeliveredScalar (length pieces.old) (one_scalar text.now m value.now (length pieces.old))
         (scalar_measured text.now m value.now) result pieces.new }
 {

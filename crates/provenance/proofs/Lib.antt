@@ -1,4 +1,4 @@
--- Lemmas that serve several functions, by subject.
+-- Lemmas that serve several functions, by subject, and the proof of demand 3.
 -- runs, as the loops go through them
 pub mod Runs
 -- escapes, as the code tells them
@@ -11,3 +11,11 @@ pub mod Starts
 pub mod Turn
 -- what the walk answers
 pub mod Walks
+-- demand 3, proved
+pub mod DemandLaws
+-- pieces
+pub mod PieceLaws
+-- a plain scalar that is measured: whether it has pieces, and where they end
+pub mod Measured
+-- the walk along a measured value
+pub mod MeasuredLaws

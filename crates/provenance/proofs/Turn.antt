@@ -18,8 +18,8 @@ use Rattle.provenance.specs.Writing.{four_at, put_piece, put_open, count_open, p
 use Rattle.utf8.specs.Tests.{by_order}
 use Rattle.provenance.specs.Escape.{EscapeReach}
 use Rattle.provenance.specs.StepLaws.{Fair}
-use Rattle.provenance.specs.PieceLaws.{closed_run, laid}
-use Rattle.provenance.specs.DemandLaws.{no_pieces}
+use Rattle.provenance.proofs.PieceLaws.{closed_run, laid}
+use Rattle.provenance.proofs.DemandLaws.{no_pieces}
 
 -- ---- the open run
 

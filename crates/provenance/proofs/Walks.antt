@@ -18,7 +18,7 @@ use Rattle.provenance.specs.Layout.{room, zeros, answer_of, buffer_of, pieces_if
 use Rattle.provenance.specs.Writing.{put_open, count_open, cleared_to, written_len}
 use Rattle.provenance.specs.StepLaws.{Fair, grammar_fair}
 use Rattle.provenance.specs.ReadingLaws.{reading_is_found, no_reading_found}
-use Rattle.provenance.specs.PieceLaws.{laid, laid_is}
+use Rattle.provenance.proofs.PieceLaws.{laid, laid_is}
 use Rattle.provenance.proofs.Turn.{Kept, Going, on_none, at_end, end_count, end_kept, clear_all}
 
 module _ (r : Rules) {reach : EscapeReach} (fair : FairTable r.escapes reach) (src val : List ℕ) (base m : ℕ) where
@@ -50,9 +50,9 @@ module _ (r : Rules) {reach : EscapeReach} (fair : FairTable r.escapes reach) (s
       reads : IsReading at (length val) 0 0 ts
       reads = (at_end reach at (length src) (length val) base m walk_fair buf s v from n h end).1
 
-      is_found_lem : result ≡ some (laid base base ts)
+      list_is : result ≡ some (laid base base ts)
       unfolding pieces_if
-      is_found_lem = ap (pieces_if base) (reading_is_found r fair src val ts reads) ∙ ap some (sym (laid_is at (length src) (length val) walk_fair base ts reads))
+      list_is = ap (pieces_if base) (reading_is_found r fair src val ts reads) ∙ ap some (sym (laid_is at (length src) (length val) walk_fair base ts reads))
 
       count_is : length (laid base base ts) ≡ count_open n from s
       count_is = end_count reach at (length src) (length val) base m walk_fair buf s v from n h end
@@ -66,7 +66,7 @@ module _ (r : Rules) {reach : EscapeReach} (fair : FairTable r.escapes reach) (s
         ends_listed le =
             let c : n' ≡ length (laid base base ts) = en ∙ sym count_is in
             let le' : length (laid base base ts) ≤ room m = omega arith in
-            (rw (is_found_lem, le-leb _ _ le') (ap Listed c), rw (is_found_lem, le-leb _ _ le') (eb ∙ kept_is.kept (omega arith)))
+            (rw (list_is, le-leb _ _ le') (ap Listed c), rw (list_is, le-leb _ _ le') (eb ∙ kept_is.kept (omega arith)))
 
         pub ends_full : room m < n' → (k : ℕ) (buf'' : List ℕ) → k ≡ written_len n' m → buf'' ≡ cleared_to k buf' → Ends NoRoom buf''
         unfolding answer_of buffer_of
@@ -75,4 +75,4 @@ module _ (r : Rules) {reach : EscapeReach} (fair : FairTable r.escapes reach) (s
             let lt' : room m < length (laid base base ts) = omega arith in
             let z : cleared_to k buf' ≡ zeros m =
             clear_all m (laid base base ts) buf' k (subst (λ (l : List ℕ). Kept m (laid base base ts) l) (sym eb) kept_is) (ek ∙ ap (λ (j : ℕ). written_len j m) c) in
-            (rw (is_found_lem, lt-leb _ _ lt'), rw (is_found_lem, lt-leb _ _ lt') (eb'' ∙ z))
+            (rw (list_is, lt-leb _ _ lt'), rw (list_is, lt-leb _ _ lt') (eb'' ∙ z))

@@ -46,8 +46,8 @@ pub record Digit (b : ℕ) : Type 0 where
   pub small : 70 < b → 97 ≤ b
   pub high : b ≤ 102
 
-pub hex_digit_lem : (b : ℕ) → is_hex_digit b ≡ true → Digit b
-hex_digit_lem b h =
+pub hex_digit : (b : ℕ) → is_hex_digit b ≡ true → Digit b
+hex_digit b h =
     or_cases (inside 48 57 b) _ h
     (λ e. let p = inside_is 48 57 b e in record { low = p.0; letter = λ q. absurd (omega arith); small = λ q. absurd (omega arith); high = omega arith })
     (λ h₂.
@@ -57,7 +57,7 @@ hex_digit_lem b h =
 
 pub digit_small : (b : ℕ) → is_hex_digit b ≡ true → hex_value b < 16
 digit_small b h =
-    let d = hex_digit_lem b h in
+    let d = hex_digit b h in
     by_order 57 b
     (λ p.
     by_order 70 b
@@ -204,7 +204,7 @@ unfolding digits_from Ascii
 from_ascii [] n c h = tt
 from_ascii (b ∷ bs) n c h =
     let p = cond_taken (is_hex_digit b) (digits_from (n * 16 + hex_value b) bs) none (some c) (none-ne-some c) h in
-    let d : b ≤ 102 = (hex_digit_lem b p.0).high in
+    let d : b ≤ 102 = (hex_digit b p.0).high in
     (omega arith, from_ascii bs (n * 16 + hex_value b) c p.1)
 
 digits_ascii : (l : List ℕ) (c : ℕ) → digits l ≡ some c → Ascii l

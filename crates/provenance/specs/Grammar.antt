@@ -3,7 +3,7 @@
 -- on. Nothing is left of the source at its end and past it.
 --
 -- The escape table and the facts of the style are parameters.
-use Rattle.std.specs.Prelude.{ℕ, Bool, true, false, ◌&&◌, ◌||◌, cond, List, [], ◌∷◌, ltb, leb, eqb, length, take, drop, get_or}
+use Rattle.std.specs.Prelude.{ℕ, Bool, ◌&&◌, ◌||◌, cond, List, [], ◌∷◌, ltb, leb, eqb, length, take, drop, get_or}
 use Rattle.utf8.specs.Ascii.{same_bytes, tab, newline, carriage_return}
 use Rattle.utf8.specs.Class.{is_white_space_byte}
 use Rattle.measure.specs.Scalar.{literal}

@@ -1,4 +1,4 @@
--- The definitions that the contracts of `provenance` cite, in reading order, and demand 3.
+-- The definitions that the contracts of `provenance` cite, in reading order, and what demand 3 says.
 
 -- What it means: what contracts and theorems cite, from document 01 and the standards. To be believed.
 -- white-space runs by bytes, and the blanks of a value
@@ -16,8 +16,6 @@ pub mod Start
 -- Statements: theorems and laws that a caller may use, and worked cases. Proved; nothing here is to be believed.
 -- demand 3
 pub mod Demand
--- demand 3, proved
-pub mod DemandLaws
 -- a reading is the only one, and is found just if there is one; the equations of the function that finds it
 pub mod ReadingLaws
 -- what a table of escapes is asked for, and that those of the styles are so
@@ -26,8 +24,6 @@ pub mod EscapeLaws
 pub mod Examples
 -- where the walk of a plain scalar goes along with its measure
 pub mod Alike
--- a plain scalar that is measured: whether it has pieces, and where they end
-pub mod Measured
 -- For speed only: how fast paths are told. Nothing of 01 rests on them.
 -- what the code counts of a run in one pass
 pub mod Counted
@@ -44,13 +40,9 @@ pub mod Tests
 pub mod RunLaws
 -- steps
 pub mod StepLaws
--- pieces
-pub mod PieceLaws
 -- the walk of a plain scalar, by what is left of its source and value
 pub mod PlainSteps
 -- runs by characters and by bytes
 pub mod PlainRuns
 -- along a run and an equal character
 pub mod AlikeLaws
--- along a value
-pub mod MeasuredLaws

@@ -124,10 +124,10 @@ module _ (column : ℕ) where
 
   -- ---- a break
 
-  break_step_lem : (src : List ℕ) (c : ℕ) (val : List ℕ) → is_break_byte c ≡ true → holds_newline (white_run src) ≡ true
+  break_step_is : (src : List ℕ) (c : ℕ) (val : List ℕ) → is_break_byte c ≡ true → holds_newline (white_run src) ≡ true
       → step (rules_of plain column) src (c ∷ val) ≡ paired (white_run src) (take (newlines_in (white_run src)) (blank_run (c ∷ val)))
   unfolding step break_step break_pair opens_break cut
-  break_step_lem src c val e h =
+  break_step_is src c val e h =
       rw (e, run_begins src h, newlines_held (white_run src), h) (either_pair (white_run src) (take (newlines_in (white_run src)) (blank_run (c ∷ val))) _)
 
   -- the run, and with it the blanks and newlines ys
@@ -136,7 +136,7 @@ module _ (column : ℕ) where
       → plain_taken src (c ∷ val) ≡ more_taken (length (white_run src)) (plain_taken (drop (length (white_run src)) src) (drop (length ys) (c ∷ val)))
   taken_break src c val ys e h w =
       let xs = white_run src in
-      let p : step (rules_of plain column) src (c ∷ val) ≡ paired xs ys = break_step_lem src c val e h ∙ ap (paired xs) w in
+      let p : step (rules_of plain column) src (c ∷ val) ≡ paired xs ys = break_step_is src c val e h ∙ ap (paired xs) w in
       by_answer (same_bytes xs ys)
       (λ s.
       let z : length xs ≡ length ys = ap length (same_true xs ys s) in

@@ -166,10 +166,10 @@ module _ (r : Rules) {reach : EscapeReach} (fair : FairTable r.escapes reach) (s
   step_other a b m h = (other_of a b (break_step r src val) (r.escapes src) (equal_step src val) m refl refl refl h).0
 
   -- past the value's end only by an escape
-  pub step_past_lem : (a b : ℕ) → 0 < length val → step r src val ≡ Replacement a b → length val < b
+  pub step_past : (a b : ℕ) → 0 < length val → step r src val ≡ Replacement a b → length val < b
       → (break_step r src val ≡ NoStep) × (escape_step r src ≡ Replacement a b)
   unfolding step
-  step_past_lem a b m h past = (other_of a b (break_step r src val) (r.escapes src) (equal_step src val) m refl refl refl h).1 past
+  step_past a b m h past = (other_of a b (break_step r src val) (r.escapes src) (equal_step src val) m refl refl refl h).1 past
 
 -- ---- a step function of two places: what it takes of L source bytes and len value bytes
 

@@ -74,6 +74,7 @@ fn encoded_len(code: u32) -> usize
 }
 
 // The content of a code: its character's bytes, 1 for a surrogate.
+#[tactic(auto, unfolding(crate::specs::Escape::code_content))]
 fn code_content(code: u32) -> usize
     requires { code < 0x1_0000 }
     ensures { result ≡ code_content (some code) }

@@ -1,5 +1,5 @@
 -- Where nodes and pieces stand in the two buffers (E2, E3, E4): one after the other from the front, and zeros past them.
-use Rattle.std.specs.Prelude.{ℕ, ◌-◌, ◌*◌, ◌/◌, min, List, [], ◌∷◌, ◌++◌, length, replicate}
+use Rattle.std.specs.Prelude.{ℕ, ◌*◌, ◌/◌, min, List}
 use Rattle.std.proofs.lemmas.List.Edits.{sets}
 use Rattle.records.specs.Record.{record_width, node_numbers}
 use Rattle.provenance.specs.Layout.{laid_by, piece_width}

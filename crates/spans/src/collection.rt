@@ -1,7 +1,7 @@
 // Where collections start and end, and their records. (01: Reading rules, Collection end; S2, S3, E2.)
 ghost use Rattle.std.specs.Prelude.{cond, ◌≡◌, ◌+◌, ◌-◌, ◌≤◌, ◌<◌, length};
 ghost use Rattle.utf8.specs.Boundary.{Boundary};
-ghost use Rattle.text.proofs.AdmissionLaws.{AdmittedText};
+ghost use Rattle.text.specs.Admitted.{AdmittedText};
 ghost use Rattle.text.specs.Admission.{text_limit};
 ghost use Rattle.event.specs.Read.{events_limit};
 ghost use Rattle.records.specs.Record.{extent};

@@ -2,7 +2,7 @@
 ghost use Rattle.std.specs.Prelude.{◌≡◌, ◌+◌, ◌≤◌, length};
 ghost use Rattle.utf8.specs.Boundary.{Boundary};
 ghost use Rattle.text.specs.Admission.{text_limit};
-ghost use Rattle.text.proofs.AdmissionLaws.{AdmittedText};
+ghost use Rattle.text.specs.Admitted.{AdmittedText};
 ghost use Rattle.event.specs.Proved.{TextParts};
 ghost use Rattle.provenance.specs.Layout.{room, zeros, buffer_of};
 ghost use Rattle.spans.specs.Scalar.{step_past, scalar_start, scalar_from, list_at, suffix_of, tag_info, resolved_by};
@@ -170,7 +170,7 @@ pub fn walk_scalar(
 ) -> Entry
     requires admitted_text { AdmittedText text.now × AdmittedText value.now }
     requires boundary { Boundary text.now start }
-    requires pieces_value { pieces.old ≡ zeros (length pieces.old) }
+    requires pieces_zero { pieces.old ≡ zeros (length pieces.old) }
     ensures value { result ≡ scalar_entry (room (length pieces.old)) text.now (scalar_from start m value.now place) tag resolved }
     ensures pieces_after { pieces.new ≡ buffer_of (length pieces.old) (list_at text.now (scalar_from start m value.now place)) }
 {
@@ -197,7 +197,7 @@ pub fn event_scalar(
     requires admitted_text { AdmittedText text.now }
     requires boundary { Boundary text.now at }
     requires event_fits { EventFits events.now e }
-    requires pieces_value { pieces.old ≡ zeros (length pieces.old) }
+    requires pieces_zero { pieces.old ≡ zeros (length pieces.old) }
     ensures value { result ≡ event_entry (room (length pieces.old)) text.now events.now at awaited e }
     ensures pieces_after { pieces.new ≡ buffer_of (length pieces.old) (list_at text.now (event_scalar text.now events.now at awaited e)) }
 {

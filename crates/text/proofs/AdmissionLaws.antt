@@ -1,4 +1,4 @@
--- What an admitted text is: within the limit, UTF-8, and ASCII where the answer says so.
+-- An admitted text is within the limit, UTF-8, and ASCII where the answer says so.
 use Rattle.std.specs.Prelude.{◌≡◌, refl, Bool, true, false, ◌&&◌, ◌||◌, cond, List, ℕ, ◌≤◌, length}
 use Rattle.std.proofs.Common.{ltb-false}
 use Rattle.utf8.specs.Utf8.{Utf8, is_ascii}
@@ -6,11 +6,8 @@ use Rattle.utf8.specs.Characters.{is_utf8}
 use Rattle.utf8.proofs.Utf8Laws.{utf8_sound}
 use Rattle.utf8.specs.Tests.{and_left, and_right}
 use Rattle.text.specs.Admission.{text_limit, is_too_long, admission, admission_of_both}
+use Rattle.text.specs.Admitted.{AdmittedText}
 use Rattle.text.specs.declared.admission.Admission.TheVariants.{Admitted, TooLong, NotUtf8}
-
-pub record AdmittedText (s : List ℕ) : Type 0 where
-  pub within : length s ≤ text_limit
-  pub utf8 : Utf8 s
 
 -- the tests that lead to an admission
 record Passed (l u a x : Bool) : Type 0 where

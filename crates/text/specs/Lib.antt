@@ -6,6 +6,8 @@ pub mod Offset
 -- the first two rows of the table
 pub mod Admission
 -- Statements: theorems and laws that a caller may use, and worked cases. Proved; nothing here is to be believed.
+-- what an admitted text is
+pub mod Admitted
 -- worked cases, K1 among them
 pub mod Examples
 -- For speed only: how fast paths are told. Nothing of 01 rests on them.

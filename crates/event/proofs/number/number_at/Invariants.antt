@@ -1,13 +1,8 @@
 -- `event::number::number_at` meets its contract. The loop's invariant: `n` is the number in the first `k` bytes. The measure is how many
 -- bytes are left.
-use mathlib.Core.Path.{◌≡◌, ◌∙◌, ap}
-use Prim.Native.Nat.{◌+◌, ◌-◌, ◌≤◌}
-use native.Mathlib.Numerals.{add-one}
-use native.Mathlib.Omega.{arith}
-use borrow.Author.Rules.{rules}
+use mathlib.Core.Path.{◌≡◌}
+use Prim.Native.Nat.{◌-◌, ◌≤◌}
 use Rattle.event.specs.Number.{number_at}
-use Rattle.utf8.specs.Ascii.{Bytes}
-use Rattle.event.proofs.NumberLaws.{number_grows}
 use Rattle.event.proofs.number.number_at.Given as goal
 
 abbrev pub invariant-loop-k : goal.invariant-loop-k

@@ -1,7 +1,6 @@
 -- `event::read::read_event` meets its contract: the frame is tested without a sum that could wrap.
 use mathlib.Core.Path.{sym}
 use native.Mathlib.Omega.{arith}
-use borrow.Author.Rules.{rules}
 use Rattle.event.proofs.ReadCases.{header_cut, body_past, body_short, framed}
 use Rattle.event.proofs.read.read_event.Goals as goal
 

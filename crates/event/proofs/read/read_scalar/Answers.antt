@@ -8,7 +8,8 @@ use lib.ListN.{get_or}
 use Rattle.event.specs.Number.{number_at}
 use Rattle.event.specs.Read.{with_value, read_scalar}
 use Rattle.event.specs.declared.tag.TagRead.TheVariants as tag
-use Rattle.event.proofs.ReadCases.{scalar_cut, scalar_style_unknown, scalar_flag_unknown, scalar_tagged, tag_ended}
+use Rattle.event.proofs.ReadCases.{scalar_cut, scalar_style_unknown, scalar_flag_unknown, scalar_tagged}
+use Rattle.event.proofs.ReadEnds.{tag_ended}
 use Rattle.event.proofs.read.read_scalar.Goals as goal
 use Rattle.event.proofs.read.read_scalar.Goals.{In-Valid}
 

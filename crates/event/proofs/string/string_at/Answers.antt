@@ -4,7 +4,6 @@ use mathlib.Core.Bool.{Bool, true, false, cond}
 use mathlib.Core.List.{List}
 use Prim.Native.Nat.{ℕ, ◌+◌, ◌-◌, ◌≤◌}
 use native.Mathlib.Omega.{arith}
-use borrow.Author.Rules.{rules}
 use Rattle.utf8.specs.Characters.{is_utf8}
 use Rattle.event.specs.Number.{number_at}
 use Rattle.event.specs.Read.{part, part_of, read_string}

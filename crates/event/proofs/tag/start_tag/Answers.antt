@@ -1,7 +1,6 @@
 -- `event::tag::start_tag` meets its contract: the tag, then where it ends.
 use mathlib.Core.Path.{sym, ◌∙◌, ap}
 use borrow.Author.Tests.{eq-eqb, ne_eqb}
-use borrow.Author.Rules.{rules}
 use Rattle.event.specs.Read.{whole_tag, read_start_tag}
 use Rattle.event.proofs.tag.start_tag.Goals as goal
 

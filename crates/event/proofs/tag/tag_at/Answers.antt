@@ -2,10 +2,10 @@
 use mathlib.Core.Path.{◌≡◌, refl, sym, ◌∙◌, ap}
 use Prim.Native.Nat.{◌+◌, ◌≤◌}
 use native.Mathlib.Omega.{arith}
-use borrow.Author.Rules.{rules}
 use lib.ListN.{get_or}
 use Rattle.event.specs.Read.{with_handle, with_suffix, read_string, read_tag}
-use Rattle.event.proofs.ReadCases.{tag_cut, tag_absent, tag_present, tag_with_suffix, tag_flag_unknown, string_ended}
+use Rattle.event.proofs.ReadCases.{tag_cut, tag_absent, tag_present, tag_with_suffix, tag_flag_unknown}
+use Rattle.event.proofs.ReadEnds.{string_ended}
 use Rattle.event.proofs.tag.tag_at.Goals as goal
 use Rattle.event.proofs.tag.tag_at.Goals.{In-Valid}
 
@@ -68,8 +68,8 @@ pub overflow_add-result-2 : goal.overflow_add-result-2
 overflow_add-result-2 c =
     let given = c.args in
     let h = c.in-Valid.handle in
-    let x = c.in-Valid-string_at.given in
-    let ends = string_ended given.events.now (h.at + h.len) given.end x.0.0 (sym c.string_at-2.ensures ∙ x.1) in
+    let x = c.in-Valid-string_at in
+    let ends = string_ended given.events.now (h.at + h.len) given.end x.suffix (sym c.string_at-2.ensures ∙ x.is) in
     omega arith
 
 pub returns : goal.returns

@@ -1,19 +1,17 @@
-use borrow.Author.Rules.{rules}
 use mathlib.Core.Path.{◌≡◌, ◌∙◌, ap}
-use mathlib.Core.Logic.{⊎_elim}
 use mathlib.Core.List.{List}
-use Prim.Native.Nat.{ℕ, ◌-◌}
+use Prim.Native.Nat.{ℕ}
 use native.Mathlib.Omega.{arith}
-use lib.ListN.{length, drop}
+use lib.ListN.{drop}
 use Rattle.utf8.specs.Utf8.{Utf8}
 use Rattle.utf8.specs.Characters.{codes}
 use Rattle.utf8.proofs.Utf8Laws.{boundary_start}
 use Rattle.measure.specs.Counted.{line_of}
 use Rattle.letters.proofs.Chunks.{part_is}
 use Rattle.measure.proofs.Read.{part_utf8}
-use Rattle.measure.proofs.Blocks.{Measuring, Fitting, line_fits, block_begins, block_at-end, block_ends, block_blank, block_content}
+use Rattle.measure.proofs.Blocks.{Fitting, line_fits, block_begins, block_at-end, block_ends, block_blank, block_content}
 use Rattle.measure.proofs.block.block_scalar_len.Goals as goal
-use Rattle.measure.proofs.block.block_scalar_len.Goals.{After-first_line-line, Start}
+use Rattle.measure.proofs.block.block_scalar_len.Goals.{After-first_line-line, then-line-gt0+else-line-column, else-line-gt0}
 
 -- a line was read; what stands there
 module _ (c : After-first_line-line) where
@@ -64,9 +62,11 @@ pub loop-at-preserved : goal.loop-at-preserved
 loop-at-preserved c =
     let r = c.loop-at.invariant in
     let h = c.loop-at-test.true in
-    ⊎_elim (λ w. rw w.4 (block_content (rest_utf8 (goal.at.loop-at-preserved c).After-first_line-line) r h (line_here (goal.at.loop-at-preserved c).After-first_line-line) w.0.taken w.2.left))
-    (λ w. rw w.1 (block_blank (rest_utf8 (goal.at.loop-at-preserved c).After-first_line-line) r h (line_here (goal.at.loop-at-preserved c).After-first_line-line) w.0.left))
-    c.if-line-gt0.branch
+    let at = (goal.at.loop-at-preserved c).After-first_line-line in
+    elim c.if-line-gt0.branch [
+      | then-line-gt0+else-line-column w ↦ rw w.end-is (block_content (rest_utf8 at) r h (line_here at) w.if-line-gt0.true w.if-line-column.false)
+      | else-line-gt0 w ↦ rw w.end-is (block_blank (rest_utf8 at) r h (line_here at) w.if-line-gt0.false)
+    ]
 
 pub returns : goal.returns
 returns c = block_at-end c.loop-at.invariant c.loop-at-test.false

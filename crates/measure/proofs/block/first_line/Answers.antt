@@ -1,10 +1,8 @@
 use mathlib.Core.Path.{sym, ◌∙◌}
-use Prim.Native.Nat.{◌-◌}
 use native.Mathlib.Omega.{arith}
-use lib.ListN.{length}
 use Rattle.utf8.proofs.Utf8Laws.{CharAt}
 use Rattle.measure.proofs.Read.{char_read}
-use Rattle.measure.proofs.Line.{CountingLine, line_begins, line_at_end, line_stops, line_leads, line_spaces, line_goes_on, line_letters}
+use Rattle.measure.proofs.Line.{line_begins, line_at_end, line_stops, line_leads, line_spaces, line_goes_on, line_letters}
 use Rattle.measure.proofs.block.first_line.Goals as goal
 use Rattle.measure.proofs.block.first_line.Goals.{After-first_char-c}
 

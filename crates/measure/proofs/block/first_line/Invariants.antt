@@ -1,12 +1,8 @@
 -- `measure::block::first_line` meets its contract. The loop's invariant: what was counted and the line of the rest are the line of the
 -- whole; as long as nothing but white space was met, all of it leads. The measure is what is left.
-use mathlib.Core.Path.{sym, ◌∙◌}
 use Prim.Native.Nat.{◌-◌}
-use native.Mathlib.Omega.{arith}
 use lib.ListN.{length}
-use Rattle.utf8.proofs.Utf8Laws.{CharAt}
-use Rattle.measure.proofs.Read.{char_read}
-use Rattle.measure.proofs.Line.{CountingLine, line_begins, line_at_end, line_stops, line_leads, line_spaces, line_goes_on, line_letters}
+use Rattle.measure.proofs.Line.{CountingLine}
 use Rattle.measure.proofs.block.first_line.Given as goal
 
 abbrev pub invariant-loop-len : goal.invariant-loop-len

@@ -1,5 +1,4 @@
 -- `measure::plain::has_byte` meets its contract: a byte past the end is none.
-use borrow.Author.Rules.{rules}
 use borrow.Author.Tests.{lt-ltb, le-ltb}
 use Rattle.measure.specs.Counted.{has_byte}
 use Rattle.measure.proofs.plain.has_byte.Goals as goal

@@ -1,5 +1,4 @@
 -- `measure::quoted::quoted_or_value_len` meets its contract: each answer of the measure has its arm.
-use borrow.Author.Rules.{rules}
 use mathlib.Core.Path.{sym, ◌∙◌, ap}
 use lib.ListN.{length}
 use Rattle.measure.specs.Quoted.{found_or, quoted_measure}

@@ -1,32 +1,21 @@
 use mathlib.Core.Path.{◌≡◌, sym, ◌∙◌, ap}
-use mathlib.Core.List.{List}
-use Prim.Native.Nat.{ℕ, ◌+◌, ◌-◌}
+use Prim.Native.Nat.{◌+◌}
 use native.Mathlib.Omega.{arith}
-use lib.ListN.{length, drop, get_or, length-drop}
-use Rattle.measure.specs.Quoted.{further, passed_together, to_closing, quoted_len}
+use lib.ListN.{drop, get_or, length-drop}
+use Rattle.measure.specs.Quoted.{passed_together}
 use Rattle.letters.specs.Marks.{Unmarked}
 use Rattle.letters.proofs.Chunks.{part_is}
 use Rattle.measure.proofs.Closing.{none_opens, other_opens, opens, passes_two, closes, passes_one, never_closes, passes_many}
 use Rattle.measure.proofs.quoted.quoted_scalar_len.Goals as goal
-use Rattle.measure.proofs.quoted.quoted_scalar_len.Goals.{After-passed_together, After-unmarked-i, At-loop-i, Start}
+use Rattle.measure.proofs.quoted.quoted_scalar_len.Goals.{After-passed_together, After-unmarked-i}
 
 -- the two bytes at i were looked at; what stands there
-module _ (c : After-passed_together) where
-  abbrev rest_now : List ℕ
-  rest_now = c.args.rest.now
-
-  abbrev quote_now : ℕ
-  quote_now = c.args.quote
-
-  abbrev i_now : ℕ
-  i_now = c.loop-i.i
-
-  asked : c.passed_together.result ≡ passed_together quote_now (get_or rest_now i_now 0) (get_or rest_now (i_now + 1) 0)
-  asked = c.passed_together.ensures ∙ ap (passed_together quote_now (get_or rest_now i_now 0)) c.byte_at.ensures
+asked : (c : After-passed_together) → c.passed_together.result ≡ passed_together c.args.quote (get_or c.args.rest.now c.loop-i.i 0) (get_or c.args.rest.now (c.loop-i.i + 1) 0)
+asked c = c.passed_together.ensures ∙ ap (passed_together c.args.quote (get_or c.args.rest.now c.loop-i.i 0)) c.byte_at.ensures
 
 -- the ordinary bytes that were passed at once
-passed : (c : After-unmarked-i) → Unmarked (quote_now c.before.before.before.before) (drop (i_now c.before.before.before.before + 1) (rest_now c.before.before.before.before)) c.unmarked-i.result
-passed c = rw (part_is (rest_now c.before.before.before.before) (i_now c.before.before.before.before + 1)) at c.unmarked-i.ensures
+passed : (c : After-unmarked-i) → Unmarked c.args.quote (drop (c.loop-i.i + 1) c.args.rest.now) c.unmarked-i.result
+passed c = rw (part_is c.args.rest.now (c.loop-i.i + 1)) at c.unmarked-i.ensures
 
 pub returns-then-rest-eq0 : goal.returns-then-rest-eq0
 returns-then-rest-eq0 c = none_opens c.args.rest.now c.args.quote c.if-rest-eq0.true
@@ -42,19 +31,25 @@ loop-i-init c = opens c.args.rest.now c.args.quote (let n = c.if-rest-eq0.false 
 
 pub loop-i-preserved-then-passed_together : goal.loop-i-preserved-then-passed_together
 loop-i-preserved-then-passed_together c =
-    passes_two (rest_now (goal.at.loop-i-preserved-then-passed_together c).After-passed_together) (quote_now (goal.at.loop-i-preserved-then-passed_together c).After-passed_together) (i_now (goal.at.loop-i-preserved-then-passed_together c).After-passed_together) c.loop-i-test.true (sym (asked (goal.at.loop-i-preserved-then-passed_together c).After-passed_together) ∙ c.if-passed_together.true) ∙ c.loop-i.invariant
+    let together = sym (asked (goal.at.loop-i-preserved-then-passed_together c).After-passed_together) ∙ c.if-passed_together.true in
+    passes_two c.args.rest.now c.args.quote c.loop-i.i c.loop-i-test.true together ∙ c.loop-i.invariant
 
 pub returns-then-b-quote : goal.returns-then-b-quote
 returns-then-b-quote c =
-    closes (rest_now (goal.at.returns-then-b-quote c).After-passed_together) (quote_now (goal.at.returns-then-b-quote c).After-passed_together) (i_now (goal.at.returns-then-b-quote c).After-passed_together) c.loop-i-test.true (sym (asked (goal.at.returns-then-b-quote c).After-passed_together) ∙ c.if-passed_together.false) c.if-b-quote.true ∙ c.loop-i.invariant
+    let apart = sym (asked (goal.at.returns-then-b-quote c).After-passed_together) ∙ c.if-passed_together.false in
+    closes c.args.rest.now c.args.quote c.loop-i.i c.loop-i-test.true apart c.if-b-quote.true ∙ c.loop-i.invariant
 
 pub overflow_add-i-else-passed_together-2 : goal.overflow_add-i-else-passed_together-2
-overflow_add-i-else-passed_together-2 c = let w = (passed c).within in let l = length-drop (i_now (goal.at.overflow_add-i-else-passed_together-2 c).After-passed_together + 1) (rest_now (goal.at.overflow_add-i-else-passed_together-2 c).After-passed_together) in omega arith
+overflow_add-i-else-passed_together-2 c =
+    let w = (passed (goal.at.overflow_add-i-else-passed_together-2 c).After-unmarked-i).within in
+    let l = length-drop (c.loop-i.i + 1) c.args.rest.now in
+    omega arith
 
 pub loop-i-preserved : goal.loop-i-preserved
 loop-i-preserved c =
-    passes_many (rest_now (goal.at.loop-i-preserved c).After-passed_together) (quote_now (goal.at.loop-i-preserved c).After-passed_together) (i_now (goal.at.loop-i-preserved c).After-passed_together + 1) c.unmarked-i.result (passed c)
-    ∙ passes_one (rest_now (goal.at.loop-i-preserved c).After-passed_together) (quote_now (goal.at.loop-i-preserved c).After-passed_together) (i_now (goal.at.loop-i-preserved c).After-passed_together) c.loop-i-test.true (sym (asked (goal.at.loop-i-preserved c).After-passed_together) ∙ c.if-passed_together.false) c.if-b-quote.false
+    let apart = sym (asked (goal.at.loop-i-preserved c).After-passed_together) ∙ c.if-passed_together.false in
+    passes_many c.args.rest.now c.args.quote (c.loop-i.i + 1) c.unmarked-i.result (passed (goal.at.loop-i-preserved c).After-unmarked-i)
+    ∙ passes_one c.args.rest.now c.args.quote c.loop-i.i c.loop-i-test.true apart c.if-b-quote.false
     ∙ c.loop-i.invariant
 
 pub returns : goal.returns

@@ -1,5 +1,4 @@
 -- `measure::scalar::block_measure` meets its contract, by whether the span is empty.
-use borrow.Author.Rules.{rules}
 use mathlib.Core.Path.{refl}
 use Rattle.measure.specs.Scalar.{block_measure}
 use Rattle.measure.proofs.scalar.block_measure.Goals as goal

@@ -7,10 +7,10 @@ use Rattle.measure.specs.declared.length.Measure.{Measure}
 use Rattle.measure.proofs.scalar.scalar_len.Goals as goal
 
 within : (n : ℕ) (m : Measure) → m.len ≤ n → m ≡ cut_to n m
-within n m h = let e : m.len ≡ min m.len n = omega arith in ap (λ (k : ℕ). record { len = k; measured = m.decreases }) e
+within n m h = let e : m.len ≡ min m.len n = omega arith in ap (λ (k : ℕ). record { len = k; measured = m.measured }) e
 
-past : (n : ℕ) (m : Measure) → n ≤ m.len → record { len = n; measured = m.decreases } ≡ cut_to n m
-past n m h = let e : n ≡ min m.len n = omega arith in ap (λ (k : ℕ). record { len = k; measured = m.decreases }) e
+past : (n : ℕ) (m : Measure) → n ≤ m.len → record { len = n; measured = m.measured } ≡ cut_to n m
+past n m h = let e : n ≡ min m.len n = omega arith in ap (λ (k : ℕ). record { len = k; measured = m.measured }) e
 
 pub style_len-found-requires : goal.style_len-found-requires
 style_len-found-requires c = c.requires

@@ -1,6 +1,5 @@
 -- `node::child::child_before` meets its contract: the record's count, taken off.
 use mathlib.Core.Path.{◌∙◌}
-use borrow.Author.Rules.{rules}
 use Rattle.node.specs.Child.{child_before}
 use Rattle.node.proofs.child.child_before.Goals as goal
 

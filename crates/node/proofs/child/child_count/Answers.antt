@@ -1,6 +1,5 @@
 -- `node::child::child_count` meets its contract: by the kind, as `children` tests it.
 use borrow.Author.Tests.{lt-ltb, le-ltb, eq-eqb, ne_eqb}
-use borrow.Author.Rules.{rules}
 use Rattle.node.proofs.child.child_count.Goals as goal
 
 pub returns-then-x-lt-ARRAY : goal.returns-then-x-lt-ARRAY

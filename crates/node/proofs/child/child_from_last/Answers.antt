@@ -1,7 +1,6 @@
 -- `node::child::child_from_last` meets its contract: the record, its count, then the steps back.
 use mathlib.Core.Path.{◌∙◌}
 use borrow.Author.Tests.{lt-ltb, le-ltb}
-use borrow.Author.Rules.{rules}
 use Rattle.node.specs.Child.{child_from_last}
 use Rattle.node.proofs.child.child_from_last.Goals as goal
 

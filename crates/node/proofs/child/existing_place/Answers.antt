@@ -1,5 +1,4 @@
 -- `node::child::existing_place` meets its contract: the number itself, if `get_record` answers.
-use borrow.Author.Rules.{rules}
 use Rattle.node.specs.Child.{place_at}
 use Rattle.node.proofs.child.existing_place.Goals as goal
 

@@ -1,7 +1,6 @@
 -- `node::child::get_array_item` meets its contract: how many items there are, then the index, then the steps back.
 use mathlib.Core.Path.{◌∙◌}
 use borrow.Author.Tests.{lt-ltb, le-ltb}
-use borrow.Author.Rules.{rules}
 use Rattle.node.proofs.Answers.{item_members}
 use Rattle.node.proofs.child.get_array_item.Goals as goal
 

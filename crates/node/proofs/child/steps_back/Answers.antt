@@ -1,8 +1,6 @@
 use mathlib.Core.Path.{◌≡◌, refl, ◌∙◌}
 use Prim.Native.Nat.{◌<◌}
 use native.Mathlib.Omega.{arith}
-use borrow.Author.Rules.{rules}
-use Rattle.node.specs.Child.{steps_back}
 use Rattle.node.proofs.Steps.{step_none, step_on, step_done}
 use Rattle.node.proofs.child.steps_back.Goals as goal
 

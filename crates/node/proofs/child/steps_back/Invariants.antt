@@ -1,11 +1,7 @@
 -- `node::child::steps_back` meets its contract. The loop's invariant: what is left, from here, gives what all
 -- steps gave from `c`. The measure is how many steps are left.
-use mathlib.Core.Path.{◌≡◌, refl, ◌∙◌}
-use Prim.Native.Nat.{◌<◌}
-use native.Mathlib.Omega.{arith}
-use borrow.Author.Rules.{rules}
+use mathlib.Core.Path.{◌≡◌}
 use Rattle.node.specs.Child.{steps_back}
-use Rattle.node.proofs.Steps.{step_none, step_on, step_done}
 use Rattle.node.proofs.child.steps_back.Given as goal
 
 abbrev pub invariant-loop-left : goal.invariant-loop-left

@@ -1,7 +1,6 @@
 -- `node::entry::hash_entry` meets its contract: how many pairs there are, then the index, then the steps back to the value.
 use mathlib.Core.Path.{◌∙◌}
 use borrow.Author.Tests.{lt-ltb, le-ltb}
-use borrow.Author.Rules.{rules}
 use Rattle.node.proofs.Answers.{entry-members}
 use Rattle.node.proofs.entry.hash_entry.Goals as goal
 

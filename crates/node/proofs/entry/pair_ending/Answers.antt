@@ -1,5 +1,4 @@
 -- `node::entry::pair_ending` meets its contract: the value's span, the key's place, the key's span.
-use borrow.Author.Rules.{rules}
 use Rattle.node.proofs.Answers.{pair-spans}
 use Rattle.node.proofs.entry.pair_ending.Goals as goal
 

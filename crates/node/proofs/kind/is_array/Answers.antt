@@ -1,5 +1,4 @@
 -- `node::kind::is_array` meets its contract: whether its kind is that of arrays.
-use borrow.Author.Rules.{rules}
 use Rattle.node.specs.Kind.{is_array_at}
 use Rattle.node.proofs.kind.is_array.Goals as goal
 

@@ -1,5 +1,4 @@
 -- `node::kind::is_empty` meets its contract: whether `len` is 0.
-use borrow.Author.Rules.{rules}
 use Rattle.node.specs.Kind.{is_empty_at}
 use Rattle.node.proofs.kind.is_empty.Goals as goal
 

@@ -1,5 +1,4 @@
 -- `node::kind::is_hash` meets its contract: whether its kind is that of hashes.
-use borrow.Author.Rules.{rules}
 use Rattle.node.specs.Kind.{is_hash_at}
 use Rattle.node.proofs.kind.is_hash.Goals as goal
 

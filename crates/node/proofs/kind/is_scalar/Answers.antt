@@ -1,5 +1,4 @@
 -- `node::kind::is_scalar` meets its contract: the record's kind, or none.
-use borrow.Author.Rules.{rules}
 use Rattle.node.specs.Kind.{is_scalar_at}
 use Rattle.node.proofs.kind.is_scalar.Goals as goal
 

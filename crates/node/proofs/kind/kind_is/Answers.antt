@@ -1,5 +1,4 @@
 -- `node::kind::kind_is` meets its contract: the record's kind, or none.
-use borrow.Author.Rules.{rules}
 use Rattle.node.proofs.kind.kind_is.Goals as goal
 
 pub returns-in_default : goal.returns-in_default

@@ -1,6 +1,5 @@
 -- `node::kind::len` meets its contract: none, 0 for a scalar, or the first payload number.
 use borrow.Author.Tests.{lt-ltb, le-ltb}
-use borrow.Author.Rules.{rules}
 use Rattle.node.specs.Kind.{len_at}
 use Rattle.node.proofs.kind.len.Goals as goal
 

@@ -1,6 +1,5 @@
 -- `node::kind::members` meets its contract: none, or the first payload number of a record of that kind.
 use borrow.Author.Tests.{eq-eqb, ne_eqb}
-use borrow.Author.Rules.{rules}
 use Rattle.node.proofs.kind.members.Goals as goal
 
 pub returns-in_default : goal.returns-in_default

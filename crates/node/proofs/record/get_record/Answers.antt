@@ -1,6 +1,5 @@
 -- `node::record::get_record` meets its contract: the room first, then the kind of the twelve numbers that `read_record` gives.
 use borrow.Author.Tests.{lt-ltb, le-ltb, le-leb, lt-leb}
-use borrow.Author.Rules.{rules}
 use Rattle.node.specs.Record.{record_at, existing}
 use Rattle.node.proofs.Parts.{tail_is}
 use Rattle.node.proofs.record.get_record.Goals as goal

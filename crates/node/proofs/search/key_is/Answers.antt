@@ -1,6 +1,5 @@
 -- `node::search::key_is` meets its contract: the record, if it exists, and its bytes.
 use mathlib.Core.Path.{◌∙◌}
-use borrow.Author.Rules.{rules}
 use Rattle.node.specs.Search.{key_is}
 use Rattle.node.proofs.search.key_is.Goals as goal
 

@@ -1,6 +1,5 @@
 -- `node::search::or_later` meets its contract: this pair, or the pairs after it.
 use mathlib.Core.Path.{sym, ◌∙◌}
-use borrow.Author.Rules.{rules}
 use Rattle.node.proofs.search.or_later.Goals as goal
 
 pub returns-then-key_is : goal.returns-then-key_is

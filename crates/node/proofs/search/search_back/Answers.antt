@@ -1,10 +1,6 @@
-use mathlib.Core.Option.{none}
-use mathlib.Core.Path.{◌≡◌, refl, ◌∙◌}
+use mathlib.Core.Path.{refl, ◌∙◌}
 use Prim.Native.Nat.{◌<◌}
 use native.Mathlib.Omega.{arith}
-use borrow.Author.Rules.{rules}
-use Rattle.node.specs.Search.{search_back}
-use Rattle.node.specs.Child.{place_in}
 use Rattle.node.proofs.Steps.{pair_none, pairs_none, pairs-on, pairs_done}
 use Rattle.node.proofs.search.search_back.Goals as goal
 

@@ -1,13 +1,9 @@
 -- `node::search::search_back` meets its contract. The loop's invariant: the pairs left, with the answer of those
 -- behind, give what all pairs gave. The measure is how many pairs are left before this one.
 use mathlib.Core.Option.{none}
-use mathlib.Core.Path.{◌≡◌, refl, ◌∙◌}
-use Prim.Native.Nat.{◌<◌}
-use native.Mathlib.Omega.{arith}
-use borrow.Author.Rules.{rules}
+use mathlib.Core.Path.{◌≡◌}
 use Rattle.node.specs.Search.{search_back}
 use Rattle.node.specs.Child.{place_in}
-use Rattle.node.proofs.Steps.{pair_none, pairs_none, pairs-on, pairs_done}
 use Rattle.node.proofs.search.search_back.Given as goal
 
 abbrev pub invariant-loop-pair : goal.invariant-loop-pair

@@ -1,6 +1,5 @@
 -- `node::source::content_source_info` meets its contract: the record's list, unless it is a collection or says none.
 use borrow.Author.Tests.{lt-ltb, le-ltb, eq-eqb, ne_eqb}
-use borrow.Author.Rules.{rules}
 use Rattle.node.specs.Source.{piece_list_at}
 use Rattle.node.proofs.source.content_source_info.Goals as goal
 

@@ -1,5 +1,4 @@
 -- `node::source::source_info` meets its contract: the record's span, or none.
-use borrow.Author.Rules.{rules}
 use Rattle.node.specs.Source.{span_at}
 use Rattle.node.proofs.source.source_info.Goals as goal
 

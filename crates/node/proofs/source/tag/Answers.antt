@@ -1,6 +1,5 @@
 -- `node::source::tag` meets its contract: the record's tag, unless all four numbers say none.
 use mathlib.Core.Path.{sym, ◌∙◌}
-use borrow.Author.Rules.{rules}
 use Rattle.node.specs.Source.{tag_of}
 use Rattle.node.proofs.source.tag.Goals as goal
 

@@ -1,5 +1,4 @@
 -- `build` meets its contract: sizes, then the text, then the run.
-use borrow.Author.Rules.{rules}
 use mathlib.Core.Path.{sym, ap, ◌∙◌, subst₂}
 use Prim.Native.Nat.{ℕ}
 use lib.ListN.{length}
@@ -22,10 +21,11 @@ fill_or_clear-requires c =
     let b = c.clear in
     let p = c.clear-2 in
     let told = sym c.admit_text.ensures ∙ c.in-Admitted.is in
-    let ascii = c.in-Admitted.ascii in (
-      (record { sound = admitted_text a.text.now ascii told; ascii_is = admitted_ascii a.text.now ascii told }, c.if-events-gt-EVENTS_LIMIT.false),
-      (b.ensures ∙ ap zeros (sym b.auto.0), p.ensures ∙ ap zeros (sym p.auto.0)),
-    )
+    let ascii = c.in-Admitted.ascii in
+    record {
+      given = (record { sound = admitted_text a.text.now ascii told; ascii_is = admitted_ascii a.text.now ascii told }, c.if-events-gt-EVENTS_LIMIT.false);
+      buffers_zero = (b.ensures ∙ ap zeros (sym b.auto.buffer), p.ensures ∙ ap zeros (sym p.auto.buffer));
+    }
 
 pub returns-in-TooLong : goal.returns-in-TooLong
 returns-in-TooLong c =
@@ -48,5 +48,5 @@ returns-in-Admitted c =
     let filled = c.fill_or_clear in
     text_admitted a.text.now a.events.now (length a.records.now) (length a.pieces.now) _ _ c.if-events-gt-EVENTS_LIMIT.false c.in-Admitted.ascii
     filled.result told
-    (subst₂ (λ (n k : ℕ). Delivered n k (run_all a.text.now a.events.now (record_room n) (piece_room k)) filled.result filled.new.1.1.1.0 filled.new.1.1.1.1.0)
-    b.auto.0 p.auto.0 filled.ensures)
+    (subst₂ (λ (n k : ℕ). Delivered n k (run_all a.text.now a.events.now (record_room n) (piece_room k)) filled.result filled.new.records filled.new.pieces)
+    b.auto.buffer p.auto.buffer filled.ensures)

@@ -1,12 +1,8 @@
 -- `fill` meets its contract: at the head of the loop the run from the state held, at this place and number, is the whole run (`Heads`);
 -- each event takes at least a byte, so the bytes left go down.
-use mathlib.Core.Path.{refl, sym, ◌∙◌}
 use Prim.Native.Nat.{◌-◌}
-use native.Mathlib.Omega.{arith}
 use lib.ListN.{length}
-use borrow.Author.Rules.{rules}
-use Rattle.parser.proofs.Heads.{Head, first_head, read_of, ready, next_head, refused_here, built_now, not_built}
-use Rattle.utf8.specs.Ascii.{Bytes}
+use Rattle.parser.proofs.Heads.{Head}
 use Rattle.parser.proofs.build.fill.Given as goal
 
 abbrev pub invariant-loop-at : goal.invariant-loop-at

@@ -1,5 +1,4 @@
 -- `fill_or_clear` meets its contract: the pieces that fit are those that fit in the part that is used; a refusal clears both buffers.
-use borrow.Author.Rules.{rules}
 use mathlib.Core.Path.{◌≡◌, sym, ap, ◌∙◌}
 use Prim.Native.Nat.{◌≤◌}
 use native.Mathlib.Omega.{arith}
@@ -21,7 +20,7 @@ fill-r-requires c =
     let e = n.ensures in
     let l : n.result ≤ length p = omega arith in
     let part : length (take n.result p) ≡ n.result = length-take-le n.result p l in
-    record { given = c.requires.given; records_value = (c.requires.records_value.0, zeros_front n.result (length p) p c.requires.records_value.1 l ∙ ap zeros (sym part), omega arith) }
+    record { given = c.requires.given; buffers_zero = (c.requires.buffers_zero.0, zeros_front n.result (length p) p c.requires.buffers_zero.1 l ∙ ap zeros (sym part), omega arith) }
 
 pub returns-then-is_refused : goal.returns-then-is_refused
 returns-then-is_refused c =
@@ -32,11 +31,11 @@ returns-then-is_refused c =
     let l : n.result ≤ length p = omega arith in
     let part : length (take n.result p) ≡ n.result = length-take-le n.result p l in
     let filled = c.fill-r in
-    let q = filled.new.1.1.1.1.0 in
-    let len = filled.auto.1.1.1.1.0 ∙ part in
-    settled_refused (length a.records.now) (length p) n.result e _ q p len c.requires.records_value.1 _ filled.result
+    let q = filled.new.pieces in
+    let len = filled.auto.pieces ∙ part in
+    settled_refused (length a.records.now) (length p) n.result e _ q p len c.requires.buffers_zero.1 _ filled.result
     (sym c.is_refused.ensures ∙ c.if-is_refused.true) (rw (part, room_used (length p) n.result e) at filled.ensures) _ _
-    (c.clear.ensures ∙ ap zeros filled.auto.1.1.1.0) (c.clear-then-is_refused.ensures ∙ ap zeros (length_front p q n.result len l))
+    (c.clear.ensures ∙ ap zeros filled.auto.records) (c.clear-then-is_refused.ensures ∙ ap zeros (length_front p q n.result len l))
 
 pub returns-else-is_refused : goal.returns-else-is_refused
 returns-else-is_refused c =
@@ -47,5 +46,5 @@ returns-else-is_refused c =
     let l : n.result ≤ length p = omega arith in
     let part : length (take n.result p) ≡ n.result = length-take-le n.result p l in
     let filled = c.fill-r in
-    settled_built (length a.records.now) (length p) n.result e _ _ p (filled.auto.1.1.1.1.0 ∙ part) c.requires.records_value.1 _ filled.result
+    settled_built (length a.records.now) (length p) n.result e _ _ p (filled.auto.pieces ∙ part) c.requires.buffers_zero.1 _ filled.result
     (sym c.is_refused.ensures ∙ c.if-is_refused.false) (rw (part, room_used (length p) n.result e) at filled.ensures)

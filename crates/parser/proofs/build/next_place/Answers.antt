@@ -1,5 +1,4 @@
 -- `next_place` meets its contract, by the event's case.
-use borrow.Author.Rules.{rules}
 use mathlib.Core.Path.{refl}
 use Rattle.parser.proofs.build.next_place.Goals as goal
 

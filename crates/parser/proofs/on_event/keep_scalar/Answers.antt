@@ -1,5 +1,4 @@
 -- `keep_scalar` meets its contract, by what the walk answered: the free part of the pieces is as it was, or has the list in it.
-use borrow.Author.Rules.{rules}
 use mathlib.Core.Path.{refl, sym, ◌∙◌}
 use native.Mathlib.Omega.{arith}
 use Rattle.provenance.specs.declared.walk.Walked.TheVariants.{Listed, NoRoom, NoList}
@@ -32,9 +31,9 @@ returns-in-NoList c = λ text size pieces_size st p o y on h len answer buffer.
 pub returns-in-Listed : goal.returns-in-Listed
 returns-in-Listed c = λ text size pieces_size st p o y on h len answer buffer.
     let a = c.args in
-    let n = c.in-Listed.given in
-    let w = walks_of _ o (Listed n.0.0) y (sym n.1 ∙ answer) buffer in
-    let more = walk_listed _ _ _ _ _ _ _ _ h y len a.x.node o n.0.0 w in
+    let n = c.in-Listed.n in
+    let w = walks_of _ o (Listed n) y (sym c.in-Listed.is ∙ answer) buffer in
+    let more = walk_listed _ _ _ _ _ _ _ _ h y len a.x.node o n w in
     let listed = c.with_list.ensures in
     rw (more.kept, ← listed)
     (moved_on _ _ _ more.with_pieces_lem a.c _ _ _ _ _ more.held.nodes_are

@@ -1,7 +1,6 @@
 -- `on_alias` meets its contract: rows 5 and 7 by the counts; then its record is complete.
-use borrow.Author.Rules.{rules}
 use mathlib.Core.Path.{refl, sym, ◌∙◌}
-use Prim.Native.Nat.{◌-◌, ◌≤◌, ◌<◌}
+use Prim.Native.Nat.{◌≤◌, ◌<◌}
 use native.Mathlib.Omega.{arith}
 use Rattle.records.specs.Layout.{record_room}
 use Rattle.parser.proofs.Turns.{moved_on, after_root, before_root_lem, no_room, in_room, moved_cursor}

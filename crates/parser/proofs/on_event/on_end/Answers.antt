@@ -1,17 +1,14 @@
 -- `on_end` meets its contract: rows 4 and 7 by the innermost frame and the counts; then that frame's record is complete.
-use borrow.Author.Rules.{rules}
 use mathlib.Core.Path.{◌≡◌, refl, sym, ap, ◌∙◌}
-use Prim.Native.Nat.{◌-◌, ◌≤◌, ◌<◌}
+use Prim.Native.Nat.{◌≤◌, ◌<◌}
 use native.Mathlib.Omega.{arith}
 use Rattle.records.specs.Layout.{record_room}
 use Rattle.parser.proofs.Turns.{moved_on, no_room, in_room, pushable, none_open, mismatched, matched, inner_below, inner_on, popped, outside, inner}
 use Rattle.parser.proofs.Starts.{cursor_offset}
-use Rattle.spans.specs.SpanLaws.{collection_node_boundary}
+use Rattle.spans.proofs.SpanLaws.{collection_node_boundary}
 use Rattle.text.proofs.OffsetLaws.{offset_within}
 use Rattle.spans.specs.Collection.{closes, collection_node}
-use borrow.Author.Tests.{not-true, not-false}
 use Rattle.parser.proofs.on_event.on_end.Goals as goal
-use Rattle.parser.proofs.on_event.on_end.Goals.{Start}
 
 pub returns-then-depth-eq0 : goal.returns-then-depth-eq0
 returns-then-depth-eq0 c = λ p size pieces_size st h.
@@ -20,18 +17,16 @@ returns-then-depth-eq0 c = λ p size pieces_size st h.
 
 pub returns-then-not-closes_open : goal.returns-then-not-closes_open
 returns-then-not-closes_open c = λ p size pieces_size st h.
-    let given = c.before.before.before.before.before.before.before.before in
-    let a = given.args in
-    let d : 0 < a.c.depth = let z = c.if1.false in omega arith in
-    rw (mismatched _ _ _ _ _ _ _ _ h d (record_room size) a.index a.mapping (ap (closes a.mapping) (sym c.innermost-o.ensures) ∙ sym c.closes_open.ensures ∙ not-true c.closes_open.result c.if-not-closes_open.true)) refl
+    let a = c.args in
+    let d : 0 < a.c.depth = let z = c.if-depth-eq0.false in omega arith in
+    rw (mismatched _ _ _ _ _ _ _ _ h d (record_room size) a.index a.mapping (ap (closes a.mapping) (sym c.innermost-o.ensures) ∙ sym c.closes_open.ensures ∙ c.if-not-closes_open.true)) refl
 
 pub returns-then-records-nodes : goal.returns-then-records-nodes
 returns-then-records-nodes c = λ p size pieces_size st h.
-    let given = c.before.before.before.before.before.before.before.before.before in
-    let a = given.args in
-    let d : 0 < a.c.depth = let z = c.if1.false in omega arith in
+    let a = c.args in
+    let d : 0 < a.c.depth = let z = c.if-depth-eq0.false in omega arith in
     let l : record_room size ≤ a.c.nodes = rw (← h.size_is) c.if-records-nodes.true in
-    rw (matched _ _ _ _ _ _ _ _ h d (record_room size) a.index a.mapping (ap (closes a.mapping) (sym c.innermost-o.ensures) ∙ sym c.closes_open.ensures ∙ not-false c.closes_open.result c.if-not-closes_open.false), no_room _ _ _ _ _ _ _ _ h _ l) refl
+    rw (matched _ _ _ _ _ _ _ _ h d (record_room size) a.index a.mapping (ap (closes a.mapping) (sym c.innermost-o.ensures) ∙ sym c.closes_open.ensures ∙ c.if-not-closes_open.false), no_room _ _ _ _ _ _ _ _ h _ l) refl
 
 pub collection_node-x-requires : goal.collection_node-x-requires
 collection_node-x-requires c =
@@ -62,5 +57,5 @@ returns c = λ p size pieces_size st h.
     let on = inner_on _ _ _ _ _ _ _ _ h d in
     let x : c.collection_node-x.result ≡ collection_node a.text.now (inner _ _ _ _ _ _ _ _ h d) cur.result.offset a.c.nodes =
     c.collection_node-x.ensures ∙ ap (λ o. collection_node a.text.now o cur.result.offset a.c.nodes) c.innermost-o.ensures in
-    rw (matched _ _ _ _ _ _ _ _ h d (record_room size) a.index a.mapping (ap (closes a.mapping) (sym c.innermost-o.ensures) ∙ sym c.closes_open.ensures ∙ not-false c.closes_open.result c.if-not-closes_open.false), in_room _ _ _ _ _ _ _ _ h _ l, ← e, ← x)
+    rw (matched _ _ _ _ _ _ _ _ h d (record_room size) a.index a.mapping (ap (closes a.mapping) (sym c.innermost-o.ensures) ∙ sym c.closes_open.ensures ∙ c.if-not-closes_open.false), in_room _ _ _ _ _ _ _ _ h _ l, ← e, ← x)
     (moved_on _ _ _ (outside _ _ _ _ _ _ _ _ h d) a.c _ _ _ _ _ h.nodes_are (c.push_complete.ensures a.text.now size pieces_size (outside _ _ _ _ _ _ _ _ h d) p (rw x (collection_node_boundary a.text.now (inner _ _ _ _ _ _ _ _ h d) cur.result.offset a.c.nodes on.0 on.1)) (popped _ _ _ _ _ _ _ _ h d a.index cur.result cur.ensures)))

@@ -1,7 +1,5 @@
 -- `on_start` meets its contract: rows 5 and 6 by the counts; then the new frame is the machine's new collection.
-use borrow.Author.Rules.{rules}
 use mathlib.Core.Path.{refl, sym, ◌∙◌}
-use Prim.Native.Nat.{◌-◌}
 use native.Mathlib.Omega.{arith}
 use Rattle.parser.proofs.Turns.{after_root, before_root_lem, too_deep, opened}
 use Rattle.parser.proofs.Starts.{cursor_offset, suffix_placed}

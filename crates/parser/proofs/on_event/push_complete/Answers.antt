@@ -1,6 +1,5 @@
 -- `push_complete` meets its contract: the record is the next one in the buffer, and the innermost frame has a child more.
-use borrow.Author.Rules.{rules}
-use Prim.Native.Nat.{◌-◌, ◌<◌}
+use Prim.Native.Nat.{◌<◌}
 use native.Mathlib.Omega.{arith}
 use Rattle.records.specs.Layout.{record_room}
 use Rattle.parser.proofs.Turns.{pushed}
@@ -8,10 +7,10 @@ use Rattle.parser.proofs.on_event.push_complete.Goals as goal
 
 pub add_child-requires : goal.add_child-requires
 add_child-requires c =
-    record { depth_in_bounds = let long = c.requires.stack_size_lem in let deep = c.requires.deep in omega arith; countable = record { nodes = c.args.c.nodes; below = c.requires.below; few = c.requires.few } }
+    record { depth_in_bounds = let long = c.requires.stack_size_is in let deep = c.requires.deep in omega arith; countable = record { nodes = c.args.c.nodes; below = c.requires.below; few = c.requires.few } }
 
 pub returns : goal.returns
 returns c = λ text size pieces_size st p on h.
     let a = c.args in
     let l : a.c.nodes < record_room size = rw (← h.size_is) c.requires.room in
-    pushed text size pieces_size st a.c a.stack.now a.records.now p h a.x _ _ l on c.add_child.auto.0 c.add_child.ensures c.put_record.auto.0 c.put_record.ensures
+    pushed text size pieces_size st a.c a.stack.now a.records.now p h a.x _ _ l on c.add_child.auto.stack c.add_child.ensures c.put_record.auto.records c.put_record.ensures

@@ -1,5 +1,4 @@
 -- `alone` meets its contract, by what the walk answered.
-use borrow.Author.Rules.{rules}
 use mathlib.Core.Path.{refl}
 use native.Mathlib.Omega.{arith}
 use Rattle.parser.proofs.one.alone.Goals as goal

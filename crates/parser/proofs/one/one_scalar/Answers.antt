@@ -1,5 +1,4 @@
 -- `one_scalar` meets its contract: the machine's scalar from the empty state, by what its walk answers.
-use borrow.Author.Rules.{rules}
 use mathlib.Core.Path.{ap}
 use lib.ListN.{length}
 use Rattle.text.proofs.OffsetLaws.{offset_boundary, stands_start}
@@ -10,7 +9,7 @@ use Rattle.parser.proofs.one.one_scalar.Goals as goal
 pub returns-then-m-gt-FOLDED : goal.returns-then-m-gt-FOLDED
 returns-then-m-gt-FOLDED c =
     let a = c.args in
-    rw c.refused.ensures (style_unknown a.text.now a.m a.value.now (length a.pieces.now) _ c.if-m-gt-FOLDED.true c.requires.pieces_value.0)
+    rw c.refused.ensures (style_unknown a.text.now a.m a.value.now (length a.pieces.now) _ c.if-m-gt-FOLDED.true c.requires.pieces_zero.0)
 
 pub byte_offset_of_char-cursor-requires : goal.byte_offset_of_char-cursor-requires
 byte_offset_of_char-cursor-requires c =
@@ -22,15 +21,15 @@ walk_scalar-requires c =
     let cur = c.byte_offset_of_char-cursor in
     let e = cursor_offset a.text.now a.m.index cur.result cur.ensures in
     let sound = c.requires.given.0.sound in
-    record { admitted_text = (sound, c.requires.given.1); boundary = rw e (offset_boundary sound.utf8 a.m.index); pieces_value = c.requires.pieces_value.0 }
+    record { admitted_text = (sound, c.requires.given.1); boundary = rw e (offset_boundary sound.utf8 a.m.index); pieces_zero = c.requires.pieces_zero.0 }
 
 pub alone-requires : goal.alone-requires
 alone-requires c =
     let a = c.args in
     let x = c.walk_scalar in
-    let y = x.new.1.1.1.1.1.1.1.0 in
-    let len = x.auto.1.1.1.1.1.1.1.0 in
-    alone_counted (length a.pieces.now) c.requires.pieces_value.1 y len _ x.result.walked (ap (λ z. z.walked) x.ensures.value) x.ensures.pieces_after
+    let y = x.new.pieces in
+    let len = x.auto.pieces in
+    alone_counted (length a.pieces.now) c.requires.pieces_zero.1 y len _ x.result.walked (ap (λ z. z.walked) x.ensures.value) x.ensures.pieces_after
 
 pub returns : goal.returns
 returns c =
@@ -39,8 +38,8 @@ returns c =
     let e = cursor_offset a.text.now a.m.index cur.result cur.ensures in
     let r = c.resolve_scalar-resolved in
     let x = c.walk_scalar in
-    let y = x.new.1.1.1.1.1.1.1.0 in
-    let len = x.auto.1.1.1.1.1.1.1.0 in
+    let y = x.new.pieces in
+    let len = x.auto.pieces in
     rw c.alone.ensures
-    (one_told (length a.pieces.now) c.requires.pieces_value.1 y len a.text.now a.m a.value.now cur.result.offset r.result x.result
+    (one_told (length a.pieces.now) c.requires.pieces_zero.1 y len a.text.now a.m a.value.now cur.result.offset r.result x.result
     c.if-m-gt-FOLDED.false e r.ensures x.ensures.value x.ensures.pieces_after)

@@ -1,6 +1,6 @@
 -- `scalar` meets its contract: text and value, then the scalar over the part of the pieces that is used.
 use mathlib.Core.Path.{◌≡◌, sym, ap, ◌∙◌}
-use Prim.Native.Nat.{ℕ, ◌-◌, ◌≤◌}
+use Prim.Native.Nat.{ℕ, ◌≤◌}
 use native.Mathlib.Omega.{arith}
 use lib.ListN.{length, take, replicate}
 use Rattle.parser.proofs.Wholes.{zeros_front, scalar_too_long, scalar_no_utf8, scalar_read}
@@ -9,11 +9,10 @@ use Rattle.text.proofs.AdmissionLaws.{both_admitted_text, both_admitted_value, b
 use Prim.Native.Nat.{min}
 use Rattle.records.specs.Layout.{pieces_limit}
 use Rattle.spans.specs.Scalar.{mark}
-use borrow.Author.Rules.{rules}
 use Rattle.parser.proofs.one.scalar.Goals as goal
 
 pub slice_bounds-one_scalar-end-in-Admitted : goal.slice_bounds-one_scalar-end-in-Admitted
-slice_bounds-one_scalar-end-in-Admitted c = let n = c.usable-n in sym (length-take-le n.result c.clear.new.0 (let e = n.ensures in omega arith))
+slice_bounds-one_scalar-end-in-Admitted c = let n = c.usable-n in sym (length-take-le n.result c.clear.new.buffer (let e = n.ensures in omega arith))
 
 pub one_scalar-requires : goal.one_scalar-requires
 one_scalar-requires c =
@@ -22,13 +21,14 @@ one_scalar-requires c =
     let p = c.clear in
     let n = c.usable-n in
     let e = n.ensures in
-    let l : n.result ≤ length p.new.0 = omega arith in
-    let part : length (take n.result p.new.0) ≡ n.result = length-take-le n.result p.new.0 l in
+    let l : n.result ≤ length p.new.buffer = omega arith in
+    let part : length (take n.result p.new.buffer) ≡ n.result = length-take-le n.result p.new.buffer l in
     let told = sym c.admit_text_and_value.ensures ∙ c.in-Admitted.is in
-    let ascii = c.in-Admitted.ascii in (
-      (record { sound = both_admitted_text a.text.now a.value.now ascii told; ascii_is = both_ascii a.text.now a.value.now ascii told }, both_admitted_value a.text.now a.value.now ascii told),
-      (zeros_front n.result size p.new.0 p.ensures l ∙ ap (λ (m : ℕ). replicate m 0) (sym part), omega arith),
-    )
+    let ascii = c.in-Admitted.ascii in
+    record {
+      given = (record { sound = both_admitted_text a.text.now a.value.now ascii told; ascii_is = both_ascii a.text.now a.value.now ascii told }, both_admitted_value a.text.now a.value.now ascii told);
+      pieces_zero = (zeros_front n.result size p.new.buffer p.ensures l ∙ ap (λ (m : ℕ). replicate m 0) (sym part), omega arith);
+    }
 
 pub returns-in-TooLong : goal.returns-in-TooLong
 returns-in-TooLong c =
@@ -51,7 +51,7 @@ returns-in-Admitted c =
     let p = c.clear in
     let n = c.usable-n in
     let one = c.one_scalar in
-    let is-n : n.result ≡ min size pieces_limit = n.ensures ∙ ap (λ (m : ℕ). min m pieces_limit) p.auto.0 in
-    let part : length (take n.result p.new.0) ≡ n.result = length-take-le n.result p.new.0 (let k = p.auto.0 in omega arith) in
+    let is_n : n.result ≡ min size pieces_limit = n.ensures ∙ ap (λ (m : ℕ). min m pieces_limit) p.auto.buffer in
+    let part : length (take n.result p.new.buffer) ≡ n.result = length-take-le n.result p.new.buffer (let k = p.auto.buffer in omega arith) in
     let told = sym c.admit_text_and_value.ensures ∙ c.in-Admitted.is in
-    scalar_read a.text.now (mark a.index a.column a.style a.empty) a.value.now size c.in-Admitted.ascii told n.result is-n one.result one.new.1.1.1.1.0 p.new.0 (one.auto.1.1.1.1.0 ∙ part) p.ensures (rw part at one.ensures)
+    scalar_read a.text.now (mark a.index a.column a.style a.empty) a.value.now size c.in-Admitted.ascii told n.result is_n one.result one.new.pieces p.new.buffer (one.auto.pieces ∙ part) p.ensures (rw part at one.ensures)

@@ -1,9 +1,8 @@
 -- `add_child` meets its contract: no collection counts more children than there are nodes, so the count fits; the other frames are below
 -- the two stores.
-use borrow.Author.Rules.{rules}
 use mathlib.Core.Path.{refl}
 use native.Mathlib.Omega.{arith}
-use Prim.Native.Nat.{◌-◌, ◌<◌}
+use Prim.Native.Nat.{◌<◌}
 use lib.ListN.{length-set}
 use Rattle.parser.proofs.Frames.{open_child, children_below}
 use Rattle.parser.proofs.stack.add_child.Goals as goal

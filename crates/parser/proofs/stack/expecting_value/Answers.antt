@@ -1,8 +1,7 @@
 -- `expecting_value` meets its contract: the innermost collection decides.
-use borrow.Author.Rules.{rules}
 use mathlib.Core.Path.{refl}
 use native.Mathlib.Omega.{arith}
-use Prim.Native.Nat.{◌-◌, ◌<◌}
+use Prim.Native.Nat.{◌<◌}
 use Rattle.parser.proofs.Frames.{awaits_inner}
 use Rattle.parser.proofs.stack.expecting_value.Goals as goal
 

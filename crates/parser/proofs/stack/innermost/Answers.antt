@@ -1,5 +1,4 @@
 -- `innermost` meets its contract: seven reads.
-use borrow.Author.Rules.{rules}
 use mathlib.Core.Path.{refl}
 use Rattle.parser.proofs.stack.innermost.Goals as goal
 

@@ -1,5 +1,4 @@
 -- `push_open` meets its contract: seven stores.
-use borrow.Author.Rules.{rules}
 use Rattle.parser.proofs.stack.push_open.Goals as goal
 
 pub returns : goal.returns

@@ -6,7 +6,6 @@ use lib.ListN.{length}
 use Rattle.provenance.specs.Escape.{backslash_escape}
 use Rattle.provenance.specs.Tests.{byte_inside}
 use Rattle.provenance.proofs.Escapes.{slash_letter, slash_x, slash_u, slash_newline, slash_return, slash_none}
-use borrow.Author.Rules.{rules}
 use Rattle.provenance.proofs.escape.backslash_escape.Goals as goal
 
 pub returns-then-is_one_byte_escape : goal.returns-then-is_one_byte_escape

@@ -1,10 +1,9 @@
-use mathlib.Core.Path.{◌≡◌, sym, ap, ◌∙◌}
-use borrow.Author.Tests.{not-true, not-false}
-use Prim.Native.Nat.{ℕ, ◌+◌, ◌-◌, ◌*◌, ◌≤◌, ◌<◌}
-use lib.ListN.{length, drop, get_or}
+use mathlib.Core.Path.{sym, ap, ◌∙◌}
+use Prim.Native.Nat.{ℕ, ◌+◌, ◌*◌, ◌<◌}
+use lib.ListN.{drop, get_or}
 use native.Mathlib.Omega.{arith}
-use Rattle.provenance.specs.Escape.{digits_from, digits, code_content}
-use Rattle.provenance.specs.EscapeLaws.{sixteens, sixteens_some, sixteens_more, sixteens_four}
+use Rattle.provenance.specs.Escape.{digits_from, code_content}
+use Rattle.provenance.specs.EscapeLaws.{sixteens_some, sixteens_more, sixteens_four}
 use Rattle.provenance.proofs.Escapes.{value_small, digits_more, digits_bad, digits_end, digits-none, digits_some, no_code}
 use Rattle.provenance.proofs.escape.digits_content.Goals as goal
 
@@ -15,20 +14,20 @@ pub loop-i-init : goal.loop-i-init
 loop-i-init c = (omega arith, sixteens_some c.args.from, sym (digits_some c.args.tail.now c.args.from c.if-tail-from.false))
 
 pub returns-then-not-is_hex_digit : goal.returns-then-not-is_hex_digit
-returns-then-not-is_hex_digit c = no_code ∙ ap code_content (sym (digits_bad c.args.tail.now c.loop-i.i c.loop-i.code c.loop-i-test.true (sym c.is_hex_digit.ensures ∙ not-true _ c.if-not-is_hex_digit.true)) ∙ c.loop-i.invariant.2)
+returns-then-not-is_hex_digit c = no_code ∙ ap code_content (sym (digits_bad c.args.tail.now c.loop-i.i c.loop-i.code c.loop-i-test.true (sym c.is_hex_digit.ensures ∙ c.if-not-is_hex_digit.true)) ∙ c.loop-i.invariant.2)
 
 pub overflow_mul-code : goal.overflow_mul-code
 overflow_mul-code c = let q = sixteens_four c.loop-i.i (omega arith) in omega arith
 
 pub digit_value-requires : goal.digit_value-requires
-digit_value-requires c = sym c.is_hex_digit.ensures ∙ not-false _ c.if-not-is_hex_digit.false
+digit_value-requires c = sym c.is_hex_digit.ensures ∙ c.if-not-is_hex_digit.false
 
 pub overflow_add-code : goal.overflow_add-code
-overflow_add-code c = let q = sixteens_four c.loop-i.i (omega arith) in let s : c.digit_value.result < 16 = value_small (get_or c.args.tail.now c.loop-i.i 0) _ (sym c.is_hex_digit.ensures ∙ not-false _ c.if-not-is_hex_digit.false) c.digit_value.ensures in omega arith
+overflow_add-code c = let q = sixteens_four c.loop-i.i (omega arith) in let s : c.digit_value.result < 16 = value_small (get_or c.args.tail.now c.loop-i.i 0) _ (sym c.is_hex_digit.ensures ∙ c.if-not-is_hex_digit.false) c.digit_value.ensures in omega arith
 
 pub loop-i-preserved : goal.loop-i-preserved
 loop-i-preserved c =
-    let d = sym c.is_hex_digit.ensures ∙ not-false _ c.if-not-is_hex_digit.false in
+    let d = sym c.is_hex_digit.ensures ∙ c.if-not-is_hex_digit.false in
     let l = c.loop-i in
     let tail = c.args.tail.now in (
       omega arith,
@@ -41,12 +40,3 @@ code_content-requires c = let q = sixteens_four c.loop-i.i (omega arith) in omeg
 
 pub returns : goal.returns
 returns c = c.code_content.ensures ∙ ap code_content (sym (digits_end c.args.tail.now c.loop-i.i c.loop-i.code c.loop-i-test.false) ∙ c.loop-i.invariant.2)
-
-pub bounds-tail-i : goal.bounds-tail-i
-bounds-tail-i c = omega arith
-
-pub overflow_add-i : goal.overflow_add-i
-overflow_add-i c = omega arith
-
-pub loop-i-smaller : goal.loop-i-smaller
-loop-i-smaller c = omega arith

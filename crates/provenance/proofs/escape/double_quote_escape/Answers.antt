@@ -6,7 +6,6 @@ use lib.ListN.{length}
 use Rattle.provenance.specs.Tests.{byte_inside}
 use Rattle.letters.proofs.Chunks.{part_is}
 use Rattle.provenance.proofs.Escapes.{no_backslash, at_backslash}
-use borrow.Author.Rules.{rules}
 use Rattle.provenance.proofs.escape.double_quote_escape.Goals as goal
 
 pub returns-then-byte_at-ne-BACKSLASH : goal.returns-then-byte_at-ne-BACKSLASH

@@ -1,7 +1,6 @@
 -- `provenance::escape::escape_len` meets its contract: the table is the style's.
 use mathlib.Core.Path.{refl}
 use Rattle.provenance.proofs.Escapes.{by_single, by_double, by_neither}
-use borrow.Author.Rules.{rules}
 use Rattle.provenance.proofs.escape.escape_len.Goals as goal
 
 pub returns-then-style-eq-SINGLE_QUOTED : goal.returns-then-style-eq-SINGLE_QUOTED

@@ -1,9 +1,6 @@
-use mathlib.Core.Path.{◌≡◌, refl, sym, ◌∙◌}
-use Prim.Native.Nat.{◌-◌, ◌≤◌}
-use lib.ListN.{drop}
+use mathlib.Core.Path.{refl, sym, ◌∙◌}
 use native.Mathlib.Omega.{arith}
-use borrow.Author.Rules.{rules}
-use Rattle.provenance.specs.Escape.{is_one_of, one_byte_escapes}
+use Rattle.provenance.specs.Escape.{one_byte_escapes}
 use Rattle.provenance.proofs.Escapes.{one_here, one_later, one_none}
 use Rattle.provenance.proofs.escape.is_one_byte_escape.Goals as goal
 
@@ -21,9 +18,3 @@ loop-i-preserved c = (omega arith, sym (one_later one_byte_escapes c.loop-i.i c.
 pub returns : goal.returns
 unfolding one_byte_escapes
 returns c = sym (one_none one_byte_escapes c.loop-i.i c.args.c (omega arith)) ∙ c.loop-i.invariant.1
-
-pub overflow_add-i : goal.overflow_add-i
-overflow_add-i c = omega arith
-
-pub loop-i-smaller : goal.loop-i-smaller
-loop-i-smaller c = omega arith

@@ -1,12 +1,9 @@
 -- `provenance::escape::is_one_byte_escape` meets its contract. The loop's invariant: a search in what is left of the table answers as one
 -- in all of it. The measure is what is left of the table.
-use mathlib.Core.Path.{◌≡◌, refl, sym, ◌∙◌}
+use mathlib.Core.Path.{◌≡◌}
 use Prim.Native.Nat.{◌-◌, ◌≤◌}
 use lib.ListN.{drop}
-use native.Mathlib.Omega.{arith}
-use borrow.Author.Rules.{rules}
 use Rattle.provenance.specs.Escape.{is_one_of, one_byte_escapes}
-use Rattle.provenance.proofs.Escapes.{one_here, one_later, one_none}
 use Rattle.provenance.proofs.escape.is_one_byte_escape.Given as goal
 
 abbrev pub invariant-loop-i : goal.invariant-loop-i

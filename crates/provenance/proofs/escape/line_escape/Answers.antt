@@ -5,7 +5,6 @@ use Prim.Native.Nat.{ℕ, ◌+◌}
 use Rattle.provenance.specs.declared.escape.Escape.TheVariants.{Takes}
 use Rattle.provenance.specs.RunLaws.{run_within}
 use Rattle.provenance.proofs.Steps.{numbers_of}
-use borrow.Author.Rules.{rules}
 use Rattle.provenance.proofs.escape.line_escape.Goals as goal
 
 pub overflow_add-result : goal.overflow_add-result

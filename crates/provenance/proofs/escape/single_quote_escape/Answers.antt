@@ -1,7 +1,6 @@
 -- `provenance::escape::single_quote_escape` meets its contract: it looks at two bytes.
 use mathlib.Core.Path.{sym, ◌∙◌}
 use Rattle.provenance.proofs.Escapes.{one_quote, quote_alone, two_quotes}
-use borrow.Author.Rules.{rules}
 use Rattle.provenance.proofs.escape.single_quote_escape.Goals as goal
 
 pub returns-then-byte_at-ne-SINGLE_QUOTE : goal.returns-then-byte_at-ne-SINGLE_QUOTE

@@ -2,7 +2,6 @@
 use mathlib.Core.Path.{sym, ap, ◌∙◌}
 use Rattle.provenance.specs.Escape.{code_content}
 use Rattle.provenance.proofs.Escapes.{radix_plus, radix_bare}
-use borrow.Author.Rules.{rules}
 use Rattle.provenance.proofs.escape.unicode_content.Goals as goal
 
 pub returns-then-byte_at-eq-PLUS : goal.returns-then-byte_at-eq-PLUS

@@ -7,7 +7,6 @@ use lib.ListN.{take, drop, length-drop}
 use lib.Seq.{take_all}
 use Rattle.provenance.specs.Escape.{code_content, radix16}
 use Rattle.letters.proofs.Chunks.{part_is}
-use borrow.Author.Rules.{rules}
 use Rattle.provenance.proofs.escape.unicode_content_at.Goals as goal
 
 pub returns-then-tail-from-lt4 : goal.returns-then-tail-from-lt4

@@ -1,9 +1,5 @@
-use mathlib.Core.Path.{◌≡◌, sym, ◌∙◌}
-use borrow.Author.Tests.{not-true, not-false}
-use Prim.Native.Nat.{◌+◌, ◌-◌, ◌≤◌}
-use lib.ListN.{length, drop}
+use mathlib.Core.Path.{sym, ◌∙◌}
 use native.Mathlib.Omega.{arith}
-use Rattle.provenance.specs.Run.{blank_run}
 use Rattle.provenance.proofs.Runs.{blank_more, blank_stops, blank_ends}
 use Rattle.provenance.proofs.run.blanks.Goals as goal
 
@@ -14,19 +10,10 @@ pub returns-then-n-most : goal.returns-then-n-most
 returns-then-n-most c = let e = c.loop-n.invariant.2 in let h = c.if-n-most.true in omega arith
 
 pub returns-then-not-is_blank : goal.returns-then-not-is_blank
-returns-then-not-is_blank c = let z = blank_stops c.args.tail.now c.loop-n.n c.loop-n-test.true (sym c.is_blank.ensures ∙ not-true _ c.if-not-is_blank.true) in omega arith
+returns-then-not-is_blank c = let z = blank_stops c.args.tail.now c.loop-n.n c.loop-n-test.true (sym c.is_blank.ensures ∙ c.if-not-is_blank.true) in omega arith
 
 pub loop-n-preserved : goal.loop-n-preserved
-loop-n-preserved c = let z = blank_more c.args.tail.now c.loop-n.n c.loop-n-test.true (sym c.is_blank.ensures ∙ not-false _ c.if-not-is_blank.false) in (omega arith, omega arith, omega arith)
+loop-n-preserved c = let z = blank_more c.args.tail.now c.loop-n.n c.loop-n-test.true (sym c.is_blank.ensures ∙ c.if-not-is_blank.false) in (omega arith, omega arith, omega arith)
 
 pub returns : goal.returns
 returns c = let z = blank_ends c.args.tail.now c.loop-n.n c.loop-n-test.false in omega arith
-
-pub bounds-tail-n : goal.bounds-tail-n
-bounds-tail-n c = omega arith
-
-pub overflow_add-n : goal.overflow_add-n
-overflow_add-n c = omega arith
-
-pub loop-n-smaller : goal.loop-n-smaller
-loop-n-smaller c = omega arith

@@ -1,12 +1,9 @@
 -- `provenance::run::blanks` meets its contract. The loop's invariant: the blanks passed and those that follow are all. The measure is
 -- what is left.
-use mathlib.Core.Path.{◌≡◌, sym, ◌∙◌}
-use borrow.Author.Tests.{not-true, not-false}
+use mathlib.Core.Path.{◌≡◌}
 use Prim.Native.Nat.{◌+◌, ◌-◌, ◌≤◌}
 use lib.ListN.{length, drop}
-use native.Mathlib.Omega.{arith}
 use Rattle.provenance.specs.Run.{blank_run}
-use Rattle.provenance.proofs.Runs.{blank_more, blank_stops, blank_ends}
 use Rattle.provenance.proofs.run.blanks.Given as goal
 
 abbrev pub invariant-loop-n : goal.invariant-loop-n

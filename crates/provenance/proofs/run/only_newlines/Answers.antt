@@ -1,8 +1,4 @@
-use mathlib.Core.Path.{◌≡◌, refl, sym, ◌∙◌}
-use Prim.Native.Nat.{◌-◌}
-use lib.ListN.{length, drop}
-use native.Mathlib.Omega.{arith}
-use Rattle.provenance.specs.Run.{only_newlines}
+use mathlib.Core.Path.{refl, sym, ◌∙◌}
 use Rattle.provenance.proofs.Runs.{only_more, only_not, only_ends}
 use Rattle.provenance.proofs.run.only_newlines.Goals as goal
 
@@ -17,12 +13,3 @@ loop-i-preserved c = sym (only_more c.args.tail.now c.loop-i.i c.loop-i-test.tru
 
 pub returns : goal.returns
 returns c = sym (only_ends c.args.tail.now c.loop-i.i c.loop-i-test.false) ∙ c.loop-i.invariant
-
-pub bounds-tail-i : goal.bounds-tail-i
-bounds-tail-i c = omega arith
-
-pub overflow_add-i : goal.overflow_add-i
-overflow_add-i c = omega arith
-
-pub loop-i-smaller : goal.loop-i-smaller
-loop-i-smaller c = omega arith

@@ -1,11 +1,9 @@
 -- `provenance::run::only_newlines` meets its contract. The loop's invariant: what is left has only newlines just if all of it has. The
 -- measure is what is left.
-use mathlib.Core.Path.{◌≡◌, refl, sym, ◌∙◌}
+use mathlib.Core.Path.{◌≡◌}
 use Prim.Native.Nat.{◌-◌}
 use lib.ListN.{length, drop}
-use native.Mathlib.Omega.{arith}
 use Rattle.provenance.specs.Run.{only_newlines}
-use Rattle.provenance.proofs.Runs.{only_more, only_not, only_ends}
 use Rattle.provenance.proofs.run.only_newlines.Given as goal
 
 abbrev pub invariant-loop-i : goal.invariant-loop-i

@@ -1,12 +1,10 @@
 -- `provenance::run::white_run` meets its contract. The loop's invariant: what was counted and the run of the rest are the run of
 -- the whole. The measure is what is left.
-use mathlib.Core.Path.{◌≡◌, sym, ◌∙◌}
-use borrow.Author.Tests.{not-true, not-false}
+use mathlib.Core.Path.{◌≡◌}
 use Prim.Native.Nat.{◌-◌, ◌≤◌}
 use lib.ListN.{length, drop}
-use native.Mathlib.Omega.{arith}
 use Rattle.provenance.specs.Counted.{counted_run}
-use Rattle.provenance.proofs.Runs.{scan_so_far, scan_begins, scan_ends, scan_stops, scan_newline, scan_other}
+use Rattle.provenance.proofs.Runs.{scan_so_far}
 use Rattle.provenance.proofs.run.white_run.Given as goal
 
 abbrev pub invariant-loop-len : goal.invariant-loop-len

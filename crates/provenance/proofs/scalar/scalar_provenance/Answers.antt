@@ -1,29 +1,28 @@
 -- `provenance::scalar::scalar_provenance` meets its contract: the rest of the text is handed on where the walk can start.
 use mathlib.Core.Path.{sym, ◌∙◌}
-use borrow.Author.Tests.{not-true, not-false}
 use native.Mathlib.Omega.{arith}
 use lib.ListN.{length, length-drop}
 use Rattle.utf8.proofs.Utf8Laws.{is_boundary_lem}
 use Rattle.letters.proofs.Chunks.{part_is}
 use Rattle.provenance.proofs.Starts.{cannot_start, can_start}
-use borrow.Author.Rules.{rules}
 use Rattle.provenance.proofs.scalar.scalar_provenance.Goals as goal
 
 pub returns-then-not-is_boundary : goal.returns-then-not-is_boundary
 returns-then-not-is_boundary c =
     let a = c.args in
-    cannot_start a.text.now a.start a.len a.value.now a.style a.column a.pieces.now c.requires.pieces_value c.walk_start-first.result c.walk_start-first.ensures (sym c.is_boundary.ensures ∙ not-true _ c.if-not-is_boundary.true)
+    let e = cannot_start a.text.now a.start a.len a.value.now a.style a.column a.pieces.now c.requires.pieces_value c.walk_start-first.result c.walk_start-first.ensures (sym c.is_boundary.ensures ∙ c.if-not-is_boundary.true) in
+    record { value = e.0; pieces_after = e.1 }
 
 pub slice_bounds-walk_scalar_provenance-count : goal.slice_bounds-walk_scalar_provenance-count
-slice_bounds-walk_scalar_provenance-count c = let h = (is_boundary_lem (sym c.is_boundary.ensures ∙ not-false _ c.if-not-is_boundary.false)).within in omega arith
+slice_bounds-walk_scalar_provenance-count c = let h = (is_boundary_lem (sym c.is_boundary.ensures ∙ c.if-not-is_boundary.false)).within in omega arith
 
 pub slice_bounds-walk_scalar_provenance-start : goal.slice_bounds-walk_scalar_provenance-start
-slice_bounds-walk_scalar_provenance-start c = let h = (is_boundary_lem (sym c.is_boundary.ensures ∙ not-false _ c.if-not-is_boundary.false)).within in omega arith
+slice_bounds-walk_scalar_provenance-start c = let h = (is_boundary_lem (sym c.is_boundary.ensures ∙ c.if-not-is_boundary.false)).within in omega arith
 
 pub walk_scalar_provenance-requires : goal.walk_scalar_provenance-requires
 walk_scalar_provenance-requires c =
     let a = c.args in
-    let h = (is_boundary_lem (sym c.is_boundary.ensures ∙ not-false _ c.if-not-is_boundary.false)).within in
+    let h = (is_boundary_lem (sym c.is_boundary.ensures ∙ c.if-not-is_boundary.false)).within in
     let d = length-drop c.walk_start-first.result a.text.now in
     record { src_len_bound = rw (part_is a.text.now c.walk_start-first.result) (omega arith, omega arith, omega arith, omega arith); pieces_value = c.requires.pieces_value }
 
@@ -31,5 +30,7 @@ pub returns : goal.returns
 returns c =
     let a = c.args in
     let w = c.walk_scalar_provenance in
-    can_start a.text.now a.start a.len a.value.now a.style a.column (length a.pieces.now) c.walk_start-first.result c.walk_start-first.ensures (sym c.is_boundary.ensures ∙ not-false _ c.if-not-is_boundary.false)
-    _ _ (rw (part_is a.text.now c.walk_start-first.result) at w.ensures)
+    let p = part_is a.text.now c.walk_start-first.result in
+    let e = can_start a.text.now a.start a.len a.value.now a.style a.column (length a.pieces.now) c.walk_start-first.result c.walk_start-first.ensures (sym c.is_boundary.ensures ∙ c.if-not-is_boundary.false)
+    w.result w.new.pieces (rw p at w.ensures.value, rw p at w.ensures.pieces_after) in
+    record { value = e.0; pieces_after = e.1 }

@@ -3,7 +3,6 @@ use mathlib.Core.Path.{sym, ap, ◌∙◌}
 use Prim.Native.Nat.{ℕ}
 use Rattle.provenance.specs.Start.{is_header}
 use Rattle.provenance.proofs.Starts.{header_yes, header_no}
-use borrow.Author.Rules.{rules}
 use Rattle.provenance.proofs.start.at_empty_block_header.Goals as goal
 
 pub returns-then-is_header : goal.returns-then-is_header

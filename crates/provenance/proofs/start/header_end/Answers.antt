@@ -1,8 +1,4 @@
-use mathlib.Core.Path.{◌≡◌}
-use Prim.Native.Nat.{◌+◌, ◌-◌, ◌≤◌}
-use lib.ListN.{length, drop}
 use native.Mathlib.Omega.{arith}
-use Rattle.provenance.specs.Start.{before_newline}
 use Rattle.provenance.proofs.Runs.{before_more, before_stops, before_ends, header_found, header_open}
 use Rattle.provenance.proofs.start.header_end.Goals as goal
 
@@ -17,12 +13,3 @@ loop-i-preserved c = let z = before_more c.args.rest.now c.loop-i.i c.loop-i-tes
 
 pub returns : goal.returns
 returns c = let z = before_ends c.args.rest.now c.loop-i.i c.loop-i-test.false in let e = c.loop-i.invariant.1 in let h = c.loop-i-test.false in header_open c.args.rest.now c.args.len (omega arith)
-
-pub bounds-rest-i : goal.bounds-rest-i
-bounds-rest-i c = omega arith
-
-pub overflow_add-i : goal.overflow_add-i
-overflow_add-i c = omega arith
-
-pub loop-i-smaller : goal.loop-i-smaller
-loop-i-smaller c = omega arith

@@ -3,9 +3,7 @@
 use mathlib.Core.Path.{◌≡◌}
 use Prim.Native.Nat.{◌+◌, ◌-◌, ◌≤◌}
 use lib.ListN.{length, drop}
-use native.Mathlib.Omega.{arith}
 use Rattle.provenance.specs.Start.{before_newline}
-use Rattle.provenance.proofs.Runs.{before_more, before_stops, before_ends, header_found, header_open}
 use Rattle.provenance.proofs.start.header_end.Given as goal
 
 abbrev pub invariant-loop-i : goal.invariant-loop-i

@@ -1,6 +1,5 @@
 -- `provenance::start::walk_start` meets its contract: it asks as the definition does.
 use mathlib.Core.Path.{sym, ◌∙◌}
-use borrow.Author.Tests.{not-true, not-false}
 use native.Mathlib.Omega.{arith}
 use Prim.Native.Nat.{◌≤◌}
 use lib.ListN.{length, drop, length-drop}
@@ -8,20 +7,19 @@ use Rattle.provenance.specs.Start.{header_end}
 use Rattle.letters.proofs.Chunks.{part_is}
 use Rattle.provenance.specs.RunLaws.{header_within}
 use Rattle.provenance.proofs.Starts.{start_quoted, start_plain, start_content, start_header}
-use borrow.Author.Rules.{rules}
 use Rattle.provenance.proofs.start.walk_start.Goals as goal
 
 pub returns-then-is_quoted : goal.returns-then-is_quoted
 returns-then-is_quoted c = let a = c.args in start_quoted a.text.now a.start a.len a.value.now a.style (sym c.is_quoted.ensures ∙ c.if-is_quoted.true)
 
 pub returns-then-not-is_block : goal.returns-then-not-is_block
-returns-then-not-is_block c = let a = c.args in start_plain a.text.now a.start a.len a.value.now a.style (sym c.is_quoted.ensures ∙ c.if-is_quoted.false) (sym c.is_block.ensures ∙ not-true _ c.if-not-is_block.true)
+returns-then-not-is_block c = let a = c.args in start_plain a.text.now a.start a.len a.value.now a.style (sym c.is_quoted.ensures ∙ c.if-is_quoted.false) (sym c.is_block.ensures ∙ c.if-not-is_block.true)
 
 pub returns-then-not-at_empty_block_header : goal.returns-then-not-at_empty_block_header
 returns-then-not-at_empty_block_header c =
     let a = c.args in
     start_content a.text.now a.start a.len a.value.now a.style (sym c.is_quoted.ensures ∙ c.if-is_quoted.false)
-    (sym (rw (part_is a.text.now a.start) at c.at_empty_block_header.ensures) ∙ not-true _ c.if-not-at_empty_block_header.true)
+    (sym (rw (part_is a.text.now a.start) at c.at_empty_block_header.ensures) ∙ c.if-not-at_empty_block_header.true)
 
 pub overflow_add-result-2 : goal.overflow_add-result-2
 overflow_add-result-2 c =
@@ -34,6 +32,6 @@ overflow_add-result-2 c =
 pub returns : goal.returns
 returns c =
     let a = c.args in
-    start_header a.text.now a.start a.len a.value.now a.style (sym c.is_quoted.ensures ∙ c.if-is_quoted.false) (sym c.is_block.ensures ∙ not-false _ c.if-not-is_block.false)
-    (sym (rw (part_is a.text.now a.start) at c.at_empty_block_header.ensures) ∙ not-false _ c.if-not-at_empty_block_header.false)
+    start_header a.text.now a.start a.len a.value.now a.style (sym c.is_quoted.ensures ∙ c.if-is_quoted.false) (sym c.is_block.ensures ∙ c.if-not-is_block.false)
+    (sym (rw (part_is a.text.now a.start) at c.at_empty_block_header.ensures) ∙ c.if-not-at_empty_block_header.false)
     _ (rw (part_is a.text.now a.start) at c.header_end.ensures)

@@ -3,7 +3,6 @@ use mathlib.Core.Path.{◌≡◌}
 use Prim.Native.Nat.{◌+◌, ◌-◌, ◌≤◌}
 use native.Mathlib.Omega.{arith}
 use lib.ListN.{length, take, drop, length-drop}
-use borrow.Author.Rules.{rules}
 use Rattle.provenance.specs.Run.{white_run, newlines_in, cut, blank_run}
 use Rattle.provenance.specs.RunLaws.{run_within, last_within}
 use Rattle.letters.proofs.Chunks.{part_is}

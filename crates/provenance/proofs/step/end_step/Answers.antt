@@ -1,7 +1,6 @@
 -- `provenance::step::end_step` meets its contract: only newlines may be left.
 use mathlib.Core.Path.{sym, ◌∙◌}
 use Rattle.provenance.proofs.Steps.{end_fits, end_not}
-use borrow.Author.Rules.{rules}
 use Rattle.provenance.proofs.step.end_step.Goals as goal
 
 pub returns-then-only_newlines : goal.returns-then-only_newlines

@@ -2,7 +2,6 @@
 use mathlib.Core.Path.{sym, ap, ◌∙◌}
 use mathlib.Core.Bool.{Bool, ◌||◌}
 use lib.Dec.{eqb}
-use borrow.Author.Rules.{rules}
 use Rattle.provenance.proofs.step.is_break_byte.Goals as goal
 
 pub returns-then-is_blank : goal.returns-then-is_blank

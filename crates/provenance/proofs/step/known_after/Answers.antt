@@ -1,7 +1,6 @@
 -- `provenance::step::known_after` meets its contract: it asks as the definition does.
 use borrow.Author.Tests.{lt-ltb, le-ltb, eq-eqb, ne_eqb}
 use Rattle.provenance.specs.Looked.{known_after}
-use borrow.Author.Rules.{rules}
 use Rattle.provenance.proofs.step.known_after.Goals as goal
 
 pub returns-then-run-gt0 : goal.returns-then-run-gt0

@@ -9,7 +9,6 @@ use Rattle.provenance.specs.Grammar.{is_block, rules_of, break_pair}
 use Rattle.letters.proofs.Chunks.{part_is}
 use Rattle.provenance.specs.EscapeLaws.{escape_nowhere}
 use Rattle.provenance.proofs.Steps.{found, found_inside, step_break, step_escape, step_end, step_equal, step_nothing}
-use borrow.Author.Rules.{rules}
 use Rattle.provenance.proofs.step.step_at.Goals as goal
 
 pub break_step-requires : goal.break_step-requires

@@ -1,11 +1,9 @@
 use mathlib.Core.Path.{◌≡◌, refl, sym, ap, ◌∙◌}
+use mathlib.Core.List.{List}
 use mathlib.Core.Logic.{⊎_elim, ◌⊎◌}
-use Prim.Native.Nat.{ℕ, ◌+◌, ◌-◌, ◌≤◌, ◌<◌}
+use Prim.Native.Nat.{ℕ, ◌+◌, ◌≤◌, ◌<◌}
 use native.Mathlib.Omega.{arith}
 use lib.ListN.{length}
-use borrow.Author.Rules.{rules}
-use Rattle.provenance.specs.declared.step.Step.{Step}
-use Rattle.provenance.specs.declared.step.Step.TheVariants.{Verbatim, Replacement}
 use Rattle.provenance.specs.Grammar.{is_block, rules_of, step_at}
 use Rattle.provenance.specs.Writing.{written_len}
 use Rattle.provenance.specs.LetterLaws.{letters-steps}
@@ -16,15 +14,12 @@ use Rattle.provenance.proofs.Steps.{Clear, tells, run_small, clear_after, clear_
 use Rattle.provenance.proofs.Turn.{Going, begins, on_verbatim, on_letters, on_replacement}
 use Rattle.provenance.proofs.Walks.{ends_stuck, ends_listed, ends_full}
 use Rattle.provenance.proofs.walk.walk_scalar_provenance.Goals as goal
-use Rattle.provenance.proofs.walk.walk_scalar_provenance.Goals.{After-known_after-known, After-slice_known-in-Replacement-1, In-Replacement, In-Verbatim, In-loop-v}
+use Rattle.provenance.proofs.walk.walk_scalar_provenance.Goals.{After-known_after-known, After-put_replacement-n, In-Replacement, In-Verbatim}
 
 -- ---- what is known in a turn
--- the steps of the grammar, which are fair
-abbrev steps : In-loop-v → ℕ → ℕ → Step
-steps i = step_at (rules_of i.args.style i.args.column) i.args.src.now i.args.value.now
-
-fair_here : (i : In-loop-v) → Fair escapes_reach (steps i) (length i.args.src.now) (length i.args.value.now)
-fair_here i = let a = i.args in grammar_fair (rules_of a.style a.column) (style_fair a.style) a.src.now a.value.now
+-- the steps of the grammar are fair
+fair_here : (style column : ℕ) (src value : List ℕ) → Fair escapes_reach (step_at (rules_of style column) src value) (length src) (length value)
+fair_here style column src value = grammar_fair (rules_of style column) (style_fair style) src value
 
 -- after the run was looked at
 clear_here : (c : After-known_after-known) → Clear c.args.src.now c.loop-v.s c.known_after-known.result
@@ -34,33 +29,32 @@ clear_here c =
     clear_after (is_block a.style) a.src.now a.value.now w.s w.v w.known w.invariant.1 c.break_run-run.result c.break_run-run.ensures _ c.known_after-known.ensures
 
 -- the step is verbatim
-is_verbatim : (c : In-Verbatim) → steps c.before.before.before.before.before.before c.loop-v.s c.loop-v.v ≡ Verbatim c.in-Verbatim.k
-is_verbatim c = sym c.step_at-t.ensures ∙ c.in-Verbatim.is
-
 verbatim_bounds : (c : In-Verbatim)
     → (0 < c.in-Verbatim.k) × (c.loop-v.s + c.in-Verbatim.k ≤ length c.args.src.now) × (c.loop-v.v + c.in-Verbatim.k ≤ length c.args.value.now)
-verbatim_bounds c = (fair_here c.before.before.before.before.before.before).same c.loop-v.s c.loop-v.v c.in-Verbatim.k c.loop-v-test.true (is_verbatim c)
+verbatim_bounds c =
+    let a = c.args in
+    (fair_here a.style a.column a.src.now a.value.now).same c.loop-v.s c.loop-v.v c.in-Verbatim.k c.loop-v-test.true (sym c.step_at-t.ensures ∙ c.in-Verbatim.is)
 
 -- the step is a replacement
-is_replacement : (c : In-Replacement) → steps c.before.before.before.before.before.before c.loop-v.s c.loop-v.v ≡ Replacement c.in-Replacement.a c.in-Replacement.b
-is_replacement c = sym c.step_at-t.ensures ∙ c.in-Replacement.is
-
 replacement_bounds : (c : In-Replacement)
     → (c.loop-v.v + c.in-Replacement.b ≤ length c.args.value.now + 2)
     × (((0 < c.in-Replacement.a) × (c.loop-v.s < length c.args.src.now) × (c.loop-v.s + c.in-Replacement.a ≤ length c.args.src.now + 4))
     ⊎ ((c.in-Replacement.a ≡ 0) × (c.loop-v.v + c.in-Replacement.b ≡ length c.args.value.now)))
-replacement_bounds c = (fair_here c.before.before.before.before.before.before).other c.loop-v.s c.loop-v.v c.in-Replacement.a c.in-Replacement.b c.loop-v-test.true (is_replacement c)
+replacement_bounds c =
+    let a = c.args in
+    (fair_here a.style a.column a.src.now a.value.now).other c.loop-v.s c.loop-v.v c.in-Replacement.a c.in-Replacement.b c.loop-v-test.true (sym c.step_at-t.ensures ∙ c.in-Replacement.is)
 
 -- and was written
-replaced : (c : After-slice_known-in-Replacement-1)
-    → Going escapes_reach (steps c.before.before.before.before.before.before.before.before.before.before) (length c.args.src.now) (length c.args.value.now) c.args.base (length c.args.pieces.now) c.put_replacement-n.new.0
+replaced : (c : After-put_replacement-n)
+    → Going escapes_reach (step_at (rules_of c.args.style c.args.column) c.args.src.now c.args.value.now) (length c.args.src.now) (length c.args.value.now) c.args.base (length c.args.pieces.now) c.put_replacement-n.new.pieces
     (c.loop-v.s + c.in-Replacement.a) (c.loop-v.v + c.in-Replacement.b) (c.loop-v.s + c.in-Replacement.a) c.put_replacement-n.result
 replaced c =
+    let a = c.args in
     let w = c.loop-v in
     let p = c.put_replacement-n in
-    on_replacement _ _ _ _ _ _ (fair_here c.before.before.before.before.before.before.before.before.before.before) _ w.s w.v w.from w.n w.invariant.0 c.loop-v-test.true _ _ (is_replacement c.before.before.before.before) p.result p.new.0 p.ensures.value p.ensures.pieces_after
+    on_replacement _ _ _ _ _ _ (fair_here a.style a.column a.src.now a.value.now) _ w.s w.v w.from w.n w.invariant.0 c.loop-v-test.true _ _ (sym c.step_at-t.ensures ∙ c.in-Replacement.is) p.result p.new.pieces p.ensures.value p.ensures.pieces_after
 
--- ---- the needs
+-- ---- the goals
 pub loop-v-init : goal.loop-v-init
 loop-v-init c = (begins _ _ _ _ _ _ _ refl c.requires.pieces_value, λ i h k. absurd (omega arith))
 
@@ -79,13 +73,13 @@ step_at-t-requires c =
     record { src_len_bound = (omega arith, omega arith, omega arith); tells = tells (is_block a.style) a.src.now a.value.now w.s w.v w.known w.invariant.1 c.break_run-run.result c.break_run-run.ensures }
 
 pub overflow_add-s : goal.overflow_add-s
-overflow_add-s c = let b = verbatim_bounds c in omega arith
+overflow_add-s c = let b = verbatim_bounds (goal.at.overflow_add-s c).In-Verbatim in omega arith
 
 pub overflow_add-v : goal.overflow_add-v
-overflow_add-v c = let b = verbatim_bounds c in omega arith
+overflow_add-v c = let b = verbatim_bounds (goal.at.overflow_add-v c).In-Verbatim in omega arith
 
 pub letters-more-requires : goal.letters-more-requires
-letters-more-requires c = let b = verbatim_bounds c in (omega arith, omega arith)
+letters-more-requires c = let b = verbatim_bounds (goal.at.letters-more-requires c).In-Verbatim in (omega arith, omega arith)
 
 pub overflow_add-s-in-Verbatim : goal.overflow_add-s-in-Verbatim
 overflow_add-s-in-Verbatim c = let b = c.letters-more.ensures.in_source in omega arith
@@ -102,8 +96,8 @@ loop-v-preserved-in-Verbatim c =
     let w = c.loop-v in
     let k = c.in-Verbatim.k in
     let l = c.letters-more.ensures in
-    let g = on_verbatim _ _ _ _ _ _ (fair_here (goal.at.loop-v-preserved-in-Verbatim c).In-loop-v) _ w.s w.v w.from w.n w.invariant.0 c.loop-v-test.true k (is_verbatim (goal.at.loop-v-preserved-in-Verbatim c).In-Verbatim) in (
-      on_letters _ _ _ _ _ _ (fair_here (goal.at.loop-v-preserved-in-Verbatim c).In-loop-v) _ (w.s + k) (w.v + k) w.from w.n c.letters-more.result g l.in_value (letters-steps a.style a.column a.src.now a.value.now (w.s + k) (w.v + k) c.letters-more.result l.letters),
+    let g = on_verbatim _ _ _ _ _ _ (fair_here a.style a.column a.src.now a.value.now) _ w.s w.v w.from w.n w.invariant.0 c.loop-v-test.true k (sym c.step_at-t.ensures ∙ c.in-Verbatim.is) in (
+      on_letters _ _ _ _ _ _ (fair_here a.style a.column a.src.now a.value.now) _ (w.s + k) (w.v + k) w.from w.n c.letters-more.result g l.in_value (letters-steps a.style a.column a.src.now a.value.now (w.s + k) (w.v + k) c.letters-more.result l.letters),
       clear_on a.src.now w.s (w.s + k + c.letters-more.result) c.known_after-known.result (omega arith) (clear_here (goal.at.loop-v-preserved-in-Verbatim c).After-known_after-known),
     )
 
@@ -119,10 +113,10 @@ put_replacement-n-requires c =
     (omega arith, omega arith, omega arith, ⊎_elim (λ z. omega arith) (λ z. omega arith) b.1, omega arith)
 
 pub overflow_add-s-in-Replacement : goal.overflow_add-s-in-Replacement
-overflow_add-s-in-Replacement c = let limit = c.requires.src_len_bound.0 in let i = (replaced c).in_source in omega arith
+overflow_add-s-in-Replacement c = let limit = c.requires.src_len_bound.0 in let i = (replaced (goal.at.overflow_add-s-in-Replacement c).After-put_replacement-n).in_source in omega arith
 
 pub overflow_add-v-in-Replacement : goal.overflow_add-v-in-Replacement
-overflow_add-v-in-Replacement c = let limit = c.requires.src_len_bound.1 in let i = (replaced c).in_value in omega arith
+overflow_add-v-in-Replacement c = let limit = c.requires.src_len_bound.1 in let i = (replaced (goal.at.overflow_add-v-in-Replacement c).After-put_replacement-n).in_value in omega arith
 
 pub loop-v-smaller : goal.loop-v-smaller
 loop-v-smaller c =
@@ -132,19 +126,20 @@ loop-v-smaller c =
 pub loop-v-preserved : goal.loop-v-preserved
 loop-v-preserved c =
     let w = c.loop-v in
-    (replaced c, clear_on c.args.src.now w.s (w.s + c.in-Replacement.a) c.known_after-known.result (omega arith) (clear_here (goal.at.loop-v-preserved c).After-known_after-known))
+    (replaced (goal.at.loop-v-preserved c).After-put_replacement-n, clear_on c.args.src.now w.s (w.s + c.in-Replacement.a) c.known_after-known.result (omega arith) (clear_here (goal.at.loop-v-preserved c).After-known_after-known))
 
 pub shape_of-pieces-in-NoStep : goal.shape_of-pieces-in-NoStep
-shape_of-pieces-in-NoStep c = c.clear_pieces.auto.0 ∙ c.loop-v.invariant.0.held.size
+shape_of-pieces-in-NoStep c = c.clear_pieces.auto.pieces ∙ c.loop-v.invariant.0.held.size
 
 pub returns-in-NoStep : goal.returns-in-NoStep
 returns-in-NoStep c =
     let a = c.args in
     let w = c.loop-v in
     let g = w.invariant.0 in
-    ends_stuck (rules_of a.style a.column) (style_fair a.style) a.src.now a.value.now a.base (length a.pieces.now) _ w.s w.v w.from w.n g
+    let e = ends_stuck (rules_of a.style a.column) (style_fair a.style) a.src.now a.value.now a.base (length a.pieces.now) _ w.s w.v w.from w.n g
     c.loop-v-test.true (sym c.step_at-t.ensures ∙ c.in-NoStep.is)
-    _ _ (ap (λ (j : ℕ). written_len w.n j) g.held.size) c.clear_pieces.ensures
+    _ _ (ap (λ (j : ℕ). written_len w.n j) g.held.size) c.clear_pieces.ensures in
+    record { value = e.0; pieces_after = e.1 }
 
 pub put_open-n-requires : goal.put_open-n-requires
 put_open-n-requires c =
@@ -155,7 +150,7 @@ put_open-n-requires c =
     (omega arith, omega arith, omega arith)
 
 pub shape_of-pieces-then-room-n : goal.shape_of-pieces-then-room-n
-shape_of-pieces-then-room-n c = c.clear_pieces-then-room-n.auto.0 ∙ c.put_open-n.auto.0 ∙ c.loop-v.invariant.0.held.size
+shape_of-pieces-then-room-n c = c.clear_pieces-then-room-n.auto.pieces ∙ c.put_open-n.auto.pieces ∙ c.loop-v.invariant.0.held.size
 
 pub returns-then-room-n : goal.returns-then-room-n
 returns-then-room-n c =
@@ -163,15 +158,16 @@ returns-then-room-n c =
     let w = c.loop-v in
     let g = w.invariant.0 in
     let o = c.put_open-n in
-    let size : length o.new.0 ≡ length a.pieces.now = o.auto.0 ∙ g.held.size in
+    let size : length o.new.pieces ≡ length a.pieces.now = o.auto.pieces ∙ g.held.size in
     let most = c.room.ensures in
     let over = c.if-room-n.true in
-    ends_full (rules_of a.style a.column) (style_fair a.style) a.src.now a.value.now a.base (length a.pieces.now) _ w.s w.v w.from w.n g
-    c.loop-v-test.false o.result o.new.0 o.ensures.value o.ensures.pieces_after
-    (omega arith) _ _ (ap (λ (j : ℕ). written_len o.result j) size) c.clear_pieces-then-room-n.ensures
+    let e = ends_full (rules_of a.style a.column) (style_fair a.style) a.src.now a.value.now a.base (length a.pieces.now) _ w.s w.v w.from w.n g
+    c.loop-v-test.false o.result o.new.pieces o.ensures.value o.ensures.pieces_after
+    (omega arith) _ _ (ap (λ (j : ℕ). written_len o.result j) size) c.clear_pieces-then-room-n.ensures in
+    record { value = e.0; pieces_after = e.1 }
 
 pub shape_of-pieces : goal.shape_of-pieces
-shape_of-pieces c = c.put_open-n.auto.0 ∙ c.loop-v.invariant.0.held.size
+shape_of-pieces c = c.put_open-n.auto.pieces ∙ c.loop-v.invariant.0.held.size
 
 pub returns : goal.returns
 returns c =
@@ -179,8 +175,9 @@ returns c =
     let w = c.loop-v in
     let g = w.invariant.0 in
     let o = c.put_open-n in
-    let size : length o.new.0 ≡ length a.pieces.now = o.auto.0 ∙ g.held.size in
+    let size : length o.new.pieces ≡ length a.pieces.now = o.auto.pieces ∙ g.held.size in
     let most = c.room.ensures in
     let in_room = c.if-room-n.false in
-    ends_listed (rules_of a.style a.column) (style_fair a.style) a.src.now a.value.now a.base (length a.pieces.now) _ w.s w.v w.from w.n g
-    c.loop-v-test.false o.result o.new.0 o.ensures.value o.ensures.pieces_after (omega arith)
+    let e = ends_listed (rules_of a.style a.column) (style_fair a.style) a.src.now a.value.now a.base (length a.pieces.now) _ w.s w.v w.from w.n g
+    c.loop-v-test.false o.result o.new.pieces o.ensures.value o.ensures.pieces_after (omega arith) in
+    record { value = e.0; pieces_after = e.1 }

@@ -1,23 +1,12 @@
 -- `provenance::walk::walk_scalar_provenance` meets its contract. The loop's invariant: a reading from here on gives one from the start and
 -- the other way round, its pieces are those written and those of the rest (`Going`), and no run from here to `known` holds a newline. The
 -- measure is what is left of the source and of the value.
-use mathlib.Core.Path.{◌≡◌, refl, sym, ap, ◌∙◌}
-use mathlib.Core.Logic.{⊎_elim, ◌⊎◌}
-use Prim.Native.Nat.{ℕ, ◌+◌, ◌-◌, ◌≤◌, ◌<◌}
-use native.Mathlib.Omega.{arith}
+use Prim.Native.Nat.{◌+◌, ◌-◌}
 use lib.ListN.{length}
-use borrow.Author.Rules.{rules}
-use Rattle.provenance.specs.declared.step.Step.{Step}
-use Rattle.provenance.specs.declared.step.Step.TheVariants.{Verbatim, Replacement}
-use Rattle.provenance.specs.Grammar.{is_block, rules_of, step_at}
-use Rattle.provenance.specs.Writing.{written_len}
-use Rattle.provenance.specs.LetterLaws.{letters-steps}
+use Rattle.provenance.specs.Grammar.{rules_of, step_at}
 use Rattle.provenance.specs.Escape.{escapes_reach}
-use Rattle.provenance.specs.EscapeLaws.{style_fair}
-use Rattle.provenance.specs.StepLaws.{Fair, grammar_fair}
-use Rattle.provenance.proofs.Steps.{Clear, tells, run_small, clear_after, clear_on}
-use Rattle.provenance.proofs.Turn.{Going, begins, on_verbatim, on_letters, on_replacement}
-use Rattle.provenance.proofs.Walks.{ends_stuck, ends_listed, ends_full}
+use Rattle.provenance.proofs.Steps.{Clear}
+use Rattle.provenance.proofs.Turn.{Going}
 use Rattle.provenance.proofs.walk.walk_scalar_provenance.Given as goal
 
 abbrev pub invariant-loop-v : goal.invariant-loop-v

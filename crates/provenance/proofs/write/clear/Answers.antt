@@ -1,11 +1,10 @@
 use mathlib.Core.Path.{◌≡◌, refl, ap, ◌∙◌}
-use Prim.Native.Nat.{ℕ, ◌+◌, ◌-◌, ◌≤◌, ◌<◌, zero-le}
+use Prim.Native.Nat.{ℕ, ◌<◌, zero-le}
 use native.Mathlib.Omega.{arith}
 use mathlib.Core.List.{List, ◌++◌, append-nil}
 use lib.ListN.{length, set, drop, replicate, length-set}
 use lib.Seq.{drop-length}
 use borrow.Author.Fill.{fill_none, fill_more}
-use borrow.Author.Rules.{rules}
 use Rattle.provenance.proofs.write.clear.Goals as goal
 
 pub loop-i-init : goal.loop-i-init
@@ -26,12 +25,3 @@ returns c =
     let b = c.args.buffer.now in
     let e : c.loop-i.i ≡ length b = omega arith in
     c.loop-i.invariant.1 ∙ ap (λ (k : ℕ). replicate k 0 ++ drop k b) e ∙ ap (λ (x : List ℕ). replicate (length b) 0 ++ x) (drop-length b) ∙ append-nil (replicate (length b) 0)
-
-pub bounds-buffer-i : goal.bounds-buffer-i
-bounds-buffer-i c = omega arith
-
-pub overflow_add-i : goal.overflow_add-i
-overflow_add-i c = omega arith
-
-pub loop-i-smaller : goal.loop-i-smaller
-loop-i-smaller c = omega arith

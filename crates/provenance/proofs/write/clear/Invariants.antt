@@ -1,12 +1,8 @@
 -- `provenance::write::clear` meets its contract: the first i numbers are zero, the others as they were; i goes up to the end.
-use mathlib.Core.Path.{◌≡◌, refl, ap, ◌∙◌}
-use Prim.Native.Nat.{ℕ, ◌+◌, ◌-◌, ◌≤◌, ◌<◌, zero-le}
-use native.Mathlib.Omega.{arith}
-use mathlib.Core.List.{List, ◌++◌, append-nil}
-use lib.ListN.{length, set, drop, replicate, length-set}
-use lib.Seq.{drop-length}
-use borrow.Author.Fill.{fill_none, fill_more}
-use borrow.Author.Rules.{rules}
+use mathlib.Core.Path.{◌≡◌}
+use Prim.Native.Nat.{◌-◌, ◌≤◌}
+use mathlib.Core.List.{◌++◌}
+use lib.ListN.{length, drop, replicate}
 use Rattle.provenance.proofs.write.clear.Given as goal
 
 abbrev pub invariant-loop-i : goal.invariant-loop-i

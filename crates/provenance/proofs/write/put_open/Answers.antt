@@ -1,7 +1,6 @@
 -- `provenance::write::put_open` meets its contract: it writes where there is something to write.
 use borrow.Author.Tests.{lt-ltb, le-ltb}
 use Rattle.provenance.specs.Writing.{put_open}
-use borrow.Author.Rules.{rules}
 use Rattle.provenance.proofs.write.put_open.Goals as goal
 
 pub returns-then-from-s : goal.returns-then-from-s

@@ -4,7 +4,6 @@ use native.Mathlib.Omega.{arith}
 use lib.ListN.{length, length-set}
 use Rattle.provenance.specs.Layout.{room}
 use Rattle.provenance.specs.Writing.{put_piece}
-use borrow.Author.Rules.{rules}
 use Rattle.provenance.proofs.write.put_piece.Goals as goal
 
 pub bounds-pieces-at-then-n-room : goal.bounds-pieces-at-then-n-room

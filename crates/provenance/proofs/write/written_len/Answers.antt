@@ -5,7 +5,6 @@ use native.Mathlib.Omega.{arith}
 use Prim.Native.Nat.{ℕ, ◌*◌}
 use Rattle.provenance.specs.Layout.{room}
 use Rattle.provenance.specs.Writing.{written_len}
-use borrow.Author.Rules.{rules}
 use Rattle.provenance.proofs.write.written_len.Goals as goal
 
 pub returns-then-n-most : goal.returns-then-n-most

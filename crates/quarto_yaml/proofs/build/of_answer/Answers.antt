@@ -1,6 +1,5 @@
 -- The three numbers are those of the row, which fit.
 use native.Mathlib.Omega.{arith}
-use borrow.Author.Rules.{rules}
 use Rattle.quarto_yaml.proofs.build.of_answer.Goals as goal
 
 pub overflow_cast-result : goal.overflow_cast-result

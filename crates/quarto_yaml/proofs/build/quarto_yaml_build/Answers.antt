@@ -5,7 +5,7 @@ use native.Mathlib.Omega.{arith}
 use borrow.Author.Rules.{rules}
 use Rattle.event.specs.Read.{events_limit}
 use Rattle.records.specs.Layout.{piece_limit}
-use Rattle.parser.specs.Bounds.{building_bounded}
+use Rattle.parser.proofs.BoundLaws.{building_bounded}
 use Rattle.quarto_yaml.proofs.Rows.{told_fits}
 use Rattle.quarto_yaml.specs.Answer.{three, build_outcome}
 use Rattle.quarto_yaml.proofs.build.quarto_yaml_build.Goals as goal
@@ -13,9 +13,8 @@ use Rattle.quarto_yaml.proofs.build.quarto_yaml_build.Goals as goal
 pub of_answer-requires : goal.of_answer-requires
 of_answer-requires c =
     let a = c.args in
-    let bytes = c.shared_slice_known-2-1.given in
     told_fits events_limit piece_limit (build_outcome a.text.now a.events.now a.records.now a.pieces.now) _ (omega arith) (omega arith)
-    (building_bounded a.text.now a.events.now (length a.records.now) (length a.pieces.now) (λ k. (bytes k).fits))
+    (building_bounded a.text.now a.events.now (length a.records.now) (length a.pieces.now) (λ k. (c.type_inv.events k).fits))
     c.build.ensures.answer
 
 pub returns : goal.returns

@@ -6,7 +6,7 @@ use borrow.Author.Rules.{rules}
 use Rattle.records.specs.Layout.{piece_limit}
 use Rattle.records.specs.Record.{node_numbers}
 use Rattle.spans.specs.Scalar.{mark}
-use Rattle.parser.specs.Bounds.{scalar_bounded}
+use Rattle.parser.proofs.BoundLaws.{scalar_bounded}
 use Rattle.quarto_yaml.proofs.Rows.{told_fits}
 use Rattle.quarto_yaml.specs.Answer.{three, scalar_outcome}
 use Rattle.quarto_yaml.proofs.build.quarto_yaml_scalar.Goals as goal
@@ -15,9 +15,9 @@ pub of_answer-answer-requires : goal.of_answer-answer-requires
 of_answer-answer-requires c =
     let a = c.args in
     told_fits 1 piece_limit
-    (scalar_outcome a.text.now a.index a.column a.style a.empty_span_is a.value.now a.pieces.now) _
+    (scalar_outcome a.text.now a.index a.column a.style a.empty_span a.value.now a.pieces.now) _
     (omega arith) (omega arith)
-    (scalar_bounded a.text.now (mark a.index a.column a.style a.empty_span_is) a.value.now (length a.pieces.now))
+    (scalar_bounded a.text.now (mark a.index a.column a.style a.empty_span) a.value.now (length a.pieces.now))
     c.scalar-r.ensures.answer
 
 pub returns : goal.returns

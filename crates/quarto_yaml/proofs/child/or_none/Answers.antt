@@ -1,6 +1,5 @@
 -- The number fits, or there is none.
 use native.Mathlib.Omega.{arith}
-use borrow.Author.Rules.{rules}
 use Rattle.quarto_yaml.proofs.child.or_none.Goals as goal
 
 pub overflow_cast-result : goal.overflow_cast-result

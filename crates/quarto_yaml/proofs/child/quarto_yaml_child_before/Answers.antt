@@ -1,7 +1,6 @@
 -- `quarto_yaml_child_before` is `child_before` in 32 bits: the record that it answers has a number of at most the one it is asked about.
 use mathlib.Core.Path.{ap, ◌∙◌}
 use native.Mathlib.Omega.{arith}
-use borrow.Author.Rules.{rules}
 use Rattle.quarto_yaml.proofs.Records.{fits, child_before_at_most}
 use Rattle.quarto_yaml.specs.None.{or_none}
 use Rattle.quarto_yaml.proofs.child.quarto_yaml_child_before.Goals as goal

@@ -1,7 +1,6 @@
 -- `quarto_yaml_get_hash_value` is `get_hash_value` in 32 bits: the record answered has a number of at most the one asked about.
 use mathlib.Core.Path.{ap, ◌∙◌}
 use native.Mathlib.Omega.{arith}
-use borrow.Author.Rules.{rules}
 use Rattle.quarto_yaml.proofs.Records.{fits, value_at_most}
 use Rattle.quarto_yaml.specs.None.{or_none}
 use Rattle.quarto_yaml.proofs.child.quarto_yaml_get_hash_value.Goals as goal

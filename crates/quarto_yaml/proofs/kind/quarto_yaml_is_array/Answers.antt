@@ -1,6 +1,5 @@
 -- `quarto_yaml_is_array` is `is_array` in 32 bits.
 use mathlib.Core.Path.{ap, ◌∙◌}
-use borrow.Author.Rules.{rules}
 use Rattle.quarto_yaml.specs.None.{flag_or_none}
 use Rattle.quarto_yaml.proofs.kind.quarto_yaml_is_array.Goals as goal
 

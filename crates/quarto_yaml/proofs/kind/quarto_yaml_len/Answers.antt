@@ -1,6 +1,5 @@
 -- `quarto_yaml_len` is `len` in 32 bits.
 use mathlib.Core.Path.{ap, ◌∙◌}
-use borrow.Author.Rules.{rules}
 use Rattle.quarto_yaml.specs.None.{or_none}
 use Rattle.quarto_yaml.proofs.kind.quarto_yaml_len.Goals as goal
 

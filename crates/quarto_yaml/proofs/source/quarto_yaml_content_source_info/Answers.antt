@@ -2,7 +2,6 @@
 use mathlib.Core.Path.{sym, ap, ◌∙◌}
 use Rattle.node.specs.Source.{piece_list_in}
 use Rattle.quarto_yaml.specs.Found.{found_pieces}
-use borrow.Author.Rules.{rules}
 use Rattle.quarto_yaml.proofs.source.quarto_yaml_content_source_info.Goals as goal
 
 pub returns-in_default : goal.returns-in_default

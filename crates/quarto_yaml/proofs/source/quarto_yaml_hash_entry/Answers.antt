@@ -4,7 +4,6 @@ use native.Mathlib.Omega.{arith}
 use Rattle.node.specs.Entry.{entry_in}
 use Rattle.quarto_yaml.specs.Found.{found_entry}
 use Rattle.quarto_yaml.proofs.Records.{entry_fits}
-use borrow.Author.Rules.{rules}
 use Rattle.quarto_yaml.proofs.source.quarto_yaml_hash_entry.Goals as goal
 
 pub overflow_cast-result : goal.overflow_cast-result

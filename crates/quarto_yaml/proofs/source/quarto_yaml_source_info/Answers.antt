@@ -2,7 +2,6 @@
 use mathlib.Core.Path.{sym, ap, ◌∙◌}
 use Rattle.node.specs.Source.{span_in}
 use Rattle.quarto_yaml.specs.Found.{found_span}
-use borrow.Author.Rules.{rules}
 use Rattle.quarto_yaml.proofs.source.quarto_yaml_source_info.Goals as goal
 
 pub returns-in_default : goal.returns-in_default

@@ -1,33 +1,17 @@
-use mathlib.Core.Path.{◌≡◌, refl, ap, ◌∙◌}
-use Prim.Native.Nat.{ℕ, ◌+◌, ◌-◌, ◌≤◌, ◌<◌, zero-le}
+use mathlib.Core.Path.{refl, ap, ◌∙◌}
+use Prim.Native.Nat.{ℕ, ◌+◌, ◌<◌, zero-le}
 use native.Mathlib.Omega.{arith}
 use mathlib.Core.List.{List}
-use lib.ListN.{length, get_or, set, take, length-set}
+use lib.ListN.{length, get_or, set, length-set}
 use lib.Seq.{sets, take_all}
-use borrow.Author.Rules.{rules}
 use Rattle.records.proofs.Stores.{sets_more}
 use Rattle.records.proofs.buffer.put.Goals as goal
 
 pub loop-i-init : goal.loop-i-init
 loop-i-init c = (zero-le, refl, refl)
 
-pub bounds-numbers-i : goal.bounds-numbers-i
-bounds-numbers-i c = omega arith
-
-pub overflow_add-buffer : goal.overflow_add-buffer
-overflow_add-buffer c = omega arith
-
 pub offset_bounds-buffer-at : goal.offset_bounds-buffer-at
 offset_bounds-buffer-at c = let l = c.loop-i.invariant.2 in omega (arith, c.well_formed)
-
-pub bounds-buffer-at : goal.bounds-buffer-at
-bounds-buffer-at c = omega arith
-
-pub overflow_add-i : goal.overflow_add-i
-overflow_add-i c = omega arith
-
-pub loop-i-smaller : goal.loop-i-smaller
-loop-i-smaller c = omega arith
 
 pub loop-i-preserved : goal.loop-i-preserved
 loop-i-preserved c =

@@ -1,7 +1,6 @@
 -- `put_record` meets its contract: the numbers of `record_numbers`, put where the record stands.
 use mathlib.Core.Path.{ap, ◌∙◌}
 use lib.Seq.{sets}
-use borrow.Author.Rules.{rules}
 use Rattle.records.specs.Layout.{stored}
 use Rattle.records.proofs.record.put_record.Goals as goal
 

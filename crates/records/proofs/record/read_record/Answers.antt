@@ -1,6 +1,5 @@
 -- `read_record` meets its contract: each number is read where `node_of` says.
 use mathlib.Core.Path.{refl}
-use borrow.Author.Rules.{rules}
 use Rattle.records.specs.Record.{node_of}
 use Rattle.records.proofs.record.read_record.Goals as goal
 

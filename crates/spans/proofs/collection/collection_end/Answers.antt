@@ -1,5 +1,4 @@
 -- `collection_end` meets its contract, by the collection's kind.
-use borrow.Author.Rules.{rules}
 use Rattle.spans.specs.Collection.{collection_end}
 use Rattle.spans.proofs.collection.collection_end.Goals as goal
 

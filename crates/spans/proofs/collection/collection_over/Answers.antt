@@ -1,5 +1,4 @@
 -- `collection_over` meets its contract: each number is the one its helper promises.
-use borrow.Author.Rules.{rules}
 use mathlib.Core.Path.{refl}
 use Rattle.spans.specs.Collection.{collection_over}
 use Rattle.spans.proofs.collection.collection_over.Goals as goal

@@ -1,11 +1,10 @@
 -- `collection_start` meets its contract: each test turned down leaves the marker's offset.
-use borrow.Author.Rules.{rules}
 use mathlib.Core.Path.{refl, sym, ◌∙◌}
 use borrow.Author.Tests.{lt-ltb, eq-eqb, ne_eqb, not-true, not-false}
 use Rattle.spans.specs.Collection.{collection_start}
 use lib.ListN.{get_or}
 use native.Mathlib.Omega.{arith}
-use Prim.Native.Nat.{◌-◌, ◌<◌}
+use Prim.Native.Nat.{◌<◌}
 use Rattle.spans.proofs.collection.collection_start.Goals as goal
 
 pub returns-then-not-o : goal.returns-then-not-o

@@ -1,7 +1,5 @@
 -- `extent_to` meets its contract: the length is 0 where the end comes first.
-use borrow.Author.Rules.{rules}
 use mathlib.Core.Path.{refl, ap₂}
-use Prim.Native.Nat.{◌-◌}
 use native.Mathlib.Omega.{arith}
 use Rattle.records.specs.Record.{extent}
 use Rattle.spans.proofs.collection.extent_to.Goals as goal

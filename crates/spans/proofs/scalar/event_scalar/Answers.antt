@@ -1,10 +1,9 @@
 -- `event_scalar` meets its contract: the start is a boundary, as the tag's search and the walk ask; start, tag and resolution are those of the
 -- definitions.
-use borrow.Author.Rules.{rules}
 use mathlib.Core.Path.{◌≡◌, ap, ◌∙◌}
 use Rattle.utf8.specs.Boundary.{Boundary}
 use Rattle.spans.specs.Scalar.{suffix_of, tag_info, event_node}
-use Rattle.spans.specs.SpanLaws.{tag_fits, offset_start, range_is, value_sound}
+use Rattle.spans.proofs.SpanLaws.{tag_fits, offset_start, range_is, value_sound}
 use Rattle.spans.proofs.scalar.event_scalar.Goals as goal
 
 pub suffix_of-requires : goal.suffix_of-requires
@@ -27,18 +26,18 @@ walk_scalar-requires c =
     let begins = c.scalar_start-start in
     let on : Boundary a.text.now begins.result =
     rw begins.ensures (offset_start a.text.now c.requires.admitted_text.utf8 _ a.e.mark.style a.awaited a.at c.requires.boundary) in
-    record { admitted_text = (c.requires.admitted_text, rw (range_is a.events.now a.e.value) (value_sound a.events.now a.e.value fits.value fits.few)); boundary = on; pieces_value = c.requires.pieces_value }
+    record { admitted_text = (c.requires.admitted_text, rw (range_is a.events.now a.e.value) (value_sound a.events.now a.e.value fits.value fits.few)); boundary = on; pieces_zero = c.requires.pieces_zero }
 
 pub returns : goal.returns
 unfolding event_node
 returns c =
     let a = c.args in
     let begins = c.scalar_start-start in
-    let info = c.tag_info_is in
+    let info = c.tag_info-info in
     let is = range_is a.events.now a.e.value in
     let from = rw is at begins.ensures in
     let tag : info.result ≡ tag_info a.text.now begins.result (suffix_of a.e.tag) =
     info.ensures ∙ ap (tag_info a.text.now begins.result) c.suffix_of.ensures in
     let what = rw is at c.resolve-resolved.ensures in
     let walked = rw is at c.walk_scalar.ensures in
-    record { value = rw (← from, ← tag, ← what) walked.0; pieces_after = rw (← from) walked.1 }
+    record { value = rw (← from, ← tag, ← what) walked.value; pieces_after = rw (← from) walked.pieces_after }

@@ -1,5 +1,4 @@
 -- `scalar_node` meets its contract: its numbers are within the text's limit, so they fit.
-use borrow.Author.Rules.{rules}
 use mathlib.Core.Path.{refl}
 use Rattle.spans.specs.Scalar.{scalar_over}
 use Rattle.spans.proofs.scalar.scalar_node.Goals as goal

@@ -1,23 +1,22 @@
 -- `scalar_start` meets its contract: each test turned down leaves the marker's offset.
-use borrow.Author.Rules.{rules}
 use mathlib.Core.Path.{refl}
-use borrow.Author.Tests.{eq-eqb, ne_eqb, not-true, not-false}
+use borrow.Author.Tests.{eq-eqb, ne_eqb}
 use Rattle.spans.specs.Scalar.{scalar_start}
 use lib.ListN.{length}
 use Rattle.spans.proofs.scalar.scalar_start.Goals as goal
 
 pub returns-then-not-awaited : goal.returns-then-not-awaited
 unfolding scalar_start
-returns-then-not-awaited c = rw (not-true c.args.awaited c.if-not-awaited.true) refl
+returns-then-not-awaited c = rw c.if-not-awaited.true refl
 
 pub returns-then-style-ne-PLAIN : goal.returns-then-style-ne-PLAIN
 unfolding scalar_start
-returns-then-style-ne-PLAIN c = rw (not-false c.args.awaited c.if-not-awaited.false, ne_eqb c.args.style 0 c.if-style-ne-PLAIN.true) refl
+returns-then-style-ne-PLAIN c = rw (c.if-not-awaited.false, ne_eqb c.args.style 0 c.if-style-ne-PLAIN.true) refl
 
 pub returns-then-value-eq0 : goal.returns-then-value-eq0
 unfolding scalar_start
-returns-then-value-eq0 c = rw (not-false c.args.awaited c.if-not-awaited.false, eq-eqb _ _ c.if-style-ne-PLAIN.false, eq-eqb _ _ c.if-value-eq0.true) c.step_past.ensures
+returns-then-value-eq0 c = rw (c.if-not-awaited.false, eq-eqb _ _ c.if-style-ne-PLAIN.false, eq-eqb _ _ c.if-value-eq0.true) c.step_past.ensures
 
 pub returns : goal.returns
 unfolding scalar_start
-returns c = rw (not-false c.args.awaited c.if-not-awaited.false, eq-eqb _ _ c.if-style-ne-PLAIN.false, ne_eqb (length c.args.value.now) 0 c.if-value-eq0.false) refl
+returns c = rw (c.if-not-awaited.false, eq-eqb _ _ c.if-style-ne-PLAIN.false, ne_eqb (length c.args.value.now) 0 c.if-value-eq0.false) refl

@@ -1,5 +1,4 @@
 -- `step_past_lem` meets its contract: the byte read is the one the definition looks at.
-use borrow.Author.Rules.{rules}
 use mathlib.Core.Path.{refl, sym, ◌∙◌}
 use borrow.Author.Tests.{eq-eqb, ne_eqb}
 use Rattle.spans.specs.Scalar.{step_past}

@@ -1,5 +1,4 @@
 -- `tag_info` meets its contract: a tag's span lies within the text, so its numbers fit.
-use borrow.Author.Rules.{rules}
 use mathlib.Core.Path.{refl}
 use native.Mathlib.Omega.{arith}
 use Rattle.spans.specs.Scalar.{tag_info}

@@ -15,9 +15,9 @@ use Rattle.records.specs.declared.record.TagInfo.{TagInfo}
 use Rattle.records.specs.declared.record.Node.{Node}
 use Rattle.spans.specs.Scalar.{ScalarAt, scalar_from, span_measure, scalar_over, list_at}
 use Rattle.spans.specs.Fits.{scalar_entry}
-use Rattle.spans.specs.SpanLaws.{span_within, span_from, list_from_lem, rest_is, rest_utf8}
+use Rattle.spans.proofs.SpanLaws.{span_within, span_from, list_from_lem, rest_is, rest_utf8}
 use Rattle.spans.proofs.scalar.walk_scalar.Goals as goal
-use Rattle.spans.proofs.scalar.walk_scalar.Goals.{After-scalar_len-span, Start}
+use Rattle.spans.proofs.scalar.walk_scalar.Goals.{After-scalar_len-span}
 
 pub scalar_len-span-requires : goal.scalar_len-span-requires
 scalar_len-span-requires c =
@@ -57,23 +57,24 @@ scalar_node-node-requires c =
     let l = given.0.within in
     (omega arith, omega arith, given.1.within)
 
-pub scalar_provenance-walked-requires : goal.scalar_provenance-walked-requires
-scalar_provenance-walked-requires c =
-    let given = c.requires in
-    record { text_len_bound = (given.0.0.within, given.0.1.within, ends_within (goal.at.scalar_provenance-walked-requires c).After-scalar_len-span, search rules); pieces_value = given.1.1 }
+pub scalar_provenance-walked-requires-clause-text_len_bound : goal.scalar_provenance-walked-requires-clause-text_len_bound
+scalar_provenance-walked-requires-clause-text_len_bound c =
+    let given = c.requires.admitted_text in
+    (given.0.within, given.1.within, ends_within (goal.at.scalar_provenance-walked-requires-clause-text_len_bound c).After-scalar_len-span, search rules)
 
 -- record, flag and walk are those of the definitions
 entry_is : (most : ℕ) (text : List ℕ) (x : ScalarAt) (tag : TagInfo) (r : Resolved) (k : Measure) (y : Node) (w : Walked)
     → k ≡ span_measure text x → y ≡ scalar_over x.start (x.start + k.len) x.place (length x.value) tag r → w ≡ answer_of most (list_at text x)
-    → record { node = y; measured = k.decreases; walked = w } ≡ scalar_entry most text x tag r
+    → record { node = y; measured = k.measured; walked = w } ≡ scalar_entry most text x tag r
 entry_is most text x tag r k y w ek ey ew = rw (ey, ew, ek) refl
 
-pub returns : goal.returns
-returns c =
+pub returns-clause-value : goal.returns-clause-value
+returns-clause-value c =
     let a = c.args in
     let w = c.scalar_provenance-walked in
-    let l = list_is (goal.at.returns c).After-scalar_len-span in (
-      entry_is _ a.text.now (scalar_now (goal.at.returns c).After-scalar_len-span) a.tag a.resolved c.scalar_len-span.result _ w.result (measure_is (goal.at.returns c).After-scalar_len-span)
-          c.scalar_node-node.ensures (w.ensures.value ∙ ap (answer_of _) (sym l)),
-      rw l w.ensures.pieces_after,
-    )
+    let at = (goal.at.returns-clause-value c).After-scalar_len-span in
+    entry_is _ a.text.now (scalar_now at) a.tag a.resolved c.scalar_len-span.result _ w.result (measure_is at)
+    c.scalar_node-node.ensures (w.ensures.value ∙ ap (answer_of _) (sym (list_is at)))
+
+pub returns-clause-pieces_after : goal.returns-clause-pieces_after
+returns-clause-pieces_after c = rw (list_is (goal.at.returns-clause-pieces_after c).After-scalar_len-span) c.scalar_provenance-walked.ensures.pieces_after

@@ -1,6 +1,5 @@
 -- `tag::property::find_tag_offset` meets its contract: it is the start of the property's span.
 use mathlib.Core.Path.{ap}
-use borrow.Author.Rules.{rules}
 use Rattle.tag.specs.declared.property.TagSpan.{TagSpan}
 use Rattle.tag.specs.Tag.{tag_offset}
 use Rattle.tag.proofs.property.find_tag_offset.Goals as goal

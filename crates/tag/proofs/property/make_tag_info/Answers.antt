@@ -4,7 +4,6 @@ use mathlib.Core.Path.{◌≡◌, ◌∙◌, ap}
 use mathlib.Core.List.{List}
 use Prim.Native.Nat.{ℕ, ◌+◌, ◌-◌, ◌≤◌, ◌<◌, min}
 use native.Mathlib.Omega.{arith}
-use borrow.Author.Rules.{rules}
 use lib.ListN.{length}
 use Rattle.utf8.specs.Utf8.{Utf8}
 use Rattle.utf8.specs.Boundary.{Boundary}
@@ -28,21 +27,21 @@ module _ {s p : List ℕ} {i : ℕ} (u : Utf8 s) (b : Boundary s i) (part : p �
 pub overflow_add-result : goal.overflow_add-result
 overflow_add-result c =
     let pre = c.requires in
-    let within = fits pre.0 pre.1 c.find_tag_span-property.ensures c.find_tag_offset-start.ensures in
+    let within = fits pre.utf8 pre.boundary c.find_tag_span-property.ensures c.find_tag_offset-start.ensures in
     omega arith
 
-pub returns-then-property-gt0 : goal.returns-then-property-gt0
-returns-then-property-gt0 c =
+pub returns-then-found : goal.returns-then-found
+returns-then-found c =
     let pre = c.requires in
-    found pre.0 pre.1 c.find_tag_span-property.ensures c.find_tag_offset-start.ensures c.if-property-gt0.true _
+    found pre.utf8 pre.boundary c.find_tag_span-property.ensures c.find_tag_offset-start.ensures c.if-found.true _
 
 pub returns-then-suffix-left : goal.returns-then-suffix-left
 returns-then-suffix-left c =
     let pre = c.requires in
-    guessed pre.0 pre.1 c.find_tag_span-property.ensures c.if-property-gt0.false _ _ (omega arith)
+    guessed pre.utf8 pre.boundary c.find_tag_span-property.ensures c.if-found.false _ _ (omega arith)
 
 pub returns : goal.returns
 returns c =
     let pre = c.requires in
-    let within = pre.1.within in
-    guessed pre.0 pre.1 c.find_tag_span-property.ensures c.if-property-gt0.false _ _ (omega arith)
+    let within = pre.boundary.within in
+    guessed pre.utf8 pre.boundary c.find_tag_span-property.ensures c.if-found.false _ _ (omega arith)

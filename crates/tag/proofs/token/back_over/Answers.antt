@@ -4,7 +4,7 @@ use Prim.Native.Nat.{ℕ}
 use borrow.Author.Tests.{not-true, not-false}
 use Rattle.utf8.specs.WhiteSpace.{is_white_space}
 use Rattle.tag.specs.Back.{is_space}
-use Rattle.tag.proofs.Steps.{Going, going_start, going_ends, Stepping, stepping, step_less, going_stops, going_on}
+use Rattle.tag.proofs.Steps.{going_start, going_ends, Stepping, stepping, step_less, going_stops, going_on}
 use Rattle.tag.proofs.token.back_over.Goals as goal
 use Rattle.tag.proofs.token.back_over.Goals.{After-last_char-c}
 

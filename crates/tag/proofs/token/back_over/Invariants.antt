@@ -1,12 +1,7 @@
 -- `tag::token::back_over` meets its contract. The loop's invariant: from `j` the way back over the characters of the kind ends where it
 -- does from `i`. The measure is `j`.
-use mathlib.Core.Path.{◌≡◌, sym, ◌∙◌, ap}
-use mathlib.Core.Bool.{Bool, true, false, not, beq}
-use Prim.Native.Nat.{ℕ}
-use borrow.Author.Tests.{not-true, not-false}
-use Rattle.utf8.specs.WhiteSpace.{is_white_space}
 use Rattle.tag.specs.Back.{is_space}
-use Rattle.tag.proofs.Steps.{Going, going_start, going_ends, Stepping, stepping, step_less, going_stops, going_on}
+use Rattle.tag.proofs.Steps.{Going}
 use Rattle.tag.proofs.token.back_over.Given as goal
 
 abbrev pub invariant-loop-j : goal.invariant-loop-j

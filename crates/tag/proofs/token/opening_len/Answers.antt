@@ -1,9 +1,5 @@
-use mathlib.Core.Path.{◌≡◌, sym, ◌∙◌}
-use Prim.Native.Nat.{◌+◌, ◌-◌, ◌≤◌}
+use mathlib.Core.Path.{sym, ◌∙◌}
 use native.Mathlib.Omega.{arith}
-use borrow.Author.Tests.{not-true, not-false}
-use lib.ListN.{length, drop}
-use Rattle.tag.specs.Tag.{openings}
 use Rattle.tag.proofs.Openings.{openings_here, openings_on, openings_end}
 use Rattle.tag.proofs.token.opening_len.Goals as goal
 
@@ -15,7 +11,7 @@ bounds-token-i c = omega arith
 
 pub returns-then-not-is_opening : goal.returns-then-not-is_opening
 returns-then-not-is_opening c =
-    let byte = sym c.is_opening.ensures ∙ not-true _ c.if-not-is_opening.true in
+    let byte = sym c.is_opening.ensures ∙ c.if-not-is_opening.true in
     let here = openings_here c.args.token.now c.loop-i.i c.loop-i-test.true byte in
     let inv = c.loop-i.invariant.1 in
     omega arith
@@ -28,7 +24,7 @@ loop-i-smaller c = omega arith
 
 pub loop-i-preserved : goal.loop-i-preserved
 loop-i-preserved c =
-    let byte = sym c.is_opening.ensures ∙ not-false _ c.if-not-is_opening.false in
+    let byte = sym c.is_opening.ensures ∙ c.if-not-is_opening.false in
     let on = openings_on c.args.token.now c.loop-i.i c.loop-i-test.true byte in
     let inv = c.loop-i.invariant.1 in
     (omega arith, omega arith)

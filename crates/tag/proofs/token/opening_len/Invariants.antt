@@ -1,12 +1,9 @@
 -- `tag::token::opening_len` meets its contract. The loop's invariant: `i` and those from `i` on make those of the whole token. The
 -- measure is what is left of the token.
-use mathlib.Core.Path.{◌≡◌, sym, ◌∙◌}
+use mathlib.Core.Path.{◌≡◌}
 use Prim.Native.Nat.{◌+◌, ◌-◌, ◌≤◌}
-use native.Mathlib.Omega.{arith}
-use borrow.Author.Tests.{not-true, not-false}
 use lib.ListN.{length, drop}
 use Rattle.tag.specs.Tag.{openings}
-use Rattle.tag.proofs.Openings.{openings_here, openings_on, openings_end}
 use Rattle.tag.proofs.token.opening_len.Given as goal
 
 abbrev pub invariant-loop-i : goal.invariant-loop-i

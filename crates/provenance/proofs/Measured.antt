@@ -19,7 +19,7 @@ use Rattle.provenance.specs.Reading.{reading_of, Piece}
 use Rattle.provenance.specs.Start.{scalar_list}
 use Rattle.provenance.specs.Alike.{ascii_front, run_taken, run_alike, equal_alike, reads_alike, past_span, source_lens, source_taken, pieces_end, is_some, no_tabs, narrow_spaces}
 use Rattle.provenance.specs.AlikeLaws.{narrow_alike}
-use Rattle.provenance.specs.MeasuredLaws.{along, taken_found, taken_ends, plain_list, some_pieces, of_reading, reading_end}
+use Rattle.provenance.proofs.MeasuredLaws.{along, taken_found, taken_ends, plain_list, some_pieces, of_reading, reading_end}
 
 module _ (column : ℕ) {rest value : List ℕ} {n : ℕ} (u : Utf8 rest) (w : Utf8 value)
     (measured : plain_reach (codes value) (codes rest) ≡ reaches n) where
@@ -57,9 +57,9 @@ module _ (column len : ℕ) {text value : List ℕ} {start n : ℕ} (u : Utf8 te
       ∙ measured_list column (boundary_splits u b).back w measured
 
   -- whose last piece ends so far past the span
-  pub pieces_end_lem : (ps : List Piece) → scalar_list text start len value plain column ≡ some ps
+  pub pieces_end_at : (ps : List Piece) → scalar_list text start len value plain column ≡ some ps
       → pieces_end start ps ≡ start + (n + past_span (codes value) (codes (drop start text)))
-  pieces_end_lem ps e =
+  pieces_end_at ps e =
       let r = of_reading start (reading_of (rules_of plain column) (drop start text) value) ps (sym (plain_list text start len value column b) ∙ e) in
       ap (pieces_end start) r.are
       ∙ reading_end (rules_of plain column) (style_fair plain) (drop start text) value start r.steps r.is

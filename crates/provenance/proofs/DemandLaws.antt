@@ -23,9 +23,9 @@ use Rattle.provenance.specs.Demand.{Accepts, StartsAt, Follow, EndBy, AllCopied,
 use Rattle.utf8.specs.Tests.{by_order}
 use Rattle.provenance.specs.Tests.{by_answer}
 use Rattle.provenance.specs.EscapeLaws.{style_fair, FairTable}
-use Rattle.provenance.specs.StepLaws.{Fair, grammar_fair, step_same, step_past_lem}
+use Rattle.provenance.specs.StepLaws.{Fair, grammar_fair, step_same, step_past}
 use Rattle.provenance.specs.ReadingLaws.{reading_unique, found_is_reading, reading_is_found}
-use Rattle.provenance.specs.PieceLaws.{laid, laid_is, first_starts, others_follow, all_ended, contents_are, value_end, value_end_lem, all_copied}
+use Rattle.provenance.proofs.PieceLaws.{laid, laid_is, first_starts, others_follow, all_ended, contents_are, value_end, value_end_bounds, all_copied}
 
 -- ---- answers and what is left of a list
 
@@ -110,7 +110,7 @@ module _ (r : Rules) {reach : EscapeReach} (fair : FairTable r.escapes reach) (t
   escape_last s v (Replacement a b ∷ []) h m k =
       let d = length-drop v value in
       let more = h.0 in
-      step_past_lem r fair (drop s src) (drop v value) a b (omega arith) h.1 (omega arith)
+      step_past r fair (drop s src) (drop v value) a b (omega arith) h.1 (omega arith)
   escape_last s v (NoStep ∷ []) h m k = absurd h.2
   escape_last s v (t ∷ u ∷ us) h m k = escape_last (s + source_len t) (v + content_len t) (u ∷ us) h.3 (let more = h.3.0 in omega arith) k
 
@@ -127,7 +127,7 @@ module _ (r : Rules) {reach : EscapeReach} (fair : FairTable r.escapes reach) (t
         ⊎ (EscapeLast r src value 0 0 ts × (length value < contents (pieces_of first ts)) × (contents (pieces_of first ts) < length value + reach.content))
     content-of =
         let e : contents (pieces_of first ts) ≡ value_end 0 ts = ap contents (sym is_laid) ∙ contents_are at (length src) (length value) walk_fair first ts h in
-        let b = value_end_lem at (length src) (length value) walk_fair 0 0 ts (omega arith) h in
+        let b = value_end_bounds at (length src) (length value) walk_fair 0 0 ts (omega arith) h in
         by_order (length value) (value_end 0 ts) (λ lt. inr (escape_last 0 0 ts h (omega arith) lt, omega arith, omega arith)) (λ le. inl (omega arith))
 
     ends_by : Boundary text first → EndBy (length text + reach.past) (pieces_of first ts)

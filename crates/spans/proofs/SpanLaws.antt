@@ -13,11 +13,11 @@ use Rattle.utf8.proofs.Utf8Laws.{char_at, boundary_splits, boundary_is}
 use Rattle.text.specs.Offset.{byte_offset}
 use Rattle.text.proofs.OffsetLaws.{offset_boundary}
 use Rattle.text.specs.Admission.{text_limit}
-use Rattle.text.proofs.AdmissionLaws.{AdmittedText}
+use Rattle.text.specs.Admitted.{AdmittedText}
 use Rattle.measure.specs.Length.{assumed}
 use Rattle.measure.specs.Scalar.{plain, scalar_measure}
 use Rattle.measure.specs.Plain.{reaches, plain_reach}
-use Rattle.measure.specs.MeasuredLaws.{measured_boundary, scalar_reaches}
+use Rattle.measure.proofs.MeasuredLaws.{measured_boundary, scalar_reaches}
 use Rattle.measure.specs.declared.length.Measure.{Measure}
 use Rattle.event.specs.Read.{events_limit, part_of}
 use Rattle.event.specs.Proved.{TextPart, TextParts}
@@ -28,7 +28,7 @@ use Rattle.provenance.specs.Grammar.{rules_of}
 use Rattle.provenance.specs.Reading.{Piece}
 use Rattle.provenance.specs.Start.{list_from, scalar_list}
 use Rattle.provenance.specs.Alike.{reads_alike, past_span, pieces_end, is_some}
-use Rattle.provenance.specs.Measured.{pieces_list, pieces_end_lem}
+use Rattle.provenance.proofs.Measured.{pieces_list, pieces_end_at}
 use Rattle.spans.specs.Scalar.{ScalarAt, step_past, colon, scalar_start, start_at, scalar_at, span_measure, span_len, list_at, walk_first, scalar_over, event_node}
 use Rattle.spans.specs.Collection.{open_brace, close_brace, close_bracket, collection_start, collection_end, collection_over, collection_node}
 use Rattle.spans.specs.Fits.{TagFits}
@@ -197,4 +197,4 @@ module _ (text : List ℕ) (utf8 : Utf8 text) (x : ScalarAt) (on : Boundary text
 
     -- and its pieces then end so far past its span
     pub measured_pieces_end : (ps : List Piece) → list_at text x ≡ some ps → pieces_end x.start ps ≡ x.start + (span_len text x + past_span (codes x.value) (codes rest))
-    measured_pieces_end ps e = pieces_end_lem x.column (span_len text x) utf8 on value_utf8 reaches_span ps (sym list_is ∙ e)
+    measured_pieces_end ps e = pieces_end_at x.column (span_len text x) utf8 on value_utf8 reaches_span ps (sym list_is ∙ e)

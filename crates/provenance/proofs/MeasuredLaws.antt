@@ -23,8 +23,8 @@ use Rattle.utf8.specs.declared.utf8.Char.{Char}
 use Rattle.measure.specs.Run.{bytes_of, white_space_run, after_run, holds_newline}
 use Rattle.measure.specs.Plain.{is_fold, Reach, unmatched, reaches, past_equal, past_run, begins_with, takes_run, plain_reach}
 use Rattle.measure.specs.Scalar.{plain}
-use Rattle.measure.specs.Places.{run_split, after_none, encode_takes}
-use Rattle.measure.specs.MeasuredLaws.{after_no_run}
+use Rattle.measure.proofs.Places.{run_split, after_none, encode_takes}
+use Rattle.measure.proofs.MeasuredLaws.{after_no_run}
 use Rattle.provenance.specs.declared.step.Step.{Step}
 use Rattle.provenance.specs.declared.step.Step.TheVariants.{Verbatim, Replacement, NoStep}
 use Rattle.provenance.specs.Run.{white_run, newlines_in, blank_run}
@@ -375,8 +375,8 @@ joined_ends first (p ∷ ps) = on_ends (joined ps) ∙ joined_ends p.end ps
 steps_end : (at : ℕ → ℕ → Step) (len s v first : ℕ) (ts : List Step) → IsReading at len s v ts → pieces_end first (step_pieces first ts) ≡ first + source_lens ts
 unfolding IsReading pieces_end step_pieces source_lens
 steps_end at len s v first [] r = sym (add-zero first)
-steps_end at len s v first (Verbatim n ∷ ts) r = steps_end at len _ _ (first + n) ts r.3 ∙ add_assoc first n (source_lens ts)
-steps_end at len s v first (Replacement a b ∷ ts) r = steps_end at len _ _ (first + a) ts r.3 ∙ add_assoc first a (source_lens ts)
+steps_end at len s v first (Verbatim n ∷ ts) r = steps_end at len (s + n) (v + n) (first + n) ts r.3 ∙ add_assoc first n (source_lens ts)
+steps_end at len s v first (Replacement a b ∷ ts) r = steps_end at len (s + a) (v + b) (first + a) ts r.3 ∙ add_assoc first a (source_lens ts)
 steps_end at len s v first (NoStep ∷ ts) r = absurd r.2
 
 pub reading_end : (r : Rules) {reach : EscapeReach} → FairTable r.escapes reach → (src val : List ℕ) (first : ℕ) (ts : List Step) → reading_of r src val ≡ some ts

@@ -146,12 +146,12 @@ module _ {reach : EscapeReach} (at : ℕ → ℕ → Step) (L len : ℕ) (fair :
   contents_are base ts r = let q = content_sum 0 0 ts r base base (omega arith) in omega arith
 
   -- a reading ends at the value's end, or past it by less than an escape's content
-  pub value_end_lem : (s v : ℕ) (ts : List Step) → v ≤ len + (reach.content - 1) → IsReading at len s v ts → (len ≤ value_end v ts) × (value_end v ts ≤ len + (reach.content - 1))
+  pub value_end_bounds : (s v : ℕ) (ts : List Step) → v ≤ len + (reach.content - 1) → IsReading at len s v ts → (len ≤ value_end v ts) × (value_end v ts ≤ len + (reach.content - 1))
   unfolding IsReading value_end
-  value_end_lem s v [] h r = (r, h)
-  value_end_lem s v (Verbatim n ∷ ts) h r = let b = fair.same s v n r.0 r.1 in value_end_lem (s + n) (v + n) ts (omega arith) r.3
-  value_end_lem s v (Replacement x y ∷ ts) h r = value_end_lem (s + x) (v + y) ts (fair.other s v x y r.0 r.1).0 r.3
-  value_end_lem s v (NoStep ∷ ts) h r = absurd r.2
+  value_end_bounds s v [] h r = (r, h)
+  value_end_bounds s v (Verbatim n ∷ ts) h r = let b = fair.same s v n r.0 r.1 in value_end_bounds (s + n) (v + n) ts (omega arith) r.3
+  value_end_bounds s v (Replacement x y ∷ ts) h r = value_end_bounds (s + x) (v + y) ts (fair.other s v x y r.0 r.1).0 r.3
+  value_end_bounds s v (NoStep ∷ ts) h r = absurd r.2
 
   -- ---- each verbatim piece holds the value's bytes; the source is the text from `base` on
 
@@ -159,7 +159,7 @@ module _ {reach : EscapeReach} (at : ℕ → ℕ → Step) (L len : ℕ) (fair :
       (equal : (s v n : ℕ) → v < len → at s v ≡ Verbatim n → take n (drop s (drop base text)) ≡ take n (drop v val)) where
     -- the run from..s is open, its bytes are those of the value from c on
     pub record OpenRun (from s v c : ℕ) : Type 0 where
-      pub in_order_lem : from ≤ s
+      pub in_order : from ≤ s
       pub place : c + (s - from) ≡ v
       pub inside : from < s → (s ≤ L) × (v ≤ len)
       pub bytes : take (s - from) (drop from (drop base text)) ≡ take (s - from) (drop c val)
@@ -167,11 +167,11 @@ module _ {reach : EscapeReach} (at : ℕ → ℕ → Step) (L len : ℕ) (fair :
     open_none : (s v : ℕ) → OpenRun s s v v
     open_none s v =
         let z : s - s ≡ 0 = omega arith in
-        record { in_order_lem = omega arith; place = omega arith; inside = λ h. absurd (omega arith); bytes = rw z refl }
+        record { in_order = omega arith; place = omega arith; inside = λ h. absurd (omega arith); bytes = rw z refl }
 
     open_more : (from s v c n : ℕ) → v < len → at s v ≡ Verbatim n → OpenRun from s v c → OpenRun from (s + n) (v + n) c
     open_more from s v c n more e o =
-        let h = o.in_order_lem in
+        let h = o.in_order in
         let ec = o.place in
         let b = fair.same s v n more e in
         let q : s + n - from ≡ (s - from) + n = omega arith in
@@ -183,7 +183,7 @@ module _ {reach : EscapeReach} (at : ℕ → ℕ → Step) (L len : ℕ) (fair :
         ∙ ap (λ (l : List ℕ). take (s - from) (drop c val) ++ l) (equal s v n more e)
         ∙ ap (λ (l : List ℕ). take (s - from) (drop c val) ++ take n l) (sym (drop-drop (s - from) c val ∙ ap (λ (k : ℕ). drop k val) ec))
         ∙ sym (take-add (s - from) n (drop c val)) in
-        record { in_order_lem = omega arith; place = omega arith; inside = λ _. (b.1, b.2); bytes = rw q w }
+        record { in_order = omega arith; place = omega arith; inside = λ _. (b.1, b.2); bytes = rw q w }
 
     -- closed, it is a piece that copies
     open_copied : (from s v c : ℕ) → from < s → OpenRun from s v c → Copied text val c (piece verbatim (base + from) (base + s) (base + s - (base + from)))
@@ -220,7 +220,7 @@ module _ {reach : EscapeReach} (at : ℕ → ℕ → Step) (L len : ℕ) (fair :
         rw (lt-ltb _ _ h) ((λ _. open_copied from s v c lt o), ((λ k. absurd (no k)), subst (λ (k : ℕ). AllCopied text val k (laid (base + s + x) (base + s + x) ts)) (sym e) i)))
         (λ le.
         let h : base + s ≤ base + from = omega arith in
-        let e : c + y ≡ v + y = (let u = o.in_order_lem in omega arith) in
+        let e : c + y ≡ v + y = (let u = o.in_order in omega arith) in
         rw (le-ltb _ _ h) ((λ k. absurd (no k)), subst (λ (k : ℕ). AllCopied text val k (laid (base + s + x) (base + s + x) ts)) (sym e) i))
     copied s v (NoStep ∷ ts) r from c o = absurd r.2
 
