@@ -16,7 +16,7 @@ use Rattle.measure.specs.Run.{bytes_of, white_space_run}
 use Rattle.utf8.specs.Ascii.{newline}
 use Rattle.measure.specs.Block.{lines, is_blank, trimmed_len, ends_block, past_line, later_reach, block_reach, block_len}
 use Rattle.measure.specs.Counted.{first_of, line_of}
-use Rattle.measure.specs.Places.{Onward, onward, bytes_left, bytes_cons, bytes_append}
+use Rattle.measure.proofs.Places.{Onward, onward, bytes_left, bytes_cons, bytes_append}
 use Rattle.measure.specs.declared.block.Line.{Line}
 use Rattle.measure.proofs.Read.{codes_end}
 use Rattle.measure.proofs.Reached.{reached, reached_more}

@@ -15,7 +15,7 @@ use Rattle.measure.specs.Plain.{Reach, unmatched, reaches, past_equal, past_run,
 use Rattle.measure.specs.Quoted.{further, passed_together, to_closing, quoted_len}
 use Rattle.measure.specs.Block.{onto_first, lines, is_blank, trimmed_len, ends_block, past_line, later_reach, block_reach, block_len}
 use Rattle.measure.specs.Scalar.{scalar_measure, scalar_len}
-use Rattle.measure.specs.Places.{prefix_boundary, bytes_append, run_split}
+use Rattle.measure.proofs.Places.{prefix_boundary, bytes_append, run_split}
 use Rattle.measure.specs.declared.quoted.Quoted.{Quoted}
 use Rattle.measure.specs.declared.quoted.Quoted.TheVariants.{Found, Missing}
 

@@ -3,6 +3,8 @@
 pub mod Laws
 -- what "measured" says, proved
 pub mod MeasuredLaws
+-- runs, and places of a text by the characters before them
+pub mod Places
 -- the character that was read at a place, and the part from there on
 pub mod Read
 -- a white-space run, character by character

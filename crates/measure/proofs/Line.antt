@@ -19,7 +19,7 @@ use Rattle.measure.specs.Run.{bytes_of, white_space_run}
 use Rattle.utf8.specs.Ascii.{newline}
 use Rattle.measure.specs.Block.{onto_first, lines, is_blank, trimmed_len}
 use Rattle.measure.specs.Counted.{first_of, line_of}
-use Rattle.measure.specs.Places.{bytes_cons, encode_takes, run_goes_on, run_stops}
+use Rattle.measure.proofs.Places.{bytes_cons, encode_takes, run_goes_on, run_stops}
 use Rattle.measure.specs.declared.block.Line.{Line}
 use Rattle.letters.specs.Letters.{WordByte, Letters}
 use Rattle.utf8.specs.Tests.{by_order}

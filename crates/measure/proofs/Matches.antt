@@ -22,7 +22,7 @@ use Rattle.measure.specs.Run.{bytes_of, white_space_run, after_run, holds_newlin
 use Rattle.measure.specs.Counted.{run_of, has_byte}
 use Rattle.utf8.specs.Ascii.{newline}
 use Rattle.measure.specs.Plain.{is_fold, Reach, unmatched, reaches, past_equal, past_run, begins_with, takes_run, plain_reach, measured_or, plain_measure}
-use Rattle.measure.specs.Places.{onward, bytes_cons, run_split, run_goes_on, run_stops}
+use Rattle.measure.proofs.Places.{onward, bytes_cons, run_split, run_goes_on, run_stops}
 use Rattle.measure.specs.declared.run.Run.{Run}
 use Rattle.letters.proofs.Chunks.{part_is}
 use Rattle.measure.proofs.Read.{char_read, codes_end}

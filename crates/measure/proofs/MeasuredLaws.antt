@@ -13,7 +13,7 @@ use Rattle.measure.specs.Run.{bytes_of, white_space_run, after_run, holds_newlin
 use Rattle.measure.specs.Plain.{is_fold, Reach, unmatched, reaches, past_equal, past_run, begins_with, takes_run, plain_reach, measured_or, plain_measure}
 use Rattle.measure.specs.Quoted.{further, passed_together, to_closing, quoted_len, found_or, quoted_measure}
 use Rattle.measure.specs.Scalar.{plain, single_quoted, double_quoted, block_measure, style_measure, scalar_measure, scalar_len}
-use Rattle.measure.specs.Places.{run_split, after_none, encode_takes, bytes_append}
+use Rattle.measure.proofs.Places.{run_split, after_none, encode_takes, bytes_append}
 use Rattle.measure.specs.Measured.{Matched, EndsEqual, begins_pair, Closed, bytes_passed, Marked, JustIf, SaysMeasured}
 use Rattle.measure.proofs.Laws.{plain_boundary, quoted_boundary, block_boundary}
 use Rattle.measure.specs.declared.length.Measure.{Measure}

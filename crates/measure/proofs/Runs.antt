@@ -16,7 +16,7 @@ use Rattle.utf8.specs.declared.utf8.Char.{Char}
 use Rattle.measure.specs.Run.{bytes_of, white_space_run, holds_newline}
 use Rattle.measure.specs.Counted.{run_of}
 use Rattle.utf8.specs.Ascii.{newline}
-use Rattle.measure.specs.Places.{bytes_cons}
+use Rattle.measure.proofs.Places.{bytes_cons}
 use Rattle.measure.specs.declared.run.Run.{Run}
 use Rattle.measure.proofs.Read.{codes_end}
 

@@ -21,6 +21,3 @@ pub mod Examples
 -- For speed only: how fast paths are told. Nothing of 01 rests on them.
 -- what the code counts in one pass
 pub mod Counted
--- Arguments: the lemmas behind the statements.
--- runs, and places of a text by the characters before them
-pub mod Places

@@ -28,7 +28,7 @@ use Rattle.spans.specs.Collection.{with_child, awaits_value, closes, members, co
 use Rattle.parser.specs.Machine.{State, empty, Next, go, stop, Outcome, built, refused, root_done, before_root, within_depth, within_room, completed, on_start, ended, on_end, on_alias, keeping, scalar_kept, on_scalar, on_event, next_place, ending, run, run_all}
 use Rattle.records.specs.Layout.{record_room, piece_room}
 use Rattle.parser.specs.Call.{admitted, building}
-use Rattle.parser.specs.RunLaws.{run_ended, run_stopped, stop_not_go}
+use Rattle.parser.proofs.RunLaws.{run_ended, run_stopped, stop_not_go}
 use Rattle.records.specs.declared.record.Node.{Node}
 use Rattle.spans.specs.declared.open.Open.{Open}
 use Rattle.node.specs.Forest.{Forest, nil, snoc, post_order, nodes_in}

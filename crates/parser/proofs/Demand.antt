@@ -5,7 +5,7 @@ use mathlib.Core.Bool.{Bool, true, false, cond}
 use mathlib.Core.Logic.{◌⊎◌, inl, inr}
 use mathlib.Core.List.{List, [], ◌∷◌, ◌++◌, append-nil, append_assoc}
 use mathlib.Core.Option.{Option, none, some}
-use Prim.Native.Nat.{ℕ, zero, ◌+◌, ◌-◌, ◌*◌, ◌≤◌, ◌<◌}
+use Prim.Native.Nat.{ℕ, ◌+◌, ◌-◌, ◌*◌, ◌≤◌, ◌<◌}
 use native.Mathlib.Omega.{arith}
 use borrow.Author.Tests.{lt-ltb, le-ltb, lt-leb, le-leb, ltb-true, ltb-false, leb-false, ne_eqb}
 use lib.Dec.{ltb, leb, eqb}
@@ -53,7 +53,7 @@ use Rattle.spans.specs.Scalar.{mark, start_at, scalar_at, walk_first, suffix_of,
 use Rattle.spans.specs.Collection.{awaits_value, closes}
 use Rattle.parser.specs.Machine.{State, empty, Next, go, stop, Outcome, built, refused, depth_limit, root_done, before_root, within_depth, within_room, completed, on_start, ended, on_end, on_alias, keeping}
 use Rattle.parser.specs.Machine.{scalar_kept, on_scalar, on_event, follow, ending, run, run_all}
-use Rattle.parser.specs.RunLaws.{stop_not_go, run_stopped, run_enough}
+use Rattle.parser.proofs.RunLaws.{stop_not_go, run_stopped, run_enough}
 use Rattle.parser.specs.EventRun.{reached, run_events, malformed, EventsAsList}
 use Rattle.records.specs.Layout.{record_room, piece_room}
 use Rattle.parser.specs.Call as call
@@ -65,7 +65,7 @@ use Rattle.records.specs.declared.record.TagInfo.{TagInfo}
 use Rattle.records.specs.declared.record.Node.{Node}
 use Rattle.records.specs.declared.record.PieceList.{PieceList}
 use Rattle.spans.specs.declared.open.Open.{Open}
-use Rattle.spans.specs.SpanLaws.{start_boundary, span_from, pieces_are, measured_list, measured_pieces_end}
+use Rattle.spans.proofs.SpanLaws.{start_boundary, span_from, pieces_are, measured_list, measured_pieces_end}
 use Rattle.parser.proofs.Pieces.{filled_none}
 use Rattle.parser.proofs.EventRun.{go_is, stop_is, refused_not_built, in_order_lem, events_as_list, over_through, passing, StoppedAt, stopped_at}
 use Rattle.parser.proofs.Growths.{gate, past_root, past_room, Grown, run_grown}

@@ -24,9 +24,9 @@ use Rattle.event.proofs.ReadLaws.{sound_is_read, none_stands_malformed}
 use Rattle.event.specs.declared.read.Event.{Event}
 use Rattle.event.specs.declared.read.Event.TheVariants.{Malformed}
 use Rattle.parser.specs.Machine.{State, empty, Next, go, stop, Outcome, built, refused, on_event, next_place, ending, follow, run, run_all}
-use Rattle.parser.specs.RunLaws.{run_ended, run_on, run_stopped, stop_not_go}
+use Rattle.parser.proofs.RunLaws.{run_ended, run_on, run_stopped, stop_not_go}
 use Rattle.records.specs.declared.record.Node.{Node}
-use Rattle.parser.specs.Room.{next_placed}
+use Rattle.parser.proofs.Room.{next_placed}
 use Rattle.parser.specs.EventRun.{go_on, reached, run_events, malformed, EventsAsList, FaultyBytes}
 use Rattle.records.specs.Layout.{record_room, piece_room}
 use Rattle.parser.specs.Call.{building}

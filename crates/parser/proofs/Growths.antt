@@ -21,7 +21,7 @@ use Rattle.spans.specs.Scalar.{ScalarAt, scalar_over, event_node}
 use Rattle.spans.specs.Collection.{closes, collection_over, collection_node}
 use Rattle.parser.specs.Machine.{State, Next, go, stop, built, refused, depth_limit, root_done, before_root, within_depth, within_room}
 use Rattle.parser.specs.Machine.{completed, on_start, ended, on_end, on_alias, keeping, scalar_kept, on_scalar, on_event, ending, follow}
-use Rattle.parser.specs.RunLaws.{stop_not_go}
+use Rattle.parser.proofs.RunLaws.{stop_not_go}
 use Rattle.parser.specs.EventRun.{go_on, reached, run_events}
 use Rattle.parser.specs.Demand.{Consecutive}
 use Rattle.records.specs.declared.record.Node.{Node}

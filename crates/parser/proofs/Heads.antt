@@ -17,7 +17,7 @@ use Rattle.event.proofs.ReadLaws.{malformed_or_answers, answer_within}
 use Rattle.event.specs.declared.read.Event.{Event}
 use Rattle.event.specs.declared.read.Event.TheVariants.{Malformed}
 use Rattle.parser.specs.Machine.{State, empty, Next, go, stop, refused, on_event, next_place, ending, run, run_all}
-use Rattle.parser.specs.RunLaws.{run_ended, run_on, run_stopped, onward, stop_not_go}
+use Rattle.parser.proofs.RunLaws.{run_ended, run_on, run_stopped, onward, stop_not_go}
 use Rattle.parser.specs.Held.{stack_size, ValueShort, Read, Held, Ready, Moved, Follows, Filled}
 use Rattle.parser.specs.declared.answer.Answer.TheVariants.{Built, Refused}
 use Rattle.parser.specs.declared.answer.Move.{Move}

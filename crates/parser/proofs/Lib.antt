@@ -15,5 +15,11 @@ mod Wholes
 pub mod EventRun
 -- what a step adds to nodes and pieces
 mod Growths
+-- the equations of the run
+pub mod RunLaws
+-- how many nodes and pieces a call comes to at most, and which places and numbers
+pub mod BoundLaws
+-- how much room for records is always enough
+pub mod Room
 -- demand 3 at the public calls
 pub mod Demand

@@ -10,12 +10,8 @@ pub mod Call
 pub mod EventRun
 -- demand 3 at the two public calls, and whether a span was measured
 pub mod Demand
--- the equations of the run
-pub mod RunLaws
--- how many nodes and pieces a call comes to at most, and which places and numbers
+-- at most so many nodes, pieces, places and numbers
 pub mod Bounds
--- how much room for records is always enough
-pub mod Room
 -- K1 to K12
 pub mod Cases
 -- the smallest input of each row, and other worked inputs

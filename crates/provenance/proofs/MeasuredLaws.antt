@@ -23,7 +23,7 @@ use Rattle.utf8.specs.declared.utf8.Char.{Char}
 use Rattle.measure.specs.Run.{bytes_of, white_space_run, after_run, holds_newline}
 use Rattle.measure.specs.Plain.{is_fold, Reach, unmatched, reaches, past_equal, past_run, begins_with, takes_run, plain_reach}
 use Rattle.measure.specs.Scalar.{plain}
-use Rattle.measure.specs.Places.{run_split, after_none, encode_takes}
+use Rattle.measure.proofs.Places.{run_split, after_none, encode_takes}
 use Rattle.measure.proofs.MeasuredLaws.{after_no_run}
 use Rattle.provenance.specs.declared.step.Step.{Step}
 use Rattle.provenance.specs.declared.step.Step.TheVariants.{Verbatim, Replacement, NoStep}

@@ -7,8 +7,8 @@ use parser::answer::Answer;
 use parser::one::ScalarAnswer;
 use replay::case::Case;
 use replay::tally::Verdict;
-use utf8::utf8::byte_at;
 use std::io;
+use utf8::utf8::byte_at;
 
 // Where the fields of a scalar's event stand, in bytes. Style and value are handed on unread, for the call to refuse.
 const INDEX_AT: usize = 3;

@@ -6,9 +6,9 @@ ghost use Rattle.std.specs.Prelude.{◌≡◌};
 ghost use Rattle.utf8.specs.Utf8.{Utf8, is_ascii};
 
 use replay::tally::Verdict;
+use std::io;
 use text::admission::Admission;
 use text::offset::START;
-use std::io;
 
 // The events: a sequence start of 8 bytes, then the aliases, the marker's index behind tag and length, then a sequence end.
 const START_BYTES: usize = 8;

@@ -1,1 +1,3 @@
--- Each function's proof stands under its file.
+-- Each function's proof stands under its file. Laws that a caller may use:
+-- where spans start and end, a scalar's pieces by its walk's first byte, and what a measured span says of them
+pub mod SpanLaws

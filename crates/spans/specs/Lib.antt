@@ -5,9 +5,7 @@
 pub mod Scalar
 -- open collections, and the record of one that ends
 pub mod Collection
--- Statements: theorems and laws that a caller may use, and worked cases. Proved; nothing here is to be believed.
--- where spans start and end, a scalar's pieces by its walk's first byte, and what a measured span says of them
-pub mod SpanLaws
+-- Statements: worked cases. Proved; nothing here is to be believed.
 -- worked scalars, tags and collections
 pub mod Examples
 -- Arguments: what inner calls ask and promise; cited by their contracts only.

@@ -7,6 +7,11 @@ ghost use Rattle.tag.specs.Tag.{property_span, tag_property, tag_offset, tag_spa
 use crate::token::{back_over, opening_len};
 use utf8::utf8::byte_at;
 
+// What a tag and an anchor begin with.
+const TAG: u8 = b'!';
+
+const ANCHOR: u8 = b'&';
+
 // The bytes from `start` to `end`, `end` not counted in.
 #[derive(Clone, Copy)]
 pub struct TagSpan {
@@ -28,13 +33,13 @@ fn find_property(text: &[u8], node: usize) -> TagSpan
         let token = &text[start..end];
         let dropped = opening_len(token);
         let mark = byte_at(token, dropped);
-        if mark == b'!' {
+        if mark == TAG {
             return TagSpan {
                 start: start + dropped,
                 end,
             };
         }
-        if mark != b'&' {
+        if mark != ANCHOR {
             return TagSpan {
                 start: node,
                 end: node,
@@ -75,7 +80,8 @@ pub fn make_tag_info(text: &[u8], node: usize, suffix: usize) -> TagSpan
     ensures { result ≡ tag_span text.now node suffix }
 {
     let property = find_tag_span(text, node);
-    if 0 < property.len() {
+    let found = 0 < property.len();
+    if found {
         let start = find_tag_offset(text, node);
         return TagSpan {
             start,

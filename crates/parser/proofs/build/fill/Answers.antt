@@ -16,7 +16,7 @@ pub on_event-requires : goal.on_event-requires
 on_event-requires c =
     let a = c.args in
     let here = c.loop-at in
-    record { given = c.requires.given.0; ready = ready a.text.now a.events.now (length a.records.now) (length a.pieces.now) here.stack here.records here.pieces here.c here.at here.number here.invariant c.requires.given.1 c.loop-at-test.true; read = read_of a.events.now (λ k. (c.shared_slice_known-2-1.given k).fits) c.requires.given.1 here.at c.read_event-e.result c.read_event-e.ensures }
+    record { given = c.requires.given.0; ready = ready a.text.now a.events.now (length a.records.now) (length a.pieces.now) here.stack here.records here.pieces here.c here.at here.number here.invariant c.requires.given.1 c.loop-at-test.true; read = read_of a.events.now (λ k. (c.type_inv.events k).fits) c.requires.given.1 here.at c.read_event-e.result c.read_event-e.ensures }
 
 pub shape_of-records-in-Stop : goal.shape_of-records-in-Stop
 shape_of-records-in-Stop c = c.on_event.auto.records ∙ c.loop-at.invariant.held.size_is
@@ -29,7 +29,7 @@ returns-in-Stop c =
     let a = c.args in
     let here = c.loop-at in
     let on = c.on_event in
-    let bytes : Bytes a.events.now = λ k. (c.shared_slice_known-2-1.given k).fits in
+    let bytes : Bytes a.events.now = λ k. (c.type_inv.events k).fits in
     refused_here a.text.now a.events.now (length a.records.now) (length a.pieces.now) here.stack here.records here.pieces here.c here.at here.number here.invariant bytes c.loop-at-test.true c.read_event-e.result c.read_event-e.ensures on.result on.new.stack on.new.records on.new.pieces on.ensures c.in-Stop.n c.in-Stop.is
 
 pub overflow_add-number : goal.overflow_add-number
@@ -37,7 +37,7 @@ overflow_add-number c =
     let a = c.args in
     let here = c.loop-at in
     let on = c.on_event in
-    let bytes : Bytes a.events.now = λ k. (c.shared_slice_known-2-1.given k).fits in
+    let bytes : Bytes a.events.now = λ k. (c.type_inv.events k).fits in
     let next = next_head a.text.now a.events.now (length a.records.now) (length a.pieces.now) here.stack here.records here.pieces here.c here.at here.number here.invariant bytes c.loop-at-test.true c.read_event-e.result c.read_event-e.ensures on.result on.new.stack on.new.records on.new.pieces on.ensures c.in-Go.d c.next_place-at.result c.in-Go.is c.next_place-at.ensures in
     let numbered = here.invariant.numbered in omega (arith, c.requires.given.1, here.invariant.within)
 
@@ -46,7 +46,7 @@ loop-at-smaller c =
     let a = c.args in
     let here = c.loop-at in
     let on = c.on_event in
-    let bytes : Bytes a.events.now = λ k. (c.shared_slice_known-2-1.given k).fits in
+    let bytes : Bytes a.events.now = λ k. (c.type_inv.events k).fits in
     let next = next_head a.text.now a.events.now (length a.records.now) (length a.pieces.now) here.stack here.records here.pieces here.c here.at here.number here.invariant bytes c.loop-at-test.true c.read_event-e.result c.read_event-e.ensures on.result on.new.stack on.new.records on.new.pieces on.ensures c.in-Go.d c.next_place-at.result c.in-Go.is c.next_place-at.ensures in
     omega (arith, next.onward, next.head.within)
 
@@ -55,7 +55,7 @@ loop-at-preserved c =
     let a = c.args in
     let here = c.loop-at in
     let on = c.on_event in
-    let bytes : Bytes a.events.now = λ k. (c.shared_slice_known-2-1.given k).fits in
+    let bytes : Bytes a.events.now = λ k. (c.type_inv.events k).fits in
     let next = next_head a.text.now a.events.now (length a.records.now) (length a.pieces.now) here.stack here.records here.pieces here.c here.at here.number here.invariant bytes c.loop-at-test.true c.read_event-e.result c.read_event-e.ensures on.result on.new.stack on.new.records on.new.pieces on.ensures c.in-Go.d c.next_place-at.result c.in-Go.is c.next_place-at.ensures in
     next.head
 

@@ -5,7 +5,7 @@ use native.Mathlib.Omega.{arith}
 use Rattle.records.specs.Layout.{record_room}
 use Rattle.parser.proofs.Turns.{moved_on, no_room, in_room, pushable, none_open, mismatched, matched, inner_below, inner_on, popped, outside, inner}
 use Rattle.parser.proofs.Starts.{cursor_offset}
-use Rattle.spans.specs.SpanLaws.{collection_node_boundary}
+use Rattle.spans.proofs.SpanLaws.{collection_node_boundary}
 use Rattle.text.proofs.OffsetLaws.{offset_within}
 use Rattle.spans.specs.Collection.{closes, collection_node}
 use Rattle.parser.proofs.on_event.on_end.Goals as goal

@@ -1,6 +1,6 @@
 -- `on_event` meets its contract, by the event's case.
 use mathlib.Core.Path.{refl}
-use Rattle.spans.specs.SpanLaws.{tag_fits}
+use Rattle.spans.proofs.SpanLaws.{tag_fits}
 use Rattle.parser.proofs.on_event.on_event.Goals as goal
 
 pub on_start-requires : goal.on_start-requires

@@ -8,7 +8,7 @@ use Rattle.utf8.specs.Boundary.{Boundary}
 use Rattle.event.specs.Read.{part_of}
 use Rattle.records.specs.Layout.{record_room}
 use Rattle.spans.specs.Scalar.{list_at, event_scalar, event_node}
-use Rattle.spans.specs.SpanLaws.{offset_start, event_node_boundary}
+use Rattle.spans.proofs.SpanLaws.{offset_start, event_node_boundary}
 use Rattle.spans.specs.Collection.{awaits_value}
 use Rattle.parser.specs.Machine.{scalar_kept, on_scalar}
 use Rattle.parser.proofs.Pieces.{put_tail}

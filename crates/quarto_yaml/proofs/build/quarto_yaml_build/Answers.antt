@@ -4,7 +4,7 @@ use lib.ListN.{length}
 use native.Mathlib.Omega.{arith}
 use Rattle.event.specs.Read.{events_limit}
 use Rattle.records.specs.Layout.{piece_limit}
-use Rattle.parser.specs.Bounds.{building_bounded}
+use Rattle.parser.proofs.BoundLaws.{building_bounded}
 use Rattle.quarto_yaml.proofs.Rows.{told_fits}
 use Rattle.quarto_yaml.specs.Answer.{three, build_outcome}
 use Rattle.quarto_yaml.proofs.build.quarto_yaml_build.Goals as goal

@@ -5,7 +5,7 @@ use native.Mathlib.Omega.{arith}
 use Rattle.records.specs.Layout.{piece_limit}
 use Rattle.records.specs.Record.{node_numbers}
 use Rattle.spans.specs.Scalar.{mark}
-use Rattle.parser.specs.Bounds.{scalar_bounded}
+use Rattle.parser.proofs.BoundLaws.{scalar_bounded}
 use Rattle.quarto_yaml.proofs.Rows.{told_fits}
 use Rattle.quarto_yaml.specs.Answer.{three, scalar_outcome}
 use Rattle.quarto_yaml.proofs.build.quarto_yaml_scalar.Goals as goal

@@ -1,6 +1,6 @@
 -- `collection_node` meets its contract: the start is a boundary and the end within the text, as the search and the record ask.
 use Rattle.spans.specs.Collection.{collection_node}
-use Rattle.spans.specs.SpanLaws.{collection_start_boundary, end_within}
+use Rattle.spans.proofs.SpanLaws.{collection_start_boundary, end_within}
 use Rattle.spans.proofs.collection.collection_node.Goals as goal
 
 pub collection_over-requires : goal.collection_over-requires

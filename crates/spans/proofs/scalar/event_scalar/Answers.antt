@@ -3,7 +3,7 @@
 use mathlib.Core.Path.{◌≡◌, ap, ◌∙◌}
 use Rattle.utf8.specs.Boundary.{Boundary}
 use Rattle.spans.specs.Scalar.{suffix_of, tag_info, event_node}
-use Rattle.spans.specs.SpanLaws.{tag_fits, offset_start, range_is, value_sound}
+use Rattle.spans.proofs.SpanLaws.{tag_fits, offset_start, range_is, value_sound}
 use Rattle.spans.proofs.scalar.event_scalar.Goals as goal
 
 pub suffix_of-requires : goal.suffix_of-requires

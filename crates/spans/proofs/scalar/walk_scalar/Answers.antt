@@ -15,7 +15,7 @@ use Rattle.records.specs.declared.record.TagInfo.{TagInfo}
 use Rattle.records.specs.declared.record.Node.{Node}
 use Rattle.spans.specs.Scalar.{ScalarAt, scalar_from, span_measure, scalar_over, list_at}
 use Rattle.spans.specs.Fits.{scalar_entry}
-use Rattle.spans.specs.SpanLaws.{span_within, span_from, list_from_lem, rest_is, rest_utf8}
+use Rattle.spans.proofs.SpanLaws.{span_within, span_from, list_from_lem, rest_is, rest_utf8}
 use Rattle.spans.proofs.scalar.walk_scalar.Goals as goal
 use Rattle.spans.proofs.scalar.walk_scalar.Goals.{After-scalar_len-span}
 

@@ -43,16 +43,16 @@ pub slice_bounds-token-end : goal.slice_bounds-token-end
 slice_bounds-token-end c = (token-at c).end.within
 
 pub overflow_add-result : goal.overflow_add-result
-overflow_add-result c = let fits = tag_fits (turn_at (goal.at.overflow_add-result c).After-byte_at-mark) c.if-mark-eq33.true in omega arith
+overflow_add-result c = let fits = tag_fits (turn_at (goal.at.overflow_add-result c).After-byte_at-mark) c.if-mark-eq-TAG.true in omega arith
 
-pub returns-then-mark-eq33 : goal.returns-then-mark-eq33
-returns-then-mark-eq33 c = tag_found (turn_at (goal.at.returns-then-mark-eq33 c).After-byte_at-mark) c.if-mark-eq33.true
+pub returns-then-mark-eq-TAG : goal.returns-then-mark-eq-TAG
+returns-then-mark-eq-TAG c = tag_found (turn_at (goal.at.returns-then-mark-eq-TAG c).After-byte_at-mark) c.if-mark-eq-TAG.true
 
-pub returns-then-mark-ne38 : goal.returns-then-mark-ne38
-returns-then-mark-ne38 c = none_found (turn_at (goal.at.returns-then-mark-ne38 c).After-byte_at-mark) c.if-mark-eq33.false c.if-mark-ne38.true
+pub returns-then-mark-ne-ANCHOR : goal.returns-then-mark-ne-ANCHOR
+returns-then-mark-ne-ANCHOR c = none_found (turn_at (goal.at.returns-then-mark-ne-ANCHOR c).After-byte_at-mark) c.if-mark-eq-TAG.false c.if-mark-ne-ANCHOR.true
 
 pub loop-node-smaller : goal.loop-node-smaller
-loop-node-smaller c = anchor_less (turn_at (goal.at.loop-node-smaller c).After-byte_at-mark) c.if-mark-ne38.false
+loop-node-smaller c = anchor_less (turn_at (goal.at.loop-node-smaller c).After-byte_at-mark) c.if-mark-ne-ANCHOR.false
 
 pub loop-node-preserved : goal.loop-node-preserved
-loop-node-preserved c = anchor_passed (turn_at (goal.at.loop-node-preserved c).After-byte_at-mark) c.if-mark-ne38.false
+loop-node-preserved c = anchor_passed (turn_at (goal.at.loop-node-preserved c).After-byte_at-mark) c.if-mark-ne-ANCHOR.false

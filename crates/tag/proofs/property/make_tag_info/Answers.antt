@@ -30,18 +30,18 @@ overflow_add-result c =
     let within = fits pre.utf8 pre.boundary c.find_tag_span-property.ensures c.find_tag_offset-start.ensures in
     omega arith
 
-pub returns-then-property-gt0 : goal.returns-then-property-gt0
-returns-then-property-gt0 c =
+pub returns-then-found : goal.returns-then-found
+returns-then-found c =
     let pre = c.requires in
-    found pre.utf8 pre.boundary c.find_tag_span-property.ensures c.find_tag_offset-start.ensures c.if-property-gt0.true _
+    found pre.utf8 pre.boundary c.find_tag_span-property.ensures c.find_tag_offset-start.ensures c.if-found.true _
 
 pub returns-then-suffix-left : goal.returns-then-suffix-left
 returns-then-suffix-left c =
     let pre = c.requires in
-    guessed pre.utf8 pre.boundary c.find_tag_span-property.ensures c.if-property-gt0.false _ _ (omega arith)
+    guessed pre.utf8 pre.boundary c.find_tag_span-property.ensures c.if-found.false _ _ (omega arith)
 
 pub returns : goal.returns
 returns c =
     let pre = c.requires in
     let within = pre.boundary.within in
-    guessed pre.utf8 pre.boundary c.find_tag_span-property.ensures c.if-property-gt0.false _ _ (omega arith)
+    guessed pre.utf8 pre.boundary c.find_tag_span-property.ensures c.if-found.false _ _ (omega arith)

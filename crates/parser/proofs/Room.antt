@@ -29,7 +29,7 @@ use Rattle.parser.specs.Machine.{State, empty, Next, go, stop, Outcome, built, r
 use Rattle.parser.specs.Machine.{on_start, ended, on_end, on_alias, keeping, scalar_kept, on_scalar, on_event, next_place, ending, follow, run, run_all}
 use Rattle.records.specs.Layout.{record_room, piece_room}
 use Rattle.parser.specs.Call.{admitted, building}
-use Rattle.parser.specs.Bounds.{Holding, Stepped, stepped}
+use Rattle.parser.proofs.BoundLaws.{Holding, Stepped, stepped}
 use Rattle.records.specs.declared.record.Node.{Node}
 use Rattle.spans.specs.declared.open.Open.{Open}
 
