@@ -18,7 +18,7 @@ use Rattle.text.specs.Admission.{admission, admission_number}
 use Rattle.text.specs.declared.admission.Admission.{Admission}
 use Rattle.text.specs.declared.admission.Admission.TheVariants.{Admitted, TooLong, NotUtf8}
 use Rattle.provenance.specs.Reading.{Piece}
-use Rattle.event.specs.Read.{events_limit, part_of, read_event}
+use Rattle.event.specs.Read.{events_limit, read_event}
 use Rattle.event.specs.declared.read.Event.{Event}
 use Rattle.event.specs.declared.read.Event.TheVariants.{SequenceStart, SequenceEnd, MappingStart, MappingEnd, Scalar, Alias, Malformed}
 use Rattle.event.specs.declared.tag.YamlTag.{YamlTag}

@@ -1,7 +1,6 @@
 -- `node::marker::scan_error` meets its contract: the offsets of two indices in turn, of a text that is admitted.
 use mathlib.Core.Path.{sym, ◌∙◌}
 use native.Mathlib.Omega.{arith}
-use borrow.Author.Rules.{rules}
 use Rattle.text.proofs.AdmissionLaws.{admitted_text, admitted_ascii}
 use Rattle.text.proofs.OffsetLaws.{stands_start, cursor_stands}
 use Rattle.node.specs.Marker.{scan_error}

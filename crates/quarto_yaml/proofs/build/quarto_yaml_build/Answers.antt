@@ -2,7 +2,6 @@
 use mathlib.Core.Path.{ap, ◌∙◌}
 use lib.ListN.{length}
 use native.Mathlib.Omega.{arith}
-use borrow.Author.Rules.{rules}
 use Rattle.event.specs.Read.{events_limit}
 use Rattle.records.specs.Layout.{piece_limit}
 use Rattle.parser.proofs.BoundLaws.{building_bounded}

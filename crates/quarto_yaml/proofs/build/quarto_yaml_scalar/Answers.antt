@@ -2,7 +2,6 @@
 use mathlib.Core.Path.{ap, ◌∙◌}
 use lib.ListN.{length}
 use native.Mathlib.Omega.{arith}
-use borrow.Author.Rules.{rules}
 use Rattle.records.specs.Layout.{piece_limit}
 use Rattle.records.specs.Record.{node_numbers}
 use Rattle.spans.specs.Scalar.{mark}

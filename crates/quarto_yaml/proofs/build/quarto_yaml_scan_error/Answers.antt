@@ -2,7 +2,6 @@
 use mathlib.Core.Path.{sym, ap, ◌∙◌}
 use Rattle.node.specs.Marker.{scanned}
 use Rattle.quarto_yaml.specs.Answer.{three}
-use borrow.Author.Rules.{rules}
 use Rattle.quarto_yaml.proofs.build.quarto_yaml_scan_error.Goals as goal
 
 pub returns-in-Span : goal.returns-in-Span
