@@ -1,7 +1,7 @@
 -- An admitted text is within the limit, UTF-8, and ASCII where the answer says so.
-use Rattle.std.specs.Prelude.{◌≡◌, refl, Bool, true, false, ◌&&◌, ◌||◌, cond, List, ℕ, ◌≤◌, length}
+use Rattle.std.specs.Prelude.{◌≡◌, refl, Bool, true, false, ◌&&◌, ◌||◌, cond, List, ℕ, length}
 use Rattle.std.proofs.Common.{ltb-false}
-use Rattle.utf8.specs.Utf8.{Utf8, is_ascii}
+use Rattle.utf8.specs.Utf8.{is_ascii}
 use Rattle.utf8.specs.Characters.{is_utf8}
 use Rattle.utf8.proofs.Utf8Laws.{utf8_sound}
 use Rattle.utf8.specs.Tests.{and_left, and_right}
