@@ -39,7 +39,7 @@ fn has_byte(s: &[u8], i: usize, b: u8) -> bool
 // mostly letters, which are passed over at once.
 pub fn plain_scalar_len(rest: &[u8], value: &[u8]) -> Measure
     requires utf8 { Utf8 rest.now }
-    requires utf8_2 { Utf8 value.now }
+    requires value_utf8 { Utf8 value.now }
     ensures { result ≡ plain_measure rest.now value.now }
 {
     let mut at = 0;

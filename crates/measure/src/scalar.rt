@@ -39,7 +39,7 @@ fn block_measure(rest: &[u8], empty: bool, column: usize) -> Measure
 // The measure by style, before the cut.
 fn style_len(rest: &[u8], value: &[u8], style: u8, empty: bool, column: usize) -> Measure
     requires utf8 { Utf8 rest.now }
-    requires utf8_2 { Utf8 value.now }
+    requires value_utf8 { Utf8 value.now }
     ensures { result ≡ style_measure rest.now value.now style empty column }
 {
     if style == PLAIN {
@@ -57,7 +57,7 @@ fn style_len(rest: &[u8], value: &[u8], style: u8, empty: bool, column: usize) -
 // The length in bytes of a scalar of any style that stands at the start of `rest`, and whether it was measured.
 pub fn scalar_len(rest: &[u8], value: &[u8], style: u8, empty: bool, column: usize) -> Measure
     requires utf8 { Utf8 rest.now }
-    requires utf8_2 { Utf8 value.now }
+    requires value_utf8 { Utf8 value.now }
     ensures { result ≡ scalar_measure rest.now value.now style empty column }
 {
     let found = style_len(rest, value, style, empty, column);

@@ -31,7 +31,7 @@ pub fn walk_scalar_provenance(
     pieces: &mut [u32],
 ) -> Walked
     requires src_len_bound { (length src.now ≤ text_limit) × (length value.now ≤ text_limit) × (base ≤ text_limit) × (column < 2 ^ 32) }
-    requires pieces_value { pieces.old ≡ zeros (length pieces.old) }
+    requires pieces_zero { pieces.old ≡ zeros (length pieces.old) }
     ensures value { result ≡ answer_of (room (length pieces.old)) (pieces_if base (reading_of (rules_of style column) src.now value.now)) }
     ensures pieces_after { pieces.new ≡ buffer_of (length pieces.old) (pieces_if base (reading_of (rules_of style column) src.now value.now)) }
 {

@@ -1,4 +1,4 @@
--- The definitions that the contracts of `text` cite, in reading order, and the laws that callers go by.
+-- The definitions that the contracts of `text` cite, in reading order. The laws that callers go by stand in proofs/.
 
 -- What it means: what contracts and theorems cite, from document 01 and the standards. To be believed.
 -- marker offsets and the cursor

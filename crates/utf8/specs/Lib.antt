@@ -1,4 +1,4 @@
--- The definitions that the contracts of `utf8` cite, in reading order, and the laws that callers go by.
+-- The definitions that the contracts of `utf8` cite, in reading order. The laws of texts that callers go by stand in proofs/.
 
 -- What it means: what contracts and theorems cite, from document 01 and the standards. To be believed.
 -- bytes as they are written
@@ -18,7 +18,6 @@ pub mod Characters
 pub mod Tests
 -- the classes of all bytes, spelt out
 pub mod ClassTable
--- Arguments: the lemmas behind the statements.
 -- For speed only: how fast paths are told. Nothing of 01 rests on them.
 -- what a byte may be after the three before it
 pub mod Window

@@ -14,7 +14,7 @@ use Rattle.measure.proofs.plain.plain_scalar_len.Goals.{After-first_char-c, Afte
 
 -- the character of the value that was read
 char_here : (c : After-first_char-c) → CharAt c.args.value.now c.characters.v c.first_char-c.result
-char_here c = char_read c.requires.utf8_2 c.characters.invariant.1.value_place_is c.characters-test.true c.first_char-c.ensures
+char_here c = char_read c.requires.value_utf8 c.characters.invariant.1.value_place_is c.characters-test.true c.first_char-c.ensures
 
 -- the run of the rest that was read
 run_here : (c : After-white_space_run-run) → c.white_space_run-run.result ≡ run_of (codes (drop c.characters.at c.args.rest.now))
@@ -38,7 +38,7 @@ comparing c =
 -- ---- the answers
 
 pub characters-init : goal.characters-init
-characters-init c = (refl, match_begins c.requires.utf8 c.requires.utf8_2)
+characters-init c = (refl, match_begins c.requires.utf8 c.requires.value_utf8)
 
 pub white_space_run-run-requires : goal.white_space_run-run-requires
 white_space_run-run-requires c = part_utf8 c.requires.utf8 c.characters.invariant.1.rest_place
@@ -58,7 +58,7 @@ characters-preserved-then-run c =
     let run = run_here (goal.at.characters-preserved-then-run c).After-white_space_run-run in
     let fold = sym c.is_fold.ensures ∙ c.if-is_fold.true in
     let inv = c.characters.invariant in
-    (inv.0, match_run c.requires.utf8 c.requires.utf8_2 inv.1 a c.if-known-at.true run fold c.if-run.true)
+    (inv.0, match_run c.requires.utf8 c.requires.value_utf8 inv.1 a c.if-known-at.true run fold c.if-run.true)
 
 pub overflow_add-known : goal.overflow_add-known
 overflow_add-known c = let f = run_room (goal.at.overflow_add-known c).After-white_space_run-run in omega arith
@@ -88,7 +88,7 @@ pub overflow_add-at-in-characters : goal.overflow_add-at-in-characters
 overflow_add-at-in-characters c =
     let a = char_here (goal.at.overflow_add-at-in-characters c).After-first_char-c in
     let equal = equal_all c.args.rest.now c.characters.at c.args.value.now c.characters.v c.loop-k.invariant.2 c.loop-k.invariant.1 c.loop-k-test.false in
-    let b = equal_char c.requires.utf8 c.characters.invariant.1.rest_place c.requires.utf8_2 a equal in
+    let b = equal_char c.requires.utf8 c.characters.invariant.1.rest_place c.requires.value_utf8 a equal in
     omega arith
 
 pub overflow_add-v-in-characters : goal.overflow_add-v-in-characters
@@ -98,7 +98,7 @@ pub letters-n-requires : goal.letters-n-requires
 letters-n-requires c =
     let a = char_here (goal.at.letters-n-requires c).After-first_char-c in
     let equal = equal_all c.args.rest.now c.characters.at c.args.value.now c.characters.v c.loop-k.invariant.2 c.loop-k.invariant.1 c.loop-k-test.false in
-    let b = equal_char c.requires.utf8 c.characters.invariant.1.rest_place c.requires.utf8_2 a equal in
+    let b = equal_char c.requires.utf8 c.characters.invariant.1.rest_place c.requires.value_utf8 a equal in
     (omega arith, omega arith)
 
 pub characters-smaller : goal.characters-smaller
@@ -111,8 +111,8 @@ pub characters-preserved : goal.characters-preserved
 characters-preserved c =
     let a = char_here (goal.at.characters-preserved c).After-first_char-c in
     let equal = equal_all c.args.rest.now c.characters.at c.args.value.now c.characters.v c.loop-k.invariant.2 c.loop-k.invariant.1 c.loop-k-test.false in
-    let r = match_equal c.requires.utf8 c.requires.utf8_2 (comparing (goal.at.characters-preserved c).Joined-known-at) a equal in
-    (c.loop-k.invariant.0, match_letters c.requires.utf8 c.requires.utf8_2 r c.letters-n.ensures.letters)
+    let r = match_equal c.requires.utf8 c.requires.value_utf8 (comparing (goal.at.characters-preserved c).Joined-known-at) a equal in
+    (c.loop-k.invariant.0, match_letters c.requires.utf8 c.requires.value_utf8 r c.letters-n.ensures.letters)
 
 pub returns-after-characters : goal.returns-after-characters
 returns-after-characters c = let inv = c.characters.invariant in rw inv.0 (match_at-end inv.1 c.characters-test.false)
@@ -122,4 +122,4 @@ returns-then-not-has_byte c =
     let a = char_here (goal.at.returns-then-not-has_byte c).After-first_char-c in
     let compared = comparing (goal.at.returns-then-not-has_byte c).Joined-known-at in
     let differs = sym c.has_byte.ensures ∙ c.if-not-has_byte.true in
-    match_fails c.requires.utf8 c.requires.utf8_2 compared a c.loop-k.k c.loop-k-test.true differs
+    match_fails c.requires.utf8 c.requires.value_utf8 compared a c.loop-k.k c.loop-k-test.true differs

@@ -10,7 +10,7 @@ use Rattle.provenance.proofs.scalar.scalar_provenance.Goals as goal
 pub returns-then-not-is_boundary : goal.returns-then-not-is_boundary
 returns-then-not-is_boundary c =
     let a = c.args in
-    let e = cannot_start a.text.now a.start a.len a.value.now a.style a.column a.pieces.now c.requires.pieces_value c.walk_start-first.result c.walk_start-first.ensures (sym c.is_boundary.ensures ∙ c.if-not-is_boundary.true) in
+    let e = cannot_start a.text.now a.start a.len a.value.now a.style a.column a.pieces.now c.requires.pieces_zero c.walk_start-first.result c.walk_start-first.ensures (sym c.is_boundary.ensures ∙ c.if-not-is_boundary.true) in
     record { value = e.0; pieces_after = e.1 }
 
 pub slice_bounds-walk_scalar_provenance-count : goal.slice_bounds-walk_scalar_provenance-count
@@ -24,7 +24,7 @@ walk_scalar_provenance-requires c =
     let a = c.args in
     let h = (is_boundary_lem (sym c.is_boundary.ensures ∙ c.if-not-is_boundary.false)).within in
     let d = length-drop c.walk_start-first.result a.text.now in
-    record { src_len_bound = rw (part_is a.text.now c.walk_start-first.result) (omega arith, omega arith, omega arith, omega arith); pieces_value = c.requires.pieces_value }
+    record { src_len_bound = rw (part_is a.text.now c.walk_start-first.result) (omega arith, omega arith, omega arith, omega arith); pieces_zero = c.requires.pieces_zero }
 
 pub returns : goal.returns
 returns c =

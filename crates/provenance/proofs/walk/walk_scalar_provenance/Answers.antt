@@ -56,7 +56,7 @@ replaced c =
 
 -- ---- the goals
 pub loop-v-init : goal.loop-v-init
-loop-v-init c = (begins _ _ _ _ _ _ _ refl c.requires.pieces_value, λ i h k. absurd (omega arith))
+loop-v-init c = (begins _ _ _ _ _ _ _ refl c.requires.pieces_zero, λ i h k. absurd (omega arith))
 
 pub known_after-known-requires : goal.known_after-known-requires
 known_after-known-requires c =

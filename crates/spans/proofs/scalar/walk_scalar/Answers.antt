@@ -21,7 +21,7 @@ use Rattle.spans.proofs.scalar.walk_scalar.Goals.{After-scalar_len-span}
 
 pub scalar_len-span-requires : goal.scalar_len-span-requires
 scalar_len-span-requires c =
-    record { utf8 = rest_utf8 c.args.text.now c.args.start c.requires.admitted_text.0.utf8 c.requires.boundary; utf8_2 = c.requires.admitted_text.1.utf8 }
+    record { utf8 = rest_utf8 c.args.text.now c.args.start c.requires.admitted_text.0.utf8 c.requires.boundary; value_utf8 = c.requires.admitted_text.1.utf8 }
 
 -- the scalar was measured
 module _ (c : After-scalar_len-span) where
