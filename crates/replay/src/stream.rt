@@ -1,11 +1,9 @@
 // A list that is read, as from standard input, a case at a time.
-ghost use Rattle.std.specs.Prelude.{◌≡◌, ◌≤◌, min, length, IfOk};
-ghost use Rattle.std.specs.Io.{ReadsAtMost};
+ghost use Rattle.std.specs.Prelude.{◌≡◌, ◌≤◌, min, length};
 ghost use Rattle.replay.specs.Case.{part_of};
 ghost use Rattle.replay.specs.Stream.{Fits, case_len};
 
 use crate::case::{bytes_at, number_at};
-use std::io;
 use std::io::Read;
 
 // How many bytes are read away at a time.
@@ -29,68 +27,69 @@ fn least(a: usize, b: usize) -> usize
     if a < b { a } else { b }
 }
 
-// Reads until the buffer is full or the list ends, and answers how many bytes were read.
-fn read_full<R: Read>(list: &mut R, buffer: &mut [u8]) -> io::Result<usize>
-    ensures { ReadsAtMost result buffer.new }
+// Reads until the buffer is full, the list ends or a read fails, and answers how many bytes were read.
+fn read_full<R: Read>(list: &mut R, buffer: &mut [u8]) -> usize
+    ensures { result ≤ length buffer.new }
 {
     let mut done = 0;
     while done < buffer.len() {
-        let read = list.read(&mut buffer[done..])?;
+        let Ok(read) = list.read(&mut buffer[done..]) else {
+            break;
+        };
         if read == 0 {
             break;
         }
         done += read;
     }
-    Ok(done)
+    done
 }
 
 // Reads some of the next `left` bytes away, and answers how many; 0 at the list's end.
-fn skip_some<R: Read>(list: &mut R, left: usize) -> io::Result<usize>
-    ensures { IfOk result (λ read. read ≤ left) }
+fn skip_some<R: Read>(list: &mut R, left: usize) -> usize
+    ensures { result ≤ left }
 {
     let part = least(left, CHUNK);
     let mut chunk = [0u8; CHUNK];
-    let read = read_full(list, &mut chunk[..part])?;
-    Ok(least(read, left))
+    least(read_full(list, &mut chunk[..part]), left)
 }
 
 // Reads `size` bytes of the list away, and answers whether they were there.
-fn skip<R: Read>(list: &mut R, size: usize) -> io::Result<bool> {
+fn skip<R: Read>(list: &mut R, size: usize) -> bool {
     let mut left = size;
     while left > 0 {
-        let read = skip_some(list, left)?;
+        let read = skip_some(list, left);
         if read == 0 {
-            return Ok(false);
+            return false;
         }
         left -= read;
     }
-    Ok(true)
+    true
 }
 
-// Reads the next case of the list into the buffer.
-pub fn next_case<R: Read>(list: &mut R, buffer: &mut [u8]) -> io::Result<Next>
-    ensures { IfOk result (λ next. Fits next (length buffer.new)) }
+// Reads the next case of the list into the buffer. A read that fails is the list's end.
+pub fn next_case<R: Read>(list: &mut R, buffer: &mut [u8]) -> Next
+    ensures { Fits result (length buffer.new) }
 {
     let mut head = [0u8; 4];
-    let got = read_full(list, &mut head)?;
+    let got = read_full(list, &mut head);
     if got == 0 {
-        return Ok(Next::End);
+        return Next::End;
     }
     if got < 4 {
-        return Ok(Next::Broken);
+        return Next::Broken;
     }
     let size = number_at(&head, 0) as usize;
     if buffer.len() < size {
-        if skip(list, size)? {
-            return Ok(Next::TooLarge);
+        if skip(list, size) {
+            return Next::TooLarge;
         }
-        return Ok(Next::Broken);
+        return Next::Broken;
     }
-    let read = read_full(list, &mut buffer[..size])?;
+    let read = read_full(list, &mut buffer[..size]);
     if read < size {
-        return Ok(Next::Broken);
+        return Next::Broken;
     }
-    Ok(Next::Case(size))
+    Next::Case(size)
 }
 
 // How many bytes of the buffer are the case that was read into it; 0 where none was.

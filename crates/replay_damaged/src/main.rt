@@ -102,7 +102,7 @@ fn main(rt: HostRuntime) -> io::Result<()> {
     let mut space = vec![in rt.alloc(); 0u8; SPACE]?;
     let mut tally = replay::tally::START;
     while tally.left > 0 {
-        let next = replay::stream::next_case(&mut list, &mut space)?;
+        let next = replay::stream::next_case(&mut list, &mut space);
         let v = verdict(replay::stream::read_case(&space, next));
         tally = replay::tally::after(tally, next, v);
     }
