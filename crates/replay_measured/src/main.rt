@@ -84,7 +84,7 @@ const SPACE: usize = 65536;
 
 fn main(rt: HostRuntime) -> io::Result<()> {
     let mut list = rt.reader();
-    let mut space = vec![in rt.alloc(); 0u8; SPACE]?;
+    let mut space = [0u8; SPACE];
     let mut tally = replay::tally::START;
     while tally.left > 0 {
         let next = replay::stream::next_case(&mut list, &mut space);
