@@ -1,9 +1,5 @@
 -- Lemmas that serve the functions of `letters`, by subject, and those that callers go by.
 -- chunks of bytes
 pub mod Chunks
--- letters, one by one and by chunks
-pub mod Letters
--- ordinary bytes, by chunks
-pub mod Marks
 -- letters as characters: what callers go by
 pub mod Words

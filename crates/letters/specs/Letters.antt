@@ -2,7 +2,6 @@
 -- space, that it stands for no other character and that no step but the third fits there is shown where it is used.
 use Rattle.std.specs.Prelude.{ℕ, ◌+◌, ◌-◌, ◌≤◌, ◌<◌, ◌≡◌, false, ◌⊎◌, List, length, drop, get_or}
 use Rattle.utf8.specs.Class.{is_continuation}
-use Rattle.letters.specs.FirstPlaces.{FirstPlaces}
 
 -- a byte before c that no white space begins with: not up to the blank, not 80 to C2, not E1, not E2 before 80 and 81, not E3 before 80
 pub record WordByte (b c : ℕ) : Type 0 where
@@ -31,21 +30,9 @@ pub record LetterByte (a b c : ℕ) : Type 0 where
 abbrev pub Letter : ℕ → ℕ → ℕ → ℕ → Type 0
 Letter a b c d = (a ≡ d) × LetterByte a b c
 
--- the same at a place of a chunk: source bytes, those one and two after them, value bytes
-abbrev pub ChunkLetter : List ℕ → List ℕ → List ℕ → List ℕ → ℕ → Type 0
-ChunkLetter src next after val j = Letter (get_or src j 0) (get_or next j 0) (get_or after j 0) (get_or val j 0)
-
--- the first n of a chunk
-abbrev pub FirstLetters : List ℕ → List ℕ → List ℕ → List ℕ → ℕ → Type 0
-FirstLetters src next after val = FirstPlaces (ChunkLetter src next after val) (length src)
-
 -- an equal letter at a place of the source and of the value
 abbrev pub LetterAt : List ℕ → List ℕ → ℕ → Type 0
 LetterAt src val j = Letter (get_or src j 0) (get_or src (j + 1) 0) (get_or src (j + 2) 0) (get_or val j 0)
-
--- n from the place i on
-abbrev pub MoreLetters : List ℕ → List ℕ → ℕ → ℕ → Type 0
-MoreLetters src val i n = (j : ℕ) → j < n → LetterAt src val (i + j)
 
 -- the source and the value go on with n equal letters
 pub record LetterRun (src val : List ℕ) (n : ℕ) : Type 0 where

@@ -1,55 +1,23 @@
-// Bytes looked at a chunk at a time. No test turns aside: each answers 0 or 1, and the place of the first 1 is kept, which a processor does
-// for all bytes of a chunk at once.
-ghost use Rattle.std.specs.Prelude.{◌≡◌, ◌<◌, min, not, ◌⊎◌, eqb, leb};
-ghost use Rattle.utf8.specs.Class.{counts};
+// Bytes that are looked at a chunk at a time. No place of a chunk ends the loop over it: each is tested, and the first that fails is kept, which a
+// processor does for all of them at once.
+ghost use Rattle.std.specs.Prelude.{ℕ, ◌*◌, ◌^◌, ◌<◌, true};
+ghost use Rattle.letters.specs.FirstPlaces.{FirstPlaces};
 
-// A place past those of every chunk.
-const NOWHERE: u8 = 255;
-
-pub fn least(a: u8, b: u8) -> u8
-    ensures { result ≡ min a b }
+// How many places pass before the first that does not, of so many chunks of N.
+pub fn passing<const N: u8, F: Fn(usize) -> bool>(chunks: usize, passes: F) -> usize
+    requires size { chunks * N < 2 ^ 64 }
+    requires callable { (i : ℕ) → i < chunks * N → F.pre passes i }
+    ensures { FirstPlaces (λ i. F.post passes i true) (chunks * N) result }
 {
-    if a < b { a } else { b }
-}
-
-// 1 where `a` or `b` is not 0, if both are 0 or 1.
-pub fn either_set(a: u8, b: u8) -> u8
-    ensures { result ≡ 0 → (a ≡ 0) × (b ≡ 0) }
-{
-    if a == 0 { b } else { 1 }
-}
-
-// 1 where `a` and `b` are not 0, if both are 0 or 1.
-pub fn both_set(a: u8, b: u8) -> u8
-    ensures { result ≡ 0 → (a ≡ 0) ⊎ (b ≡ 0) }
-{
-    if a == 0 { 0 } else { b }
-}
-
-// 1 where `a` is `b`.
-pub fn same_byte(a: u8, b: u8) -> u8
-    ensures { result ≡ counts (eqb a b) 1 }
-{
-    if a == b { 1 } else { 0 }
-}
-
-// 1 where `a` is not `b`.
-pub fn differ(a: u8, b: u8) -> u8
-    ensures { result ≡ counts (not (eqb a b)) 1 }
-{
-    if a == b { 0 } else { 1 }
-}
-
-// 1 where `a` is at most `b`.
-pub fn up_to(a: u8, b: u8) -> u8
-    ensures { result ≡ counts (leb a b) 1 }
-{
-    if a <= b { 1 } else { 0 }
-}
-
-// The place `i`, or none where `other` is 0.
-pub fn place_of(i: u8, other: u8) -> u8
-    ensures { i < result → other ≡ 0 }
-{
-    if other == 0 { NOWHERE } else { i }
+    for k in 0..chunks {
+        let start = k * usize::from(N);
+        let mut first = N;
+        for j in 0..N {
+            first = first.min(if passes(start + usize::from(j)) { N } else { j });
+        }
+        if first < N {
+            return start + usize::from(first);
+        }
+    }
+    chunks * usize::from(N)
 }

@@ -1,49 +1,61 @@
--- Going back from a boundary: the bytes between it and the start of the character before it.
-use mathlib.Core.Path.{◌≡◌, sym, ◌∙◌, ap, subst}
-use mathlib.Core.Bool.{Bool, true, false}
-use mathlib.Core.List.{List}
-use Prim.Native.Nat.{ℕ, ◌+◌, ◌-◌, ◌≤◌, ◌<◌}
-use native.Mathlib.Decide.{dec_lt}
-use native.Mathlib.Omega.{arith}
-use lib.ListN.{take, drop, get_or}
+-- Going back from a boundary: the last byte before it that continues nothing begins the character that ends there.
+use Rattle.std.specs.Prelude.{◌≡◌, ℕ, ◌+◌, ◌-◌, ◌<◌, Bool, true, false, None, List, take, drop, get_or}
+use Rattle.std.proofs.Common.{sym, ◌∙◌, ap, arith, get_or-take}
+use Rattle.std.proofs.Math.Decide.{dec_lt}
 use Rattle.utf8.specs.Class.{is_continuation}
 use Rattle.utf8.specs.Utf8.{Utf8}
 use Rattle.utf8.specs.Boundary.{Boundary}
-use Rattle.utf8.specs.Characters.{first_char, last_char}
+use Rattle.utf8.specs.Characters.{some_char, first_char, codes, chars_after, last_of, last_char}
 use Rattle.utf8.specs.Tests.{clash}
 use Rattle.utf8.proofs.Utf8Laws.{CharBefore, char_before}
 
-module _ {s : List ℕ} {i : ℕ} (u : Utf8 s) (p : Boundary s i) (some : i ≡ 0 → ⊥) where
+module _ {s : List ℕ} {i : ℕ} (u : Utf8 s) (p : Boundary s i) where
   -- where the character begins that ends at i
   abbrev start : ℕ
   start = i - (last_char (take i s)).len
 
-  pub ends_there : CharBefore s i (last_char (take i s))
-  ends_there = char_before u p (omega arith)
+  -- whether the byte at k continues a character
+  abbrev continues : ℕ → Bool
+  continues k = is_continuation (get_or (take i s) k 0)
 
-  -- the byte b at j, and whether it continues a character
-  module _ {j b : ℕ} {t : Bool} (from : start ≤ j) (read : b ≡ get_or s j 0) (told : t ≡ is_continuation b) where
-    told_at : t ≡ is_continuation (get_or s j 0)
-    told_at = told ∙ ap is_continuation read
+  continues_in : (k : ℕ) → k < i → continues k ≡ is_continuation (get_or s k 0)
+  continues_in k h = ap is_continuation (get_or-take i s k 0 h)
 
-    -- one that does is not the first
-    pub past_start : t ≡ true → start < j
-    past_start e = go (dec_lt start j)
-      where
-        there : (start < j → ⊥) → start ≡ j
-        there n = omega arith
+  module _ (some : 0 < i) where
+    before : CharBefore s i (last_char (take i s))
+    before = char_before u p some
 
-        go : Dec (start < j) → start < j
-        go (yes h) = h
-        go (no n) = absurd (clash (sym e ∙ told_at ∙ subst (λ (m : ℕ). is_continuation (get_or s m 0) ≡ false) (there n) ends_there.is.start.edge))
+    start_within : start < i
+    start_within = let b = before.is.some in let f = before.fits in omega arith
 
-    -- one that does not is
-    pub at_start : j < i → t ≡ false → first_char (drop j s) ≡ last_char (take i s)
-    at_start h e =
-        let f = ends_there.fits in
-        let first : start ≡ j = go (dec_lt start j) (omega arith) in
-        ap (λ (n : ℕ). first_char (drop n s)) (sym first) ∙ ends_there.is.first
-      where
-        go : Dec (start < j) → j < start + (last_char (take i s)).len → start ≡ j
-        go (no n) k = omega arith
-        go (yes l) k = absurd (clash (sym (ends_there.is.continues j l k) ∙ sym told_at ∙ e))
+    starts : continues start ≡ false
+    starts = continues_in start start_within ∙ before.is.start.edge
+
+  -- there is none where all bytes continue
+  pub none_before : ((k : ℕ) → k < i → continues k ≡ true) → None ≡ some_char (last_char (take i s))
+  unfolding last_char last_of codes chars_after
+  none_before all = go (dec_lt 0 i)
+    where
+      at_start : i ≡ 0 → None ≡ some_char (last_char (take i s))
+      at_start e = rw e
+
+      go : Dec (0 < i) → None ≡ some_char (last_char (take i s))
+      go (yes h) = absurd (clash (sym (all start (start_within h)) ∙ starts h))
+      go (no h) = at_start (omega arith)
+
+  pub start_found : (j : ℕ) → j < i → continues j ≡ false → ((k : ℕ) → j < k → k < i → continues k ≡ true) → first_char (drop j s) ≡ last_char (take i s)
+  start_found j h e all = ap (λ (n : ℕ). first_char (drop n s)) (is (dec_lt start j) (dec_lt j start)) ∙ b.is.first
+    where
+      some : 0 < i
+      some = omega arith
+
+      b : CharBefore s i (last_char (take i s))
+      b = before some
+
+      up_to : j < start + (last_char (take i s)).len
+      up_to = let f = b.fits in omega arith
+
+      is : Dec (start < j) → Dec (j < start) → j ≡ start
+      is (yes l) q = absurd (clash (sym (b.is.continues j l up_to) ∙ sym (continues_in j h) ∙ e))
+      is (no l) (yes m) = absurd (clash (sym (all start m (start_within some)) ∙ starts some))
+      is (no l) (no m) = omega arith

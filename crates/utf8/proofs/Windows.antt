@@ -10,8 +10,8 @@ use borrow.Author.Tests.{lt-ltb, le-ltb, le-leb, lt-leb}
 use lib.ListN.{length, drop, get_or}
 use Rattle.utf8.specs.Characters.{character, code_of2, code_of3, code_of4, two_bytes, three_bytes, four_bytes, multi_byte, first_char, is_utf8}
 use Rattle.utf8.proofs.Utf8Laws.{first_char_ascii, first_char_multi, utf8_on, utf8_end}
-use Rattle.utf8.specs.Tests.{inside_low, inside_high, is_inside, below_inside, above_inside, clash}
-use Rattle.utf8.specs.Class.{inside, is_continuation}
+use Rattle.utf8.specs.Tests.{is_inside, below_inside, above_inside, clash}
+use Rattle.utf8.specs.Class.{inside}
 use Rattle.utf8.specs.declared.utf8.Char.{Char}
 use Rattle.utf8.specs.Window.{awaits, BeginsCharacter, Follows, Fits, led, FitsAt, FirstFit}
 
@@ -96,15 +96,6 @@ after_two p q r l h = rw (lt-leb 0xc0 r l, le-leb 0xe0 q h)
 
 after_three : (p q r : ℕ) → r < 0xc0 → q < 0xe0 → 0xf0 ≤ p → awaits p q r ≡ true
 after_three p q r l m h = rw (lt-leb 0xc0 r l, lt-leb 0xe0 q m, le-leb 0xf0 p h)
-
-pub fits_more : (p q r b : ℕ) → awaits p q r ≡ true → is_continuation b ≡ true → Follows r b → Fits p q r b
-fits_more p q r b a k f =
-    let low = inside_low 128 191 b k in
-    let high = inside_high 128 191 b k in
-    record { starts = λ e. absurd (clash (sym a ∙ e)); continues = λ e. (low, omega arith); follows = λ e. f }
-
-pub fits_start : (p q r b : ℕ) → awaits p q r ≡ false → BeginsCharacter b → Fits p q r b
-fits_start p q r b a k = record { starts = λ e. k; continues = λ e. absurd (clash (sym e ∙ a)); follows = λ e. absurd (clash (sym e ∙ a)) }
 
 -- ---- all of them
 

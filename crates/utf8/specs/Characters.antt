@@ -1,7 +1,7 @@
 -- Characters as they are read from bytes, by definitions that compute. They need not be believed: `characters_read` in `Utf8Laws` says of
 -- each what it is in terms of `Utf8`. A character must be in its shortest form and a scalar value, so overlong forms, surrogates and values
 -- past 10FFFF are none. Bytes past the end are read as 0, which continues nothing: a character that is cut off is none by itself.
-use Rattle.std.specs.Prelude.{ℕ, zero, suc, ◌+◌, ◌-◌, ◌*◌, ◌≡◌, Bool, true, not, ◌&&◌, cond, List, [], ◌∷◌, ◌++◌, map, ltb, leb, length, drop, get_or}
+use Rattle.std.specs.Prelude.{ℕ, zero, suc, ◌+◌, ◌-◌, ◌*◌, ◌≡◌, Bool, true, not, ◌&&◌, cond, Option, Some, None, List, [], ◌∷◌, ◌++◌, map, ltb, leb, length, drop, get_or}
 use Rattle.utf8.specs.Class.{inside, is_continuation}
 use Rattle.utf8.specs.Utf8.{ScalarValue, encode}
 use Rattle.utf8.specs.declared.utf8.Char.{Char}
@@ -11,6 +11,10 @@ character c n = record { code = c; len = n }
 
 abbrev pub no_char : Char
 no_char = character 0 0
+
+-- the same as an option: a character of no bytes is none
+abbrev pub some_char : Char → Option Char
+some_char c = cond (ltb 0 c.len) (Some c) None
 
 -- the code point in the bits of two, three and four bytes
 abbrev pub code_of2 : ℕ → ℕ → ℕ

@@ -1,4 +1,4 @@
--- `letters::letter::words` meets its contract. The loop's invariant: the bytes before `n` are letters. The measure is `n`.
+-- `letters::letter::words` meets its contract. The loop's invariant: what is left of the run is a run. The measure is its length.
 use Rattle.letters.specs.Letters.{LetterRun}
 use Rattle.letters.proofs.letter.words.Given as goal
 

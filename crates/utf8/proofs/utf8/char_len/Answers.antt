@@ -1,16 +1,16 @@
--- `utf8::utf8::char_len` meets its contract.
-use mathlib.Core.Path.{sym}
+-- `utf8::utf8::char_len` meets its contract: the first byte's range says the length.
+use Rattle.std.proofs.Common.{sym, arith}
 use Rattle.utf8.proofs.Leads.{one_there, two_there, three_there, four_there}
 use Rattle.utf8.proofs.utf8.char_len.Goals as goal
 
-pub returns-then-lead-lt128 : goal.returns-then-lead-lt128
-returns-then-lead-lt128 c = sym (one_there c.args.s.now c.args.i c.requires.utf8 c.requires.boundary c.requires.i_in_bounds c.if-lead-lt128.true)
+pub returns-in-0-to-127 : goal.returns-in-0-to-127
+returns-in-0-to-127 c = sym (one_there _ _ c.requires.utf8 c.requires.boundary c.requires.i_in_bounds (omega arith))
 
-pub returns-then-lead-lt224 : goal.returns-then-lead-lt224
-returns-then-lead-lt224 c = sym (two_there c.args.s.now c.args.i c.requires.utf8 c.requires.boundary c.requires.i_in_bounds c.if-lead-lt128.false c.if-lead-lt224.true)
+pub returns-in-128-to-223 : goal.returns-in-128-to-223
+returns-in-128-to-223 c = sym (two_there _ _ c.requires.utf8 c.requires.boundary c.requires.i_in_bounds (omega arith) (omega arith))
 
-pub returns-then-lead-lt240 : goal.returns-then-lead-lt240
-returns-then-lead-lt240 c = sym (three_there c.args.s.now c.args.i c.requires.utf8 c.requires.boundary c.requires.i_in_bounds c.if-lead-lt128.false c.if-lead-lt224.false c.if-lead-lt240.true)
+pub returns-in-224-to-239 : goal.returns-in-224-to-239
+returns-in-224-to-239 c = sym (three_there _ _ c.requires.utf8 c.requires.boundary c.requires.i_in_bounds (omega arith) (omega arith) (omega arith))
 
-pub returns : goal.returns
-returns c = sym (four_there c.args.s.now c.args.i c.requires.utf8 c.requires.boundary c.requires.i_in_bounds c.if-lead-lt128.false c.if-lead-lt240.false)
+pub returns-in_default : goal.returns-in_default
+returns-in_default c = sym (four_there _ _ c.requires.utf8 c.requires.boundary c.requires.i_in_bounds (omega arith) (omega arith))

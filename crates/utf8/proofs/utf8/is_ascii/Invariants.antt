@@ -1,12 +1,7 @@
--- `utf8::utf8::is_ascii` meets its contract. The loop's invariant: while no byte of 128 or more was met, the rest decides, and once
--- one was, the bytes are not ASCII. The measure is what is left.
-use Prim.Native.Nat.{◌-◌, ◌≤◌}
-use lib.ListN.{length}
-use Rattle.utf8.proofs.Ascii.{Met}
+-- `utf8::utf8::is_ascii` meets its contract. The loop's invariant: all is ASCII where the bytes met are and the rest is.
+use Rattle.std.proofs.Common.{◌≡◌, ◌&&◌, drop}
+use Rattle.utf8.specs.Utf8.{is_ascii}
 use Rattle.utf8.proofs.utf8.is_ascii.Given as goal
 
-abbrev pub invariant-loop-i : goal.invariant-loop-i
-invariant-loop-i l = (l.i ≤ length l.s) × Met l.s l.i l.largest
-
-abbrev pub decreases-loop-i : goal.decreases-loop-i
-decreases-loop-i l = length l.s - l.i
+abbrev pub invariant-loop-b : goal.invariant-loop-b
+invariant-loop-b l = l.ascii && is_ascii (drop l.b-index l.s) ≡ is_ascii l.s

@@ -1,37 +1,20 @@
-use mathlib.Core.Path.{◌∙◌}
-use native.Mathlib.Omega.{arith}
-use Rattle.utf8.specs.Characters.{codes, chars_after, last_of, last_char}
-use Rattle.utf8.proofs.Back.{ends_there, past_start, at_start}
+-- `utf8::utf8::last_char` meets its contract: the search back stops at the byte that begins the character.
+use Rattle.std.proofs.Common.{arith, ◌∙◌, ap, ℕ, ◌≡◌, ◌<◌, true, false, get_or, take}
+use Rattle.std.proofs.lemmas.Grind.{common_steps}
+use Rattle.utf8.specs.Class.{is_continuation}
+use Rattle.utf8.specs.Characters.{some_char}
+use Rattle.utf8.proofs.Back.{none_before, start_found}
 use Rattle.utf8.proofs.utf8.last_char.Goals as goal
 
-pub returns-then-i-eq0 : goal.returns-then-i-eq0
-unfolding last_char last_of codes chars_after
-returns-then-i-eq0 c = rw c.if-i-eq0.true
-
-pub overflow_sub-j : goal.overflow_sub-j
-overflow_sub-j c = let z = c.if-i-eq0.false in omega arith
-
-pub loop-j-init : goal.loop-j-init
-loop-j-init c =
-    let some = (ends_there c.requires.utf8 c.requires.boundary c.if-i-eq0.false).is.some in
-    let z = c.if-i-eq0.false in
-    (omega arith, omega arith)
-
-pub overflow_sub-j-in-loop-j : goal.overflow_sub-j-in-loop-j
-overflow_sub-j-in-loop-j c =
-    let past = past_start c.requires.utf8 c.requires.boundary c.if-i-eq0.false c.loop-j.invariant.0 c.byte_at.ensures c.is_continuation.ensures c.loop-j-test.true in
-    omega arith
-
-pub loop-j-smaller : goal.loop-j-smaller
-loop-j-smaller c = let less = overflow_sub-j-in-loop-j c in omega arith
-
-pub loop-j-preserved : goal.loop-j-preserved
-loop-j-preserved c =
-    let past = past_start c.requires.utf8 c.requires.boundary c.if-i-eq0.false c.loop-j.invariant.0 c.byte_at.ensures c.is_continuation.ensures c.loop-j-test.true in
-    (omega arith, omega arith)
+pub returns-in_err-start : goal.returns-in_err-start
+returns-in_err-start c =
+    let all : (k : ℕ) → k < c.args.i → is_continuation (get_or (take c.args.i c.args.s.now) k 0) ≡ true = (λ k h. grind (arith, common_steps)) in
+    c.from_residual.ensures ∙ none_before c.requires.utf8 c.requires.boundary all
 
 pub returns : goal.returns
 returns c =
-    let w = c.loop-j in
-    c.first_char.ensures
-    ∙ at_start c.requires.utf8 c.requires.boundary c.if-i-eq0.false w.invariant.0 c.byte_at.ensures c.is_continuation.ensures w.invariant.1 c.loop-j-test.false
+    let j = c.in_ok-start.start in
+    let within : j < c.args.i = grind (arith, common_steps) in
+    let found : is_continuation (get_or (take c.args.i c.args.s.now) j 0) ≡ false = grind (arith, common_steps) in
+    let all : (k : ℕ) → j < k → k < c.args.i → is_continuation (get_or (take c.args.i c.args.s.now) k 0) ≡ true = (λ k l h. grind (arith, common_steps)) in
+    c.first_char.ensures ∙ ap some_char (start_found c.requires.utf8 c.requires.boundary j within found all)

@@ -1,38 +1,25 @@
-use mathlib.Core.Path.{refl, sym, ◌∙◌}
-use native.Mathlib.Omega.{arith}
+-- `utf8::white_space::is_white_space` meets its contract: the table is the ranges spelt out, and no range reaches into the gaps.
+use Rattle.std.specs.Prelude.{◌≡◌, eqb}
+use Rattle.std.specs.List.{list_any}
+use Rattle.std.proofs.Common.{arith, sym, ◌∙◌}
 use Rattle.utf8.specs.WhiteSpace.{white_space}
-use Rattle.utf8.proofs.Search.{find_here, find_on, find_none, spelt, white_space_found, none_between, blank_is, none_between_wide, none_past}
+use Rattle.utf8.proofs.WhiteSpace.{spelt, white_space_found, blank_is, none_between, none_between_wide, none_past}
 use Rattle.utf8.proofs.white_space.is_white_space.Goals as goal
 
-pub returns-then-code-lt-NEXT_LINE : goal.returns-then-code-lt-NEXT_LINE
-returns-then-code-lt-NEXT_LINE c = sym (none_between c.args.code c.if-code-gt-BLANK.true c.if-code-lt-NEXT_LINE.true)
+pub returns-in-32 : goal.returns-in-32
+returns-in-32 c = sym (blank_is c.args.code c.in-32.is)
 
-pub returns-then-code-eq-BLANK : goal.returns-then-code-eq-BLANK
-returns-then-code-eq-BLANK c = sym (blank_is c.args.code c.if-code-eq-BLANK.true)
+pub returns-then-code-lt133 : goal.returns-then-code-lt133
+returns-then-code-lt133 c = sym (none_between c.args.code (omega arith) (omega arith))
 
-pub returns-then-code-gt-IDEOGRAPHIC_SPACE : goal.returns-then-code-gt-IDEOGRAPHIC_SPACE
-returns-then-code-gt-IDEOGRAPHIC_SPACE c = sym (none_past c.args.code c.if-code-gt-IDEOGRAPHIC_SPACE.true)
+pub returns-in-161-to-5759 : goal.returns-in-161-to-5759
+returns-in-161-to-5759 c = sym (none_between_wide c.args.code (omega arith) (omega arith))
 
-pub returns-then-code-lt-OGHAM_SPACE_MARK : goal.returns-then-code-lt-OGHAM_SPACE_MARK
-returns-then-code-lt-OGHAM_SPACE_MARK c = sym (none_between_wide c.args.code c.if-code-gt-NO_BREAK_SPACE.true c.if-code-lt-OGHAM_SPACE_MARK.true)
+pub returns-in-161-to-5759-2 : goal.returns-in-161-to-5759-2
+returns-in-161-to-5759-2 c = sym (none_past c.args.code (omega arith))
 
-pub loop-i-init : goal.loop-i-init
-loop-i-init c = (omega arith, refl)
-
-pub returns-then-code-entry : goal.returns-then-code-entry
+pub returns-in_default : goal.returns-in_default
 unfolding white_space
-returns-then-code-entry c = sym (find_here (spelt white_space) c.loop-i.i c.args.code (omega arith) c.if-code-entry.true) ∙ c.loop-i.invariant.1 ∙ white_space_found c.args.code
-
-pub overflow_add-i : goal.overflow_add-i
-overflow_add-i c = omega arith
-
-pub loop-i-smaller : goal.loop-i-smaller
-loop-i-smaller c = omega arith
-
-pub loop-i-preserved : goal.loop-i-preserved
-unfolding white_space
-loop-i-preserved c = (omega arith, sym (find_on (spelt white_space) c.loop-i.i c.args.code (omega arith) c.if-code-entry.false) ∙ c.loop-i.invariant.1)
-
-pub returns : goal.returns
-unfolding white_space
-returns c = sym (find_none (spelt white_space) c.loop-i.i c.args.code (omega arith)) ∙ c.loop-i.invariant.1 ∙ white_space_found c.args.code
+returns-in_default c =
+    let found : c.contains.result ≡ list_any (λ w. eqb w c.args.code) (spelt white_space) = c.contains.ensures.value in
+    found ∙ white_space_found c.args.code

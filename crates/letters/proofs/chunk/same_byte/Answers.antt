@@ -1,9 +1,0 @@
--- `letters::chunk::same_byte` meets its contract.
-use borrow.Author.Tests.{eq-eqb, ne_eqb}
-use Rattle.letters.proofs.chunk.same_byte.Goals as goal
-
-pub returns-then-a-b : goal.returns-then-a-b
-returns-then-a-b c = rw (eq-eqb c.args.a c.args.b c.if-a-b.true)
-
-pub returns-else-a-b : goal.returns-else-a-b
-returns-else-a-b c = rw (ne_eqb c.args.a c.args.b c.if-a-b.false)
