@@ -1,5 +1,5 @@
 -- An admitted text is within the limit, UTF-8, and ASCII where the answer says so.
-use Rattle.std.specs.Prelude.{◌≡◌, refl, Bool, true, false, ◌&&◌, ◌||◌, cond, List, ℕ, length}
+use Rattle.std.specs.Prelude.{◌≡◌, refl, Bool, true, false, ◌&&◌, ◌||◌, cond, List, ℕ, length, Ok, Err}
 use Rattle.std.proofs.Common.{ltb-false}
 use Rattle.utf8.specs.Utf8.{is_ascii}
 use Rattle.utf8.specs.Characters.{is_utf8}
@@ -7,7 +7,7 @@ use Rattle.utf8.proofs.Utf8Laws.{utf8_sound}
 use Rattle.utf8.specs.Tests.{and_left, and_right}
 use Rattle.text.specs.Admission.{text_limit, is_too_long, admission, admission_of_both}
 use Rattle.text.specs.Admitted.{AdmittedText}
-use Rattle.text.specs.declared.admission.Admission.TheVariants.{Admitted, TooLong, NotUtf8}
+use Rattle.text.specs.declared.admission.TextError.TheVariants.{TooLong, NotUtf8}
 
 -- the tests that lead to an admission
 record Passed (l u a x : Bool) : Type 0 where
@@ -15,7 +15,7 @@ record Passed (l u a x : Bool) : Type 0 where
   whole : u ≡ true
   told : x ≡ a
 
-passed : (l u a x : Bool) → cond l TooLong (cond u (Admitted a) NotUtf8) ≡ Admitted x → Passed l u a x
+passed : (l u a x : Bool) → cond l (Err TooLong) (cond u (Ok a) (Err NotUtf8)) ≡ Ok x → Passed l u a x
 passed true u a x e = record { short = cc; whole = cc; told = cc }
 passed false true a x e = record { short = refl; whole = refl; told = cc }
 passed false false a x e = record { short = refl; whole = cc; told = cc }
@@ -31,7 +31,7 @@ or_right : (a b : Bool) → a || b ≡ false → b ≡ false
 or_right true b e = cc
 or_right false b e = e
 
-module _ (s : List ℕ) (x : Bool) (e : admission s ≡ Admitted x) where
+module _ (s : List ℕ) (x : Bool) (e : admission s ≡ Ok x) where
   tests : Passed (is_too_long s) (is_utf8 s) (is_ascii s) x
   unfolding admission
   tests = passed (is_too_long s) (is_utf8 s) (is_ascii s) x e
@@ -42,7 +42,7 @@ module _ (s : List ℕ) (x : Bool) (e : admission s ≡ Admitted x) where
   pub admitted_ascii : x ≡ is_ascii s
   admitted_ascii = tests.told
 
-module _ (s v : List ℕ) (x : Bool) (e : admission_of_both s v ≡ Admitted x) where
+module _ (s v : List ℕ) (x : Bool) (e : admission_of_both s v ≡ Ok x) where
   both_tests : Passed (is_too_long s || is_too_long v) (is_utf8 s && is_utf8 v) (is_ascii s) x
   unfolding admission_of_both
   both_tests = passed (is_too_long s || is_too_long v) (is_utf8 s && is_utf8 v) (is_ascii s) x e

@@ -126,6 +126,7 @@ stands_next {s} {k} {i} u h l =
 
 -- where a character was passed, it is the one that ends here
 pub record StepsBack (s : List ℕ) (k i : ℕ) : Type 0 where
+  pub some : 0 < (last_char (take i s)).len
   pub fits : (last_char (take i s)).len ≤ i
   pub stands : Stands s (k - 1) (i - (last_char (take i s)).len)
 
@@ -149,7 +150,8 @@ stands_previous {s} {k} {i} u h l = go k h l
         let p = h.placed in
         let m = h.counted in
         let d : suc k - 1 ≡ k = omega arith in
-        record { fits = omega arith; stands = rw d (record { counted = omega arith; placed = omega arith }) }
+        let bytes = encode_some (get_or (codes s) k 0) (scalar_at_lem (codes s) k (codes_scalars u) h.counted) in
+        record { some = omega arith; fits = omega arith; stands = rw d (record { counted = omega arith; placed = omega arith }) }
 
 -- what stands is the cursor at its own index
 pub stands_cursor : {s : List ℕ} {k i : ℕ} → Stands s k i → record { chars = k; offset = i } ≡ cursor_at s k

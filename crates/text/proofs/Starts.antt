@@ -3,7 +3,7 @@ use mathlib.Core.Path.{◌≡◌, refl, sym, ◌∙◌, ap}
 use mathlib.Core.Bool.{Bool, true, false, not}
 use mathlib.Core.List.{List, [], ◌∷◌, ◌++◌}
 use Prim.Native.Nat.{ℕ, zero, suc, ◌+◌, ◌≤◌, ◌<◌}
-use native.Mathlib.Nat.{suc-add, zero-add}
+use native.Mathlib.Nat.{suc-add, zero-add, add-zero}
 use native.Mathlib.Numerals.{add-one}
 use native.Mathlib.Decide.{dec_lt}
 use native.Mathlib.Omega.{arith}
@@ -52,6 +52,13 @@ goes_on s i h e = go (dec_lt i (length s))
     go : Dec (i < length s) → (i < length s) × (starts (take (i + 1) s) ≡ starts (take i s))
     go (yes l) = (l, (let n = starts_next s i l in let z : begun (get_or s i 0) ≡ 0 = rw e in omega arith))
     go (no l) = absurd (clash (sym (rw (get_or-eq_default s 0 {n = i} (omega arith)) at e)))
+
+-- as do n bytes
+pub all_go_on : (s : List ℕ) (i n : ℕ) → i + n ≤ length s → ((k : ℕ) → k < n → is_continuation (get_or s (i + k) 0) ≡ true) → starts (take (i + n) s) ≡ starts (take i s)
+all_go_on s i zero h all = ap (λ (k : ℕ). starts (take k s)) (add-zero i)
+all_go_on s i (suc n) h all =
+    let e : i + suc n ≡ i + n + 1 = omega arith in
+    ap (λ (k : ℕ). starts (take k s)) e ∙ (goes_on s (i + n) (omega arith) (all n (omega arith))).1 ∙ all_go_on s i n (omega arith) (λ k l. all k (omega arith))
 
 -- n bytes more
 pub starts_part : (s : List ℕ) (i n : ℕ) → starts (take (i + n) s) ≡ starts (take i s) + starts (take n (drop i s))

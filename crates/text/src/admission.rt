@@ -1,54 +1,76 @@
 // What every public call tests first: the sizes, then UTF-8. (01: rows 1 and 2 of the table; R1, R2, RO.)
-ghost use Rattle.std.specs.Prelude.{◌≡◌};
-ghost use Rattle.text.specs.Admission.{admission, admission_of_both};
+ghost use Rattle.std.specs.Prelude.{◌≡◌, ◌≤◌, true, length, IfOk, IfErr, Ok, Err};
+ghost use Rattle.utf8.specs.Utf8.{is_ascii};
+ghost use Rattle.utf8.specs.Characters.{is_utf8};
+ghost use Rattle.text.specs.Admission.{text_limit, admission, admission_of_both};
 
 use utf8::utf8::{is_ascii, is_utf8};
 
 // The most bytes of a text, and of the value of a call on one scalar.
 pub const TEXT_LIMIT: usize = 1_048_576;
 
-#[derive(Clone, Copy)]
-pub enum Admission {
-    // A text to go on with.
-    Admitted { ascii: bool },
+// Why a text is not admitted.
+#[derive(Clone, Copy, Debug, PartialEq, Eq)]
+pub enum TextError {
     // Number 1.
     TooLong,
     // Number 2.
     NotUtf8,
 }
 
-// Whether a text is admitted.
-pub fn admit_text(text: &[u8]) -> Admission
-    ensures { result ≡ admission text.now }
-{
-    if TEXT_LIMIT < text.len() {
-        return Admission::TooLong;
-    }
-    if is_ascii(text) {
-        return Admission::Admitted { ascii: true };
-    }
-    if is_utf8(text) {
-        return Admission::Admitted { ascii: false };
-    }
-    Admission::NotUtf8
+// Bytes that are admitted: within the limit, and UTF-8.
+#[derive(Clone, Copy)]
+pub struct Admitted<'a> {
+    pub bytes: &'a [u8],
+    ghost within: { length bytes.now ≤ text_limit },
+    ghost utf8: { is_utf8 bytes.now ≡ true },
 }
 
-// Whether a text and a value, as a call on one scalar has them, are admitted.
-pub fn admit_text_and_value(text: &[u8], value: &[u8]) -> Admission
-    ensures { result ≡ admission_of_both text.now value.now }
+// An admitted text, and whether it is ASCII: marker offsets go by that.
+#[derive(Clone, Copy)]
+pub struct Text<'a> {
+    pub content: Admitted<'a>,
+    pub ascii: bool,
+    ghost ascii_value: { ascii ≡ is_ascii content.bytes.now },
+}
+
+// The text of these bytes, if they are admitted.
+pub fn admit_text(bytes: &[u8]) -> Result<Text<'_>, TextError>
+    ensures admitted { IfOk result (λ t. (admission bytes.now ≡ Ok t.ascii) × (t.content.bytes.now ≡ bytes.now)) }
+    ensures refused { IfErr result (λ e. admission bytes.now ≡ Err e) }
+{
+    if TEXT_LIMIT < bytes.len() {
+        return Err(TextError::TooLong);
+    }
+    if is_ascii(bytes) {
+        return Ok(Text {
+            content: Admitted { bytes },
+            ascii: true,
+        });
+    }
+    if is_utf8(bytes) {
+        return Ok(Text {
+            content: Admitted { bytes },
+            ascii: false,
+        });
+    }
+    Err(TextError::NotUtf8)
+}
+
+// The same of a text and a value, as a call on one scalar has them.
+pub fn admit_text_and_value<'a, 'b>(
+    text: &'a [u8],
+    value: &'b [u8],
+) -> Result<(Text<'a>, Admitted<'b>), TextError>
+    ensures admitted { IfOk result (λ t. (admission_of_both text.now value.now ≡ Ok t.0.ascii) × (t.0.content.bytes.now ≡ text.now) × (t.1.bytes.now ≡ value.now)) }
+    ensures refused { IfErr result (λ e. admission_of_both text.now value.now ≡ Err e) }
 {
     if TEXT_LIMIT < value.len() {
-        return Admission::TooLong;
+        return Err(TextError::TooLong);
     }
-    let of_text = admit_text(text);
-    match of_text {
-        Admission::Admitted { ascii } => {
-            if is_utf8(value) {
-                return Admission::Admitted { ascii };
-            }
-            Admission::NotUtf8
-        }
-        Admission::TooLong => Admission::TooLong,
-        Admission::NotUtf8 => Admission::NotUtf8,
+    let text = admit_text(text)?;
+    if is_utf8(value) {
+        return Ok((text, Admitted { bytes: value }));
     }
+    Err(TextError::NotUtf8)
 }

@@ -1,12 +1,13 @@
 // Marker offsets: from a character index to a byte offset. (01: `byte_offset_of_char`; P1, K1.)
 ghost use Rattle.std.specs.Prelude.{◌≡◌, ◌≤◌, length, take};
-ghost use Rattle.utf8.specs.Utf8.{Utf8, is_ascii};
+ghost use Rattle.utf8.specs.Characters.{codes};
 ghost use Rattle.utf8.specs.Boundary.{Boundary};
-ghost use Rattle.text.specs.Offset.{cursor_at, Stands};
+ghost use Rattle.text.specs.Offset.{byte_offset, cursor_at, Stands};
 ghost use Rattle.text.specs.Starts;
 
+use crate::admission::Text;
 use utf8::class::is_continuation;
-use utf8::utf8::{byte_at, char_len, last_char};
+use utf8::utf8::{char_len, last_char};
 
 // How many characters lie before a place of the text, and the place's byte offset.
 #[derive(Clone, Copy)]
@@ -28,7 +29,7 @@ const CHUNK: usize = 32;
 fn begun(b: u8) -> u8
     ensures { result ≡ Starts.begun b }
 {
-    if is_continuation(b) { 0 } else { 1 }
+    u8::from(!is_continuation(b))
 }
 
 // How many characters begin among the bytes. No byte ends the loop, so that the compiler takes many at once.
@@ -37,10 +38,8 @@ fn starts(s: &[u8]) -> u8
     ensures { result ≡ Starts.starts s.now }
 {
     let mut n = 0;
-    let mut i = 0;
-    while i < s.len() {
-        n += begun(s[i]);
-        i += 1;
+    for &b in s {
+        n += begun(b);
     }
     n
 }
@@ -50,119 +49,117 @@ fn next_boundary(s: &[u8], i: usize) -> usize
     requires { i ≤ length s.now }
     ensures { Boundary s.now result × (Starts.starts (take result s.now) ≡ Starts.starts (take i s.now)) }
 {
-    let mut end = i;
-    while is_continuation(byte_at(s, end)) {
-        end += 1;
+    match s[i..].iter().position(|&b| !is_continuation(b)) {
+        Some(more) => i + more,
+        None => s.len(),
     }
-    end
 }
 
-// The cursor moved on over whole chunks, as long as they end before the character index `target`.
-fn over_chunks(text: &[u8], cursor: Cursor, target: usize) -> Cursor
-    requires utf8 { Utf8 text.now }
-    requires stands { Stands text.now cursor.chars cursor.offset }
-    requires chars_le_target { cursor.chars ≤ target }
-    ensures { Stands text.now result.chars result.offset × (result.chars ≤ target) }
-{
-    let mut chars = cursor.chars;
-    let mut offset = cursor.offset;
-    while CHUNK <= target - chars {
-        if text.len() - offset < CHUNK {
-            break;
+// A cursor that stands in its text.
+#[derive(Clone, Copy)]
+struct Place<'a> {
+    text: Text<'a>,
+    cursor: Cursor,
+    ghost counted: { cursor.chars ≤ length (codes text.content.bytes.now) },
+    ghost placed: { cursor.offset ≡ byte_offset text.content.bytes.now cursor.chars },
+}
+
+impl Place<'_> {
+    // Moved on over whole chunks, as long as they end before the character index `target`.
+    fn over_chunks(self, target: usize) -> Cursor
+        requires { self.cursor.chars ≤ target }
+        ensures { Stands self.entry.text.content.bytes.now result.chars result.offset × (result.chars ≤ target) }
+    {
+        let text = self.text.content.bytes;
+        let mut chars = self.cursor.chars;
+        let mut offset = self.cursor.offset;
+        let mut rest = &text[offset..];
+        while let Some((chunk, after)) = rest.split_at_checked(CHUNK) {
+            if target - chars < CHUNK {
+                break;
+            }
+            chars += starts(chunk) as usize;
+            offset += CHUNK;
+            rest = after;
         }
-        let end = offset + CHUNK;
-        chars += starts(&text[offset..end]) as usize;
-        offset = end;
-    }
-    let offset = next_boundary(text, offset);
-    Cursor { chars, offset }
-}
-
-// The cursor moved on to the character index `target`, or to the text's end where that comes first.
-fn forward(text: &[u8], cursor: Cursor, target: usize) -> Cursor
-    requires utf8 { Utf8 text.now }
-    requires stands { Stands text.now cursor.chars cursor.offset }
-    requires chars_le_target { cursor.chars ≤ target }
-    ensures { result ≡ cursor_at text.now target }
-{
-    let near = over_chunks(text, cursor, target);
-    let mut chars = near.chars;
-    let mut offset = near.offset;
-    while chars < target {
-        if text.len() <= offset {
-            return Cursor { chars, offset };
+        Cursor {
+            chars,
+            offset: next_boundary(text, offset),
         }
-        offset += char_len(text, offset);
-        chars += 1;
     }
-    Cursor { chars, offset }
-}
 
-// The cursor moved back to the character index `target`.
-fn backward(text: &[u8], cursor: Cursor, target: usize) -> Cursor
-    requires utf8 { Utf8 text.now }
-    requires stands { Stands text.now cursor.chars cursor.offset }
-    requires target_le_chars { target ≤ cursor.chars }
-    ensures { result ≡ cursor_at text.now target }
-{
-    let mut chars = cursor.chars;
-    let mut offset = cursor.offset;
-    while target < chars {
-        let c = last_char(text, offset);
-        offset -= c.len;
-        chars -= 1;
+    // Moved on to the character index `target`, or to the text's end where that comes first.
+    fn forward(self, target: usize) -> Cursor
+        requires { self.cursor.chars ≤ target }
+        ensures { result ≡ cursor_at self.entry.text.content.bytes.now target }
+    {
+        let text = self.text.content.bytes;
+        let near = self.over_chunks(target);
+        let mut offset = near.offset;
+        for chars in near.chars..target {
+            if text.len() <= offset {
+                return Cursor { chars, offset };
+            }
+            offset += char_len(text, offset);
+        }
+        Cursor {
+            chars: target,
+            offset,
+        }
     }
-    Cursor { chars, offset }
-}
 
-// The cursor at the character index `target`, or at the text's end where that comes first, from wherever it stood. It moves by chunks and
-// then by one character a step; an ASCII text needs no step.
-fn moved_to(text: &[u8], ascii: bool, cursor: Cursor, target: usize) -> Cursor
-    requires utf8 { Utf8 text.now }
-    requires ascii_value { ascii ≡ is_ascii text.now }
-    requires stands { Stands text.now cursor.chars cursor.offset }
-    ensures { result ≡ cursor_at text.now target }
-{
-    if ascii {
-        if target < text.len() {
+    // Moved back to the character index `target`.
+    fn backward(self, target: usize) -> Cursor
+        requires { target ≤ self.cursor.chars }
+        ensures { result ≡ cursor_at self.entry.text.content.bytes.now target }
+    {
+        let text = self.text.content.bytes;
+        let mut offset = self.cursor.offset;
+        for _ in target..self.cursor.chars {
+            offset -= last_char(text, offset).unwrap().len;
+        }
+        Cursor {
+            chars: target,
+            offset,
+        }
+    }
+
+    // At the character index `target`, or at the text's end where that comes first. It moves by chunks and then by one character a step;
+    // an ASCII text needs no step.
+    fn moved_to(self, target: usize) -> Cursor
+        ensures { result ≡ cursor_at self.entry.text.content.bytes.now target }
+    {
+        if self.text.ascii {
+            let place = target.min(self.text.content.bytes.len());
             return Cursor {
-                chars: target,
-                offset: target,
+                chars: place,
+                offset: place,
             };
         }
-        return Cursor {
-            chars: text.len(),
-            offset: text.len(),
-        };
+        if self.cursor.chars < target {
+            return self.forward(target);
+        }
+        self.backward(target)
     }
-    if cursor.chars < target {
-        return forward(text, cursor, target);
-    }
-    backward(text, cursor, target)
-}
 
-// Moves the cursor that is lent to the character index `target`, or to the text's end where that comes first, and gives the byte
-// offset there. (01: Forms that stand in the way, the cursor.)
-fn move_cursor(cursor: &mut Cursor, text: &[u8], ascii: bool, target: usize) -> usize
-    requires utf8 { Utf8 text.now }
-    requires ascii_value { ascii ≡ is_ascii text.now }
-    requires stands { Stands text.now cursor.old.chars cursor.old.offset }
-    ensures { (cursor.new ≡ cursor_at text.now target)
-        × (result ≡ (cursor_at text.now target).offset) }
-{
-    *cursor = moved_to(text, ascii, *cursor, target);
-    cursor.offset
+    // Moves the cursor to the character index `target`, or to the text's end where that comes first, and gives the byte offset there.
+    // (01: Forms that stand in the way, the cursor.)
+    fn move_to(&mut self, target: usize) -> usize
+        ensures { (self.new.cursor ≡ cursor_at self.old.text.content.bytes.now target)
+            × (result ≡ (cursor_at self.old.text.content.bytes.now target).offset) }
+    {
+        self.cursor = self.moved_to(target);
+        self.cursor.offset
+    }
 }
 
 // The cursor at the character index `target`, or at the text's end where that comes first, from wherever it stood: it is lent to
-// `move_cursor` and handed back. A caller has no reference to a struct, so its proof needs no walk.
-pub fn byte_offset_of_char(text: &[u8], ascii: bool, cursor: Cursor, target: usize) -> Cursor
-    requires utf8 { Utf8 text.now }
-    requires ascii_value { ascii ≡ is_ascii text.now }
-    requires stands { Stands text.now cursor.chars cursor.offset }
-    ensures { result ≡ cursor_at text.now target }
+// `move_to` and handed back.
+pub fn byte_offset_of_char(text: Text<'_>, cursor: Cursor, target: usize) -> Cursor
+    requires { Stands text.content.bytes.now cursor.chars cursor.offset }
+    ensures { result ≡ cursor_at text.entry.content.bytes.now target }
 {
-    let mut lent = cursor;
-    move_cursor(&mut lent, text, ascii, target);
-    lent
+    let mut place = Place { text, cursor };
+    place.move_to(target);
+    place.cursor
 }

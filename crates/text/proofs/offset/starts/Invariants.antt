@@ -1,13 +1,7 @@
--- `text::offset::starts` meets its contract. The loop's invariant: `n` characters begin among the bytes passed. The measure is what is
--- left.
-use mathlib.Core.Path.{◌≡◌}
-use Prim.Native.Nat.{◌-◌, ◌≤◌}
-use lib.ListN.{length, take}
+-- `text::offset::starts` meets its contract. The loop's invariant: `n` characters begin among the bytes passed.
+use Rattle.std.proofs.Common.{◌≡◌, take}
 use Rattle.text.specs.Starts.{starts}
 use Rattle.text.proofs.offset.starts.Given as goal
 
-abbrev pub invariant-loop-i : goal.invariant-loop-i
-invariant-loop-i l = (l.i ≤ length l.s) × (l.n ≡ starts (take l.i l.s))
-
-abbrev pub decreases-loop-i : goal.decreases-loop-i
-decreases-loop-i l = length l.s - l.i
+abbrev pub invariant-loop-b : goal.invariant-loop-b
+invariant-loop-b l = l.n ≡ starts (take l.b-index l.s)

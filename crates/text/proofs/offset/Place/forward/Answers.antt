@@ -1,0 +1,32 @@
+use Rattle.std.proofs.Common.{◌≡◌, arith, subst, ℕ}
+use Rattle.utf8.proofs.Utf8Laws.{utf8_sound, char_room}
+use Rattle.text.specs.Offset.{Stands}
+use Rattle.text.proofs.OffsetLaws.{stands_boundary, stands_next, stands_cursor, stands_end}
+use Rattle.text.proofs.offset.Place.forward.Goals as goal
+
+pub returns-then-text-offset : goal.returns-then-text-offset
+returns-then-text-offset c = stands_end (utf8_sound _ c.args.self.text.content.utf8) c.loop-chars.invariant.0 c.if-text-offset.true c.args.target c.loop-chars.invariant.1
+
+pub char_len-offset-requires-clause-utf8 : goal.char_len-offset-requires-clause-utf8
+char_len-offset-requires-clause-utf8 c = utf8_sound _ c.args.self.text.content.utf8
+
+pub char_len-offset-requires-clause-boundary : goal.char_len-offset-requires-clause-boundary
+char_len-offset-requires-clause-boundary c = stands_boundary (utf8_sound _ c.args.self.text.content.utf8) c.loop-chars.invariant.0
+
+pub overflow_add-offset : goal.overflow_add-offset
+overflow_add-offset c =
+    let room = char_room c.args.self.text.content.bytes.now c.loop-chars.offset c.if-text-offset.false in
+    let len = c.char_len-offset.ensures in
+    omega arith
+
+pub loop-chars-preserved : goal.loop-chars-preserved
+loop-chars-preserved c =
+    let t = c.loop-chars-test.true in
+    (rw c.char_len-offset.ensures (stands_next (utf8_sound _ c.args.self.text.content.utf8) c.loop-chars.invariant.0 c.if-text-offset.false), omega arith)
+
+pub returns : goal.returns
+returns c =
+    let t = c.loop-chars-test.false in
+    let m = c.loop-chars.invariant.1 in
+    let e : c.loop-chars.chars ≡ c.args.target = omega arith in
+    stands_cursor (subst (λ (k : ℕ). Stands c.args.self.text.content.bytes.now k c.loop-chars.offset) e c.loop-chars.invariant.0)

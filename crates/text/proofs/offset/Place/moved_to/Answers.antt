@@ -1,0 +1,9 @@
+-- `text::offset::Place::moved_to` meets its contract: in ASCII an index is its own offset, else the cursor moves there.
+use Rattle.std.proofs.Common.{sym, ◌∙◌}
+use Rattle.text.proofs.OffsetLaws.{ascii_cursor}
+use Rattle.text.proofs.offset.Place.moved_to.Goals as goal
+
+pub returns-then-self : goal.returns-then-self
+returns-then-self c =
+    let s = c.args.self.text.content.bytes.now in
+    sym (ascii_cursor s c.args.target (sym c.args.self.text.ascii_value ∙ c.if-self.true) ∙ rw (sym c.min-place.ensures))
