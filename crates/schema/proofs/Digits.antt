@@ -1,14 +1,20 @@
 -- Digit runs, a byte at a time from a place of a list.
-use mathlib.Core.Path.{◌≡◌, refl, ap, subst}
+use mathlib.Core.Path.{◌≡◌, refl, sym, ◌∙◌, ap, subst}
+use mathlib.Core.Bool.{Bool, true, false, ◌&&◌, and-true}
 use mathlib.Core.List.{List, [], ◌∷◌, ◌++◌}
-use Prim.Native.Nat.{ℕ, ◌+◌, ◌*◌, ◌-◌, ◌≤◌, ◌<◌}
+use Prim.Native.Nat.{ℕ, ◌+◌, ◌*◌, ◌≤◌, ◌<◌}
 use native.Mathlib.Nat.{le_trans, mul-le-mul_left, le-add_right, mul-one}
 use native.Mathlib.Numerals.{add-one}
 use native.Mathlib.Omega.{arith}
-use borrow.Author.Tests.{le-leb, lt-leb, eq-eqb, ne_eqb}
+use borrow.Author.Tests.{eqb-true}
+use denote.Bor.{Bor}
+use lib.Dec.{eqb}
+use lib.Pointwise.{pointwise}
 use lib.IntN.{pos, neg_ℤ}
-use lib.ListN.{length, drop, get_or, drop_of_length-le}
+use lib.ListN.{length, take, drop, get_or, drop_of_length-le}
+use Rattle.std.specs.Prelude.{Option, Some, None, MatchOption, unwrap_or}
 use lib.Seq.{drop-cons}
+use Rattle.utf8.specs.Tests.{clash, and_left}
 use Rattle.schema.specs.Integer.{digit_value, positional, value_of, signed_value}
 
 -- a digit more
@@ -39,59 +45,37 @@ beyond base p m s i whole limit h e l =
     let up = grows base p (drop (i + 1) s) (m * base + digit_value (get_or s i 0)) in
     omega (arith, step, up, e, l)
 
--- ---- the value of a digit, by the ranges of bytes
-module _ (b : ℕ) where
-  pub decimal_digit : 48 ≤ b → b ≤ 57 → b - 48 ≡ digit_value b
-  unfolding digit_value
-  decimal_digit l h = rw (le-leb 48 b l, le-leb b 57 h)
-
-  pub upper_digit : 65 ≤ b → b ≤ 70 → b - 65 + 10 ≡ digit_value b
-  unfolding digit_value
-  upper_digit l h = rw (le-leb 48 b (omega arith), lt-leb b 57 (omega arith), le-leb 65 b l, le-leb b 70 h)
-
-  pub lower_digit : 97 ≤ b → b ≤ 102 → b - 97 + 10 ≡ digit_value b
-  unfolding digit_value
-  lower_digit l h =
-      rw (le-leb 48 b (omega arith), lt-leb b 57 (omega arith), le-leb 65 b (omega arith), lt-leb b 70 (omega arith), le-leb 97 b l, le-leb b 102 h)
-
-  pub before_digits : b < 48 → 0 ≡ digit_value b
-  unfolding digit_value
-  before_digits h = rw (lt-leb 48 b h, lt-leb 65 b (omega arith), lt-leb 97 b (omega arith))
-
-  pub before_upper : 57 < b → b < 65 → 0 ≡ digit_value b
-  unfolding digit_value
-  before_upper l h = rw (le-leb 48 b (omega arith), lt-leb b 57 l, lt-leb 65 b h, lt-leb 97 b (omega arith))
-
-  pub before_lower : 70 < b → b < 97 → 0 ≡ digit_value b
-  unfolding digit_value
-  before_lower l h =
-      rw (le-leb 48 b (omega arith), lt-leb b 57 (omega arith), le-leb 65 b (omega arith), lt-leb b 70 l, lt-leb 97 b h)
-
-  pub past_lower : 102 < b → 0 ≡ digit_value b
-  unfolding digit_value
-  past_lower h =
-      rw (le-leb 48 b (omega arith), lt-leb b 57 (omega arith), le-leb 65 b (omega arith), lt-leb b 70 (omega arith), le-leb 97 b (omega arith), lt-leb b 102 h)
-
 -- ---- a sign, or none
-pub no_digits : (s : List ℕ) → length s ≡ 0 → pos (value_of 10 (drop 0 s)) ≡ signed_value s
+abbrev pub begins : ℕ → List ℕ → Bool
+begins b s = pointwise eqb (take 1 s) (b ∷ [])
+
+-- what follows the byte b, if the list begins with it
+abbrev pub Stripped : ℕ → List ℕ → Option (Bor (List ℕ)) → Type 0
+Stripped b s r =
+    MatchOption r (begins b s ≡ false) (λ x. (begins b s ≡ true) × (x.now ≡ drop 1 s) × (length x.now + 1 ≡ length s))
+
+pub after_minus : (s digits : List ℕ) → begins 45 s ≡ true → digits ≡ drop 1 s → neg_ℤ (pos (value_of 10 digits)) ≡ signed_value s
+unfolding signed_value
+after_minus [] digits h e = absurd (clash (sym h))
+after_minus (b ∷ s) digits h e = rw (e, and_left (eqb b 45) true h)
+
+after_plus : (s digits : List ℕ) → begins 43 s ≡ true → digits ≡ drop 1 s → pos (value_of 10 digits) ≡ signed_value s
+unfolding signed_value
+after_plus [] digits h e = absurd (clash (sym h))
+after_plus (b ∷ s) digits h e = let k : b ≡ 43 = eqb-true b 43 (and_left (eqb b 43) true h) in rw (e, k)
+
+no_sign : (s : List ℕ) → begins 45 s ≡ false → begins 43 s ≡ false → pos (value_of 10 s) ≡ signed_value s
 unfolding signed_value positional
-no_digits [] e = refl
-no_digits (b ∷ s) e = absurd (omega arith)
+no_sign [] h k = refl
+no_sign (b ∷ s) h k = rw (first h, first k)
+  where
+    first : {a : Bool} → a && true ≡ false → a ≡ false
+    first {a} e = sym (and-true a) ∙ e
 
-pub after_minus : (s : List ℕ) → (length s ≡ 0 → ⊥) → get_or s 0 0 ≡ 45 → neg_ℤ (pos (value_of 10 (drop 1 s))) ≡ signed_value s
-unfolding signed_value
-after_minus [] h e = absurd (h refl)
-after_minus (b ∷ s) h e = rw (eq-eqb b 45 e)
-
-pub after_plus : (s : List ℕ) → (length s ≡ 0 → ⊥) → (get_or s 0 0 ≡ 45 → ⊥) → get_or s 0 0 ≡ 43 → pos (value_of 10 (drop 1 s)) ≡ signed_value s
-unfolding signed_value
-after_plus [] h n e = absurd (h refl)
-after_plus (b ∷ s) h n e = rw (ne_eqb b 45 n, eq-eqb b 43 e)
-
-pub no_sign : (s : List ℕ) → (length s ≡ 0 → ⊥) → (get_or s 0 0 ≡ 45 → ⊥) → (get_or s 0 0 ≡ 43 → ⊥) → pos (value_of 10 (drop 0 s)) ≡ signed_value s
-unfolding signed_value
-no_sign [] h n e = absurd (h refl)
-no_sign (b ∷ s) h n e = rw (ne_eqb b 45 n, ne_eqb b 43 e)
+pub no_minus : (v digits : Bor (List ℕ)) (r : Option (Bor (List ℕ))) → begins 45 v.now ≡ false → Stripped 43 v.now r → digits ≡ unwrap_or r v
+    → pos (value_of 10 digits.now) ≡ signed_value v.now
+no_minus v digits (Some x) h p e = after_plus v.now digits.now p.0 (rw e p.1)
+no_minus v digits None h p e = rw e (no_sign v.now h p)
 
 -- ---- positional: the last digit counts itself, and those before it the base as often
 pub last_digit : (base m : ℕ) (s : List ℕ) (b : ℕ) → positional base m (s ++ (b ∷ [])) ≡ positional base m s * base + digit_value b

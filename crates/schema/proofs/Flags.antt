@@ -4,13 +4,14 @@
 use mathlib.Core.Path.{◌≡◌, refl, sym, ◌∙◌, ap}
 use mathlib.Core.Bool.{Bool, true, false, ◌&&◌, cond}
 use mathlib.Core.List.{List, [], ◌∷◌, ◌++◌, map}
-use Prim.Native.Nat.{ℕ, suc, ◌+◌, ◌≤◌, ◌<◌}
+use Prim.Native.Nat.{ℕ, suc, ◌+◌, ◌<◌}
+use Rattle.std.specs.Prelude.{Some, slice_get}
 use native.Mathlib.Decide.{ℕ_discrete}
 use native.Mathlib.Numerals.{add-one}
 use native.Mathlib.Omega.{arith}
 use borrow.Author.Tests.{eqb-true}
 use lib.Dec.{T, eqb}
-use lib.ListN.{length, drop, get_or, drop_of_length-le}
+use lib.ListN.{length, drop, get_or}
 use lib.Seq.{drop-cons}
 use Rattle.utf8.proofs.Table.{all, all_at}
 use Rattle.utf8.specs.Ascii.{Bytes}
@@ -208,13 +209,14 @@ letters_stop : T (all 256 (λ b. implies (begins_no_row b) (same_rows (awaits de
 unfolding begins_no_row awaits table texts derivative nullable ℕ_discrete
 letters_stop = tt
 
-pub letter_stops : (s : List ℕ) → 0 < length s → Bytes s → begins_no_row (get_or s 0 0) ≡ true → Other ≡ form_of s
+pub letter_stops : (s : List ℕ) (b : ℕ) → Bytes s → slice_get s 0 ≡ Some b → begins_no_row b ≡ true → Other ≡ form_of s
 unfolding flags
-letter_stops s h f e =
-    let b = get_or s 0 0 in
-    let t = is_true (implies (begins_no_row b) _) (all_at 256 (λ b. implies (begins_no_row b) (same_rows (awaits dead_state) (map (derivative b) all_rows))) letters_stop b (f 0)) in
-    let d = same_rows_is (awaits dead_state) (map (derivative b) all_rows) (implied (begins_no_row b) _ t e) in
-    nothing_left (drop 1 s) s (sym (turn all_rows (awaits dead_state) b (drop 1 s) d) ∙ ap (accepted all_rows) (sym (drop-cons s 0 0 h)))
+letter_stops [] b f e h = absurd (cc)
+letter_stops (c ∷ s) b f e h =
+    let k : begins_no_row c ≡ true = cc in
+    let t = is_true (implies (begins_no_row c) _) (all_at 256 (λ b. implies (begins_no_row b) (same_rows (awaits dead_state) (map (derivative b) all_rows))) letters_stop c (f 0)) in
+    let d = same_rows_is (awaits dead_state) (map (derivative c) all_rows) (implied (begins_no_row c) _ t k) in
+    nothing_left s (c ∷ s) (sym (turn all_rows (awaits dead_state) c s d))
 
 -- ---- a turn of the code's loop
 pub turned : (s : List ℕ) (i q p : ℕ) → i < length s → accepted (awaits q) (drop i s) ≡ flags s
@@ -224,6 +226,3 @@ turned s i q p h e d =
     ∙ sym (turn (awaits q) (awaits p) (get_or s i 0) (drop (suc i) s) d)
     ∙ ap (accepted (awaits q)) (sym (drop-cons s i 0 h))
     ∙ e
-
-pub at_end : (s : List ℕ) (i q : ℕ) → length s ≤ i → accepted (awaits q) (drop i s) ≡ flags s → accepted (awaits q) [] ≡ flags s
-at_end s i q h e = ap (accepted (awaits q)) (sym (drop_of_length-le s h)) ∙ e

@@ -5,6 +5,7 @@ use mathlib.Core.Path.{◌≡◌, refl, sym, ◌∙◌, ap}
 use mathlib.Core.Bool.{Bool, true, false, cond}
 use mathlib.Core.List.{List, [], ◌∷◌}
 use Prim.Native.Nat.{ℕ}
+use Rattle.std.specs.Prelude.{ℤ, Option, Some, None}
 use lib.Dec.{eqb}
 use Rattle.utf8.specs.Ascii.{bytes, Bytes, same_bytes}
 use Rattle.schema.specs.Matcher.{nullable, derivative, accepts}
@@ -18,8 +19,9 @@ use Rattle.schema.specs.Kinds.{has_name, rows_of, read_as, integer_read, is_real
 use Rattle.schema.specs.Tag.{fitted, tagged_as}
 use Rattle.schema.specs.declared.form.Form.{Form}
 use Rattle.schema.specs.declared.form.Form.TheVariants.{Null, True, False, Decimal, Octal, Hexadecimal, Float, Other}
-use Rattle.schema.specs.declared.integer.Parsed.{Parsed}
-use Rattle.schema.specs.declared.integer.Parsed.TheVariants.{Value, Nothing}
+use Rattle.schema.specs.Record.{number_of}
+use Rattle.schema.specs.declared.record.Kind.{Kind as RecordKind}
+use Rattle.schema.specs.declared.record.Kind.TheVariants as kind
 use Rattle.schema.specs.declared.plain.Resolved.{Resolved}
 use Rattle.schema.specs.declared.plain.Resolved.TheVariants.{Real, BadValue}
 use Rattle.schema.proofs.Flags.{form_by, form_at, form_by_lem, form_is, InStates, by_states, same_form, same_form_lem}
@@ -170,21 +172,22 @@ unfolding core_real tagged_as read_as table first_match same_bytes
 tagged_float s = fitted-real (accepts number s) (accepts infinity s) (accepts not_a_number s)
 
 -- ---- booleans and nulls: what the schema reads, where it is of the kind
-no_integer_of_kind : (kind : ℕ) (other : Resolved) → eqb 3 kind ≡ false → of_kind other kind ≡ BadValue → (p : Parsed) → of_kind (integer_or p other) kind ≡ BadValue
-no_integer_of_kind kind other n e (Value z) = rw n
-no_integer_of_kind kind other n e Nothing = e
+no_integer_of_kind : (kind : RecordKind) (other : Resolved) → eqb 3 (number_of kind) ≡ false → of_kind other kind ≡ BadValue → (p : Option ℤ)
+    → of_kind (integer_or p other) kind ≡ BadValue
+no_integer_of_kind kind other n e (Some z) = rw n
+no_integer_of_kind kind other n e None = e
 
 bools : Told (bytes "bool") (only 2)
 unfolding form_by table texts derivative nullable same_bytes
 bools = refl
 
-bool_of_kind : (f : Form) (s : List ℕ) → of_kind (limited (meaning_of f s)) 2 ≡ fitted (meaning_of (only 2 f) s)
+bool_of_kind : (f : Form) (s : List ℕ) → of_kind (limited (meaning_of f s)) kind.Boolean ≡ fitted (meaning_of (only 2 f) s)
 bool_of_kind Null s = refl
 bool_of_kind True s = refl
 bool_of_kind False s = refl
-bool_of_kind Decimal s = no_integer_of_kind 2 (beyond ten) refl refl (held (integer_in ten s))
-bool_of_kind Octal s = no_integer_of_kind 2 (beyond eight) refl refl (held (integer_in eight s))
-bool_of_kind Hexadecimal s = no_integer_of_kind 2 (beyond sixteen) refl refl (held (integer_in sixteen s))
+bool_of_kind Decimal s = no_integer_of_kind kind.Boolean (beyond ten) refl refl (held (integer_in ten s))
+bool_of_kind Octal s = no_integer_of_kind kind.Boolean (beyond eight) refl refl (held (integer_in eight s))
+bool_of_kind Hexadecimal s = no_integer_of_kind kind.Boolean (beyond sixteen) refl refl (held (integer_in sixteen s))
 bool_of_kind Float s = refl
 bool_of_kind Other s = refl
 
@@ -192,25 +195,25 @@ nulls : Told (bytes "null") (only 1)
 unfolding form_by table texts derivative nullable same_bytes
 nulls = refl
 
-null_of_kind : (f : Form) (s : List ℕ) → of_kind (limited (meaning_of f s)) 1 ≡ fitted (meaning_of (only 1 f) s)
+null_of_kind : (f : Form) (s : List ℕ) → of_kind (limited (meaning_of f s)) kind.Null ≡ fitted (meaning_of (only 1 f) s)
 null_of_kind Null s = refl
 null_of_kind True s = refl
 null_of_kind False s = refl
-null_of_kind Decimal s = no_integer_of_kind 1 (beyond ten) refl refl (held (integer_in ten s))
-null_of_kind Octal s = no_integer_of_kind 1 (beyond eight) refl refl (held (integer_in eight s))
-null_of_kind Hexadecimal s = no_integer_of_kind 1 (beyond sixteen) refl refl (held (integer_in sixteen s))
+null_of_kind Decimal s = no_integer_of_kind kind.Null (beyond ten) refl refl (held (integer_in ten s))
+null_of_kind Octal s = no_integer_of_kind kind.Null (beyond eight) refl refl (held (integer_in eight s))
+null_of_kind Hexadecimal s = no_integer_of_kind kind.Null (beyond sixteen) refl refl (held (integer_in sixteen s))
 null_of_kind Float s = refl
 null_of_kind Other s = refl
 
 module _ (s : List ℕ) (f : Bytes s) where
-  by_kind : (name : List ℕ) (kind : ℕ) → Told name (only kind)
-      → ((f : Form) → of_kind (limited (meaning_of f s)) kind ≡ fitted (meaning_of (only kind f) s)) → of_kind (core_schema s) kind ≡ tagged_as name s
+  by_kind : (name : List ℕ) (kind : RecordKind) → Told name (only (number_of kind))
+      → ((f : Form) → of_kind (limited (meaning_of f s)) kind ≡ fitted (meaning_of (only (number_of kind) f) s)) → of_kind (core_schema s) kind ≡ tagged_as name s
   unfolding core_schema tagged_as
   by_kind name kind t k =
-      ap (λ (m : Meaning). of_kind (limited m) kind) (standard_by_form s) ∙ k (form_of s) ∙ ap fitted (sym (read_as_lem name (only kind) t s f))
+      ap (λ (m : Meaning). of_kind (limited m) kind) (standard_by_form s) ∙ k (form_of s) ∙ ap fitted (sym (read_as_lem name (only (number_of kind)) t s f))
 
-  pub tagged_bool : of_kind (core_schema s) 2 ≡ tagged_as (bytes "bool") s
-  tagged_bool = by_kind (bytes "bool") 2 bools (λ g. bool_of_kind g s)
+  pub tagged_bool : of_kind (core_schema s) kind.Boolean ≡ tagged_as (bytes "bool") s
+  tagged_bool = by_kind (bytes "bool") kind.Boolean bools (λ g. bool_of_kind g s)
 
-  pub tagged_null : of_kind (core_schema s) 1 ≡ tagged_as (bytes "null") s
-  tagged_null = by_kind (bytes "null") 1 nulls (λ g. null_of_kind g s)
+  pub tagged_null : of_kind (core_schema s) kind.Null ≡ tagged_as (bytes "null") s
+  tagged_null = by_kind (bytes "null") kind.Null nulls (λ g. null_of_kind g s)

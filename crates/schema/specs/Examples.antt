@@ -1,6 +1,6 @@
 -- Worked examples of the definitions, each by computation: K2 to K6 of document 01, those of the standard's section 10.3.2,
 -- the integers beyond 64 signed bits, tags, and record numbers.
-use Rattle.std.specs.Prelude.{ℕ, ◌≡◌, refl, true, false, [], ◌∷◌, map, pos, negsuc}
+use Rattle.std.specs.Prelude.{ℕ, ◌≡◌, refl, true, false, [], ◌∷◌, map, pos, negsuc, Some, None, option_map}
 use Prim.Native.String.{String}
 use Rattle.utf8.specs.Ascii.{bytes, same_bytes}
 use Rattle.schema.specs.Matcher.{nullable, derivative, accepts}
@@ -9,7 +9,8 @@ use Rattle.schema.specs.Standard.{Meaning, integer, standard}
 use Rattle.schema.specs.CoreSchema.{table, first_match, core_schema}
 use Rattle.schema.specs.Kinds.{read_as}
 use Rattle.schema.specs.Tag.{standard_tag_suffix, tagged_as, tagged_schema, untagged, resolve_scalar}
-use Rattle.schema.specs.Record.{kind_number, payload_of, two_numbers}
+use Rattle.schema.specs.Record.{number_of, kind_number, kind_numbered, payload_of, two_numbers}
+use Rattle.schema.specs.declared.record.Kind.TheVariants as kind
 use Rattle.schema.specs.declared.plain.Resolved.{Resolved}
 use Rattle.schema.specs.declared.plain.Resolved.TheVariants.{Null, Boolean, Integer, Real, Str, BadValue}
 
@@ -72,7 +73,7 @@ pub record Beyond : Type 0 where
 
 -- a scalar of a style, with the handle and the suffix of its tag
 abbrev tagged : String → ℕ → String → String → Resolved
-tagged w style handle suffix = resolve_scalar (bytes w) style true (bytes handle) (bytes suffix)
+tagged w style handle suffix = resolve_scalar (bytes w) style (Some (bytes handle, bytes suffix))
 
 pub record Tagged : Type 0 where
   pub int : tagged "5" 0 "tag:yaml.org,2002:" "int" ≡ Integer (pos 5)
@@ -92,6 +93,9 @@ pub record Tagged : Type 0 where
 -- the kinds' numbers, as 01 lists them; the payload numbers of -1, of the lowest integer, and of a string
 pub record Numbers : Type 0 where
   pub kinds : map kind_number (Null ∷ Boolean true ∷ Integer (pos 0) ∷ Real ∷ Str ∷ BadValue ∷ []) ≡ 1 ∷ 2 ∷ 3 ∷ 4 ∷ 5 ∷ 6 ∷ []
+  pub collections : map number_of (kind.Array ∷ kind.Hash ∷ []) ≡ 7 ∷ 8 ∷ []
+  pub numbered : map (option_map number_of) (map kind_numbered (1 ∷ 2 ∷ 3 ∷ 4 ∷ 5 ∷ 6 ∷ 7 ∷ 8 ∷ [])) ≡ map Some (1 ∷ 2 ∷ 3 ∷ 4 ∷ 5 ∷ 6 ∷ 7 ∷ 8 ∷ [])
+  pub unnumbered : map kind_numbered (0 ∷ 9 ∷ []) ≡ None ∷ None ∷ []
   pub minus_one : payload_of (Integer (negsuc 0)) 7 2 ≡ two_numbers 4294967295 4294967295
   pub lowest : payload_of (Integer (negsuc 9223372036854775807)) 7 20 ≡ two_numbers 2147483648 0
   pub string : payload_of Str 7 2 ≡ two_numbers 7 2
@@ -176,6 +180,9 @@ examples =
       numbers =
           record {
             kinds = refl;
+            collections = refl;
+            numbered = refl;
+            unnumbered = refl;
             minus_one = refl;
             lowest = refl;
             string = refl;

@@ -1,9 +1,7 @@
 -- The integers that digits write, and the range of 64 signed bits (F8, K2 to K5). A byte that is no digit counts nothing
 -- here; the forms of the table let none in.
-use Rattle.std.specs.Prelude.{ℕ, ◌+◌, ◌*◌, ◌-◌, ◌^◌, Bool, cond, List, [], ◌∷◌, ltb, eqb, ℤ, pos, negsuc, neg_ℤ, drop}
+use Rattle.std.specs.Prelude.{ℕ, ◌+◌, ◌*◌, ◌-◌, ◌^◌, Bool, cond, List, [], ◌∷◌, ltb, eqb, ℤ, pos, negsuc, neg_ℤ, drop, Option, Some, None}
 use Rattle.utf8.specs.Class.{inside, is_decimal_digit}
-use Rattle.schema.specs.declared.integer.Parsed.{Parsed}
-use Rattle.schema.specs.declared.integer.Parsed.TheVariants.{Value, Nothing}
 
 -- 0 to 9, and A to F or a to f for ten to fifteen
 unfoldable pub digit_value : ℕ → ℕ
@@ -47,5 +45,5 @@ in_range (pos m) = ltb m (2 ^ 63)
 in_range (negsuc m) = ltb m (2 ^ 63)
 
 -- the integer, where 64 signed bits hold it
-unfoldable pub held : ℤ → Parsed
-held z = cond (in_range z) (Value z) Nothing
+unfoldable pub held : ℤ → Option ℤ
+held z = cond (in_range z) (Some z) None

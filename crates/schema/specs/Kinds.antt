@@ -1,13 +1,11 @@
 -- A scalar by the table's rows of one kind, as a standard tag asks for it (S10): `!!int` by the integer rows, `!!float` by
 -- the real rows, one of which matches a digit run too. That it does not matter in which order those rows stand is
 -- `AnyOrder` (specs/Statements.antt).
-use Rattle.std.specs.Prelude.{ℕ, Bool, true, false, cond, List, [], ◌∷◌}
+use Rattle.std.specs.Prelude.{ℕ, Bool, true, false, cond, List, [], ◌∷◌, ℤ, Option, None}
 use Prim.Native.String.{String}
 use Rattle.utf8.specs.Ascii.{bytes, same_bytes}
 use Rattle.schema.specs.Integer.{held}
 use Rattle.schema.specs.Standard.{Kind, null, bool, int, float, Row, table, Meaning, null_value, truth, integer, real, string, first_match}
-use Rattle.schema.specs.declared.integer.Parsed.{Parsed}
-use Rattle.schema.specs.declared.integer.Parsed.TheVariants.{Nothing}
 
 abbrev pub tag_name : Kind → String
 tag_name null = "null"
@@ -28,12 +26,12 @@ unfoldable pub read_as : List ℕ → List ℕ → Meaning
 read_as name s = first_match (rows_of (has_name name) table) s
 
 -- the integer of a meaning, where it is one that 64 signed bits hold
-abbrev pub integer_read : Meaning → Parsed
-integer_read null_value = Nothing
-integer_read (truth b) = Nothing
+abbrev pub integer_read : Meaning → Option ℤ
+integer_read null_value = None
+integer_read (truth b) = None
 integer_read (integer base z) = held z
-integer_read real = Nothing
-integer_read string = Nothing
+integer_read real = None
+integer_read string = None
 
 abbrev pub is_real : Meaning → Bool
 is_real null_value = false
@@ -43,7 +41,7 @@ is_real real = true
 is_real string = false
 
 -- the integer of a scalar that an integer row matches
-unfoldable pub core_integer : List ℕ → Parsed
+unfoldable pub core_integer : List ℕ → Option ℤ
 core_integer s = integer_read (read_as (bytes "int") s)
 
 -- whether a real row matches a scalar; one matches a digit run

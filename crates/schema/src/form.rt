@@ -1,11 +1,10 @@
 // Which form of the core schema's table a scalar has: one pass of an automaton over its bytes. (P2.)
 ghost use Rattle.std.specs.Prelude.{◌≡◌};
-ghost use Rattle.utf8.specs.Class.{inside};
 ghost use Rattle.schema.specs.Form.{form_of};
 ghost use Rattle.schema.specs.Automaton.{Tables, letter_form, begins_no_row};
 
 // `Float` is a number with a point or an exponent, an infinity, or not a number.
-#[derive(Clone, Copy)]
+#[derive(Clone, Copy, Debug, PartialEq, Eq)]
 pub enum Form {
     Null,
     True,
@@ -98,53 +97,33 @@ const DEAD: usize = 2;
 // The form of a scalar that ends in each state, by a letter.
 const FORMS: [u8; 48] = *b"...ndd.r..r.o.x....r....r......n......t........f";
 
-fn is_between(low: u8, high: u8, b: u8) -> bool
-    ensures { result ≡ inside low high b }
-{
-    if low <= b {
-        return b <= high;
-    }
-    false
-}
-
 // Whether `b` is a letter that no row begins with: any but f, n and t.
+#[tactic(auto, unfolding(crate::specs::Automaton::begins_no_row))]
 fn begins_no_row(b: u8) -> bool
     ensures { result ≡ begins_no_row b }
 {
-    if is_between(b'a', b'e', b) {
-        return true;
-    }
-    if is_between(b'g', b'm', b) {
-        return true;
-    }
-    if is_between(b'o', b's', b) {
-        return true;
-    }
-    if is_between(b'u', b'z', b) {
-        return true;
-    }
-    if is_between(b'A', b'E', b) {
-        return true;
-    }
-    if is_between(b'G', b'M', b) {
-        return true;
-    }
-    if is_between(b'O', b'S', b) {
-        return true;
-    }
-    is_between(b'U', b'Z', b)
+    matches!(
+        b,
+        b'a'..=b'e'
+            | b'g'..=b'm'
+            | b'o'..=b's'
+            | b'u'..=b'z'
+            | b'A'..=b'E'
+            | b'G'..=b'M'
+            | b'O'..=b'S'
+            | b'U'..=b'Z'
+    )
 }
 
 // The form of `value`: that of the first row of the table that matches it. Most scalars are words, and their first letter tells.
+#[tactic(auto, using(crate::proofs::Flags::letter_stops))]
 pub fn form_of(value: &[u8]) -> Form
     ensures { result ≡ form_of value.now }
 {
-    if 0 < value.len() {
-        if begins_no_row(value[0]) {
-            return Form::Other;
-        }
+    match value.first() {
+        Some(&b) if begins_no_row(b) => Form::Other,
+        _ => scanned(value),
     }
-    scanned(value)
 }
 
 // The form that a letter of `FORMS` stands for.
@@ -163,26 +142,23 @@ fn letter_form(letter: u8) -> Form
     }
 }
 
-// The form of `value` by the automaton whose tables are `symbols`, `next` and `forms`.
+// The form of `value` by the automaton whose tables are `symbols`, `next` and `forms`, whatever they are.
 fn run_automaton(value: &[u8], symbols: &[u8], next: &[[u8; 32]], forms: &[u8]) -> Form
     requires { Tables symbols.now next.now forms.now }
     ensures { result ≡ form_of value.now }
 {
-    let mut state: usize = START;
-    let mut i = 0;
-    while i < value.len() {
-        let byte = value[i] as usize;
-        let symbol = (symbols[byte] - FIRST_SYMBOL) as usize;
-        state = (next[state][symbol] - FIRST_STATE) as usize;
+    let mut state = START;
+    for &b in value {
+        let symbol = usize::from(symbols[usize::from(b)] - FIRST_SYMBOL);
+        state = usize::from(next[state][symbol] - FIRST_STATE);
         if state == DEAD {
             return Form::Other;
         }
-        i += 1;
     }
     letter_form(forms[state])
 }
 
-// The same by the automaton; its tables are laid out once for the scalar.
+// The same by the automaton with the tables above; that they are `Tables` is proved here, by one test of each.
 fn scanned(value: &[u8]) -> Form
     ensures { result ≡ form_of value.now }
 {

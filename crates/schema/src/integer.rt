@@ -1,21 +1,13 @@
 // Integers of the core schema, gathered below zero so that the lowest one needs no wider type. (F8.)
-ghost use Rattle.std.specs.Prelude.{◌≡◌, ◌<◌, pos, neg_ℤ, drop};
+ghost use Rattle.std.specs.Prelude.{◌≡◌, ◌<◌, pos, neg_ℤ};
 ghost use Rattle.schema.specs.Integer.{digit_value, value_of, signed_value, held};
 ghost use Rattle.schema.specs.Form.{integer_of};
 ghost use Rattle.schema.specs.Kinds.{core_integer};
 
 use crate::form::{Form, form_of};
 
-const LOWEST: i64 = -9223372036854775808;
-
-// An integer, or nothing where the text is none or 64 signed bits do not hold it.
-#[derive(Clone, Copy)]
-pub enum Parsed {
-    Value(i64),
-    Nothing,
-}
-
-// What the digit `b` counts; a byte that is no digit counts nothing.
+// What the digit `b` counts; a byte that is no digit counts nothing. By ranges, since `to_digit` takes longer for each digit.
+#[tactic(auto, unfolding(crate::specs::Integer::digit_value))]
 fn digit_value(b: u8) -> u8
     ensures { result ≡ digit_value b }
 {
@@ -27,80 +19,53 @@ fn digit_value(b: u8) -> u8
     }
 }
 
-// The negative of what the digits from `from` on write in `base`.
-fn gather(value: &[u8], from: usize, base: u8) -> Parsed
+// The negative of what the digits write in `base`, if 64 signed bits hold it.
+fn gather(digits: &[u8], base: u8) -> Option<i64>
     requires { 0 < base }
-    ensures { result ≡ held (neg_ℤ (pos (value_of base (drop from value.now)))) }
+    ensures { result ≡ held (neg_ℤ (pos (value_of base digits.now))) }
 {
-    let by = base as i64;
-    let least = LOWEST / by;
     let mut sum: i64 = 0;
-    let mut i = from;
-    while i < value.len() {
-        let digit = digit_value(value[i]) as i64;
-        if sum < least {
-            return Parsed::Nothing;
-        }
-        let shifted = sum * by;
-        if shifted < LOWEST + digit {
-            return Parsed::Nothing;
-        }
-        sum = shifted - digit;
-        i += 1;
+    for &b in digits {
+        sum = sum
+            .checked_mul(i64::from(base))?
+            .checked_sub(i64::from(digit_value(b)))?;
     }
-    Parsed::Value(sum)
+    Some(sum)
 }
 
-// What the digits from `from` on write in `base`.
-fn positive(value: &[u8], from: usize, base: u8) -> Parsed
+// What the digits write in `base`, if 64 signed bits hold it.
+fn positive(digits: &[u8], base: u8) -> Option<i64>
     requires { 0 < base }
-    ensures { result ≡ held (pos (value_of base (drop from value.now))) }
+    ensures { result ≡ held (pos (value_of base digits.now)) }
 {
-    let gathered = gather(value, from, base);
-    let Parsed::Value(n) = gathered else {
-        return Parsed::Nothing;
-    };
-    if n == LOWEST {
-        return Parsed::Nothing;
-    }
-    Parsed::Value(0 - n)
+    gather(digits, base)?.checked_neg()
 }
 
-// The value of a digit run in base 10 with a sign or none before it.
-fn decimal(value: &[u8]) -> Parsed
+// The value of a digit run in base 10 with a sign or none before it, if 64 signed bits hold it.
+fn decimal(value: &[u8]) -> Option<i64>
     ensures { result ≡ held (signed_value value.now) }
 {
-    if value.len() == 0 {
-        return positive(value, 0, 10);
+    match value.strip_prefix(b"-") {
+        Some(digits) => gather(digits, 10),
+        None => positive(value.strip_prefix(b"+").unwrap_or(value), 10),
     }
-    let first = value[0];
-    if first == b'-' {
-        return gather(value, 1, 10);
-    }
-    if first == b'+' {
-        return positive(value, 1, 10);
-    }
-    positive(value, 0, 10)
 }
 
-// The integer that `value` writes, which has the form `form`.
-pub fn integer_of(value: &[u8], form: Form) -> Parsed
+// The integer that `value` writes, which has the form `form`, if 64 signed bits hold it.
+pub fn integer_of(value: &[u8], form: Form) -> Option<i64>
     ensures { result ≡ integer_of form value.now }
 {
     match form {
         Form::Decimal => decimal(value),
-        Form::Octal => positive(value, 2, 8),
-        Form::Hexadecimal => positive(value, 2, 16),
-        Form::Null => Parsed::Nothing,
-        Form::True => Parsed::Nothing,
-        Form::False => Parsed::Nothing,
-        Form::Float => Parsed::Nothing,
-        Form::Other => Parsed::Nothing,
+        Form::Octal => positive(value.get(2..).unwrap_or(&[]), 8),
+        Form::Hexadecimal => positive(value.get(2..).unwrap_or(&[]), 16),
+        Form::Null | Form::True | Form::False | Form::Float | Form::Other => None,
     }
 }
 
-// The integer that `value` writes in one of the three forms of the core schema.
-pub fn parse_core_schema_int(value: &[u8]) -> Parsed
+// The integer that `value` writes in one of the three forms of the core schema, if 64 signed bits hold it.
+#[tactic(auto, using(crate::proofs::Forms::core_integer_lem))]
+pub fn parse_core_schema_int(value: &[u8]) -> Option<i64>
     ensures { result ≡ core_integer value.now }
 {
     integer_of(value, form_of(value))

@@ -5,10 +5,10 @@ ghost use Rattle.schema.specs.Kinds.{core_real};
 ghost use Rattle.schema.specs.Form.{real_form, no_integer};
 
 use crate::form::{Form, form_of};
-use crate::integer::{Parsed, integer_of};
+use crate::integer::integer_of;
 
 // What a scalar is. A real and a string stand in the scalar's own bytes.
-#[derive(Clone, Copy)]
+#[derive(Clone, Copy, Debug, PartialEq, Eq)]
 pub enum Resolved {
     Null,
     Boolean(bool),
@@ -19,32 +19,21 @@ pub enum Resolved {
 }
 
 // The integer, or `other` where there is none.
-pub fn integer_or(parsed: Parsed, other: Resolved) -> Resolved
-    ensures { result ≡ integer_or parsed other }
+pub fn integer_or(integer: Option<i64>, other: Resolved) -> Resolved
+    ensures { result ≡ integer_or integer other }
 {
-    match parsed {
-        Parsed::Value(n) => Resolved::Integer(n),
-        Parsed::Nothing => other,
-    }
+    integer.map_or(other, Resolved::Integer)
 }
 
 // Whether a scalar of this form is a real of the core schema; a digit run is one.
 fn real_form(form: Form) -> bool
     ensures { result ≡ real_form form }
 {
-    match form {
-        Form::Decimal => true,
-        Form::Float => true,
-        Form::Null => false,
-        Form::True => false,
-        Form::False => false,
-        Form::Octal => false,
-        Form::Hexadecimal => false,
-        Form::Other => false,
-    }
+    matches!(form, Form::Decimal | Form::Float)
 }
 
 // Whether `value` is a real of the core schema, a digit run included.
+#[tactic(auto, using(crate::proofs::Forms::core_real_lem))]
 pub fn is_yaml_float(value: &[u8]) -> bool
     ensures { result ≡ core_real value.now }
 {
@@ -59,15 +48,13 @@ fn no_integer(form: Form) -> Resolved
         Form::Null => Resolved::Null,
         Form::True => Resolved::Boolean(true),
         Form::False => Resolved::Boolean(false),
-        Form::Decimal => Resolved::Real,
-        Form::Octal => Resolved::Str,
-        Form::Hexadecimal => Resolved::Str,
-        Form::Float => Resolved::Real,
-        Form::Other => Resolved::Str,
+        Form::Decimal | Form::Float => Resolved::Real,
+        Form::Octal | Form::Hexadecimal | Form::Other => Resolved::Str,
     }
 }
 
 // What an untagged plain scalar is by the core schema of YAML 1.2.2.
+#[tactic(auto, using(crate::proofs::Forms::core_schema_lem))]
 pub fn resolve_plain_scalar(value: &[u8]) -> Resolved
     ensures { result ≡ core_schema value.now }
 {

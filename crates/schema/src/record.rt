@@ -1,17 +1,73 @@
 // The numbers that a record holds of a resolved scalar. (E2.)
 ghost use Rattle.std.specs.Prelude.{◌≡◌};
-ghost use Rattle.schema.specs.Record.{kind_number, payload_of, twos_complement};
+ghost use Rattle.std.specs.Result.{result_ok};
+ghost use Rattle.schema.specs.Record.{kind_of, kind_number, number_of, kind_numbered, payload_of};
 
 use crate::plain::Resolved;
 
-// 2^64 - 1.
-const ALL_BITS: u64 = 18446744073709551615;
+// What kind of value a record holds.
+#[derive(Clone, Copy, Debug, PartialEq, Eq)]
+pub enum Kind {
+    Null = 1,
+    Boolean = 2,
+    Integer = 3,
+    Real = 4,
+    Str = 5,
+    BadValue = 6,
+    Array = 7,
+    Hash = 8,
+}
 
-// 2^32: an integer's bits are a record's two numbers.
-const LOW_HALF: u64 = 4294967296;
+// A kind's number in a record.
+impl From<Kind> for u32 {
+    ghost from_gives = { λ kind n. n ≡ number_of kind };
+
+    fn from(kind: Kind) -> u32 {
+        kind as u32
+    }
+}
+
+// A number that no kind has.
+#[derive(Clone, Copy, Debug, PartialEq, Eq)]
+pub struct UnknownKind(pub u32);
+
+impl TryFrom<u32> for Kind {
+    type Error = UnknownKind;
+
+    ghost try_from_gives = { λ n kind. result_ok kind ≡ kind_numbered n };
+
+    fn try_from(n: u32) -> Result<Kind, UnknownKind> {
+        match n {
+            1 => Ok(Kind::Null),
+            2 => Ok(Kind::Boolean),
+            3 => Ok(Kind::Integer),
+            4 => Ok(Kind::Real),
+            5 => Ok(Kind::Str),
+            6 => Ok(Kind::BadValue),
+            7 => Ok(Kind::Array),
+            8 => Ok(Kind::Hash),
+            _ => Err(UnknownKind(n)),
+        }
+    }
+}
+
+impl Resolved {
+    pub fn kind(self) -> Kind
+        ensures { result ≡ kind_of self }
+    {
+        match self {
+            Resolved::Null => Kind::Null,
+            Resolved::Boolean(_) => Kind::Boolean,
+            Resolved::Integer(_) => Kind::Integer,
+            Resolved::Real => Kind::Real,
+            Resolved::Str => Kind::Str,
+            Resolved::BadValue => Kind::BadValue,
+        }
+    }
+}
 
 // A record's two payload numbers.
-#[derive(Clone, Copy)]
+#[derive(Clone, Copy, Debug, PartialEq, Eq)]
 pub struct Payload {
     pub first: u32,
     pub second: u32,
@@ -21,25 +77,7 @@ pub struct Payload {
 pub fn kind_number(resolved: Resolved) -> u32
     ensures { result ≡ kind_number resolved }
 {
-    match resolved {
-        Resolved::Null => 1,
-        Resolved::Boolean(_) => 2,
-        Resolved::Integer(_) => 3,
-        Resolved::Real => 4,
-        Resolved::Str => 5,
-        Resolved::BadValue => 6,
-    }
-}
-
-// The 64 bits of an integer in two's complement.
-fn twos_complement(n: i64) -> u64
-    ensures { result ≡ twos_complement n }
-{
-    if n < 0 {
-        let below = 0 - (n + 1);
-        return ALL_BITS - below as u64;
-    }
-    n as u64
+    u32::from(resolved.kind())
 }
 
 // The payload of a scalar whose value starts at `place` and has `len` bytes.
@@ -47,32 +85,24 @@ pub fn payload_of(resolved: Resolved, place: u32, len: u32) -> Payload
     ensures { result ≡ payload_of resolved place len }
 {
     match resolved {
-        Resolved::Null => Payload {
+        Resolved::Null | Resolved::BadValue => Payload {
             first: 0,
             second: 0,
         },
         Resolved::Boolean(truth) => Payload {
-            first: truth as u32,
+            first: u32::from(truth),
             second: 0,
         },
         Resolved::Integer(n) => {
-            let bits = twos_complement(n);
+            let bits = n.cast_unsigned();
             Payload {
-                first: (bits / LOW_HALF) as u32,
-                second: (bits % LOW_HALF) as u32,
+                first: (bits >> 32) as u32,
+                second: (bits & 0xffff_ffff) as u32,
             }
         }
-        Resolved::Real => Payload {
+        Resolved::Real | Resolved::Str => Payload {
             first: place,
             second: len,
-        },
-        Resolved::Str => Payload {
-            first: place,
-            second: len,
-        },
-        Resolved::BadValue => Payload {
-            first: 0,
-            second: 0,
         },
     }
 }

@@ -1,20 +1,14 @@
--- `schema::integer::decimal` meets its contract: by the first byte, a minus, a plus or neither.
-use mathlib.Core.Path.{◌∙◌, ap}
+-- `schema::integer::decimal` meets its contract: after a minus, after a plus, or with no sign.
+use Rattle.std.proofs.Common.{◌∙◌, ap}
 use Rattle.schema.specs.Integer.{held}
-use Rattle.schema.proofs.Digits.{no_digits, after_minus, after_plus, no_sign}
+use Rattle.schema.proofs.Digits.{after_minus, no_minus}
 use Rattle.schema.proofs.integer.decimal.Goals as goal
 
-pub returns-then-value-eq0 : goal.returns-then-value-eq0
-returns-then-value-eq0 c = c.positive.ensures ∙ ap held (no_digits _ c.if-value-eq0.true)
+pub returns-in-Some : goal.returns-in-Some
+returns-in-Some c =
+    let p = c.in-Some.ensures.cases in
+    c.gather.ensures ∙ ap held (after_minus _ _ p.0 p.1)
 
-pub returns-then-first-eq45 : goal.returns-then-first-eq45
-returns-then-first-eq45 c =
-    c.gather.ensures ∙ ap held (after_minus _ c.if-value-eq0.false c.if-first-eq45.true)
-
-pub returns-then-first-eq43 : goal.returns-then-first-eq43
-returns-then-first-eq43 c =
-    c.positive-then-first-eq43.ensures ∙ ap held (after_plus _ c.if-value-eq0.false c.if-first-eq45.false c.if-first-eq43.true)
-
-pub returns : goal.returns
-returns c =
-    c.positive-2.ensures ∙ ap held (no_sign _ c.if-value-eq0.false c.if-first-eq45.false c.if-first-eq43.false)
+pub returns-in-None : goal.returns-in-None
+returns-in-None c =
+    c.positive.ensures ∙ ap held (no_minus _ _ _ c.in-None.ensures.cases c.strip_prefix-in-None.ensures.cases c.unwrap_or.ensures)

@@ -1,29 +1,15 @@
 -- `schema::tag::resolve_scalar` meets its contract: a standard tag's name decides, and without one the style.
-use mathlib.Core.Path.{◌∙◌, ap, sym}
-use mathlib.Core.List.{List}
-use Prim.Native.Nat.{ℕ}
-use Rattle.schema.specs.Tag.{tagged_schema}
-use Rattle.schema.proofs.Tags.{rest_of, name_within, no_tag_is, standard_tag, other_tag}
+use Rattle.std.proofs.Common.{◌≡◌, ◌∙◌, option_copied, option_map, rules}
+use Rattle.schema.specs.Tag.{by_name, resolve_scalar, parts_of}
+use Rattle.schema.proofs.Tags.{by_tag}
 use Rattle.schema.proofs.tag.resolve_scalar.Goals as goal
+use Rattle.schema.proofs.tag.resolve_scalar.Goals.{After-and_then}
 
-pub returns-in_default : goal.returns-in_default
-returns-in_default c =
-    c.resolve_untagged.ensures
-    ∙ other_tag _ _ _ _ _ c.if-tagged.true (sym c.standard_tag_suffix-standard.ensures ∙ c.in_default.is)
+found : (c : After-and_then) → by_name (option_copied c.and_then.result) c.args.value.now c.args.style ≡ resolve_scalar c.args.value.now c.args.style (option_map parts_of c.args.tag)
+found c = by_tag _ _ c.args.tag c.and_then.result (search rules)
 
-pub slice_bounds-resolve_tagged_scalar-count : goal.slice_bounds-resolve_tagged_scalar-count
-slice_bounds-resolve_tagged_scalar-count c =
-    name_within _ _ _ (sym c.in-NameAt.is ∙ c.standard_tag_suffix-standard.ensures)
+pub returns-in-Some : goal.returns-in-Some
+returns-in-Some c = c.resolve_tagged_scalar.ensures ∙ (rw c.in-Some.is at (found (goal.at.returns-in-Some c).After-and_then))
 
-pub slice_bounds-resolve_tagged_scalar-start : goal.slice_bounds-resolve_tagged_scalar-start
-slice_bounds-resolve_tagged_scalar-start c = slice_bounds-resolve_tagged_scalar-count c
-
-pub returns-then-tagged : goal.returns-then-tagged
-returns-then-tagged c =
-    c.resolve_tagged_scalar.ensures
-    ∙ ap (λ (n : List ℕ). tagged_schema n c.args.value.now)
-    (rest_of c.args.suffix.now c.in-NameAt.at)
-    ∙ standard_tag _ _ _ _ _ _ c.if-tagged.true (sym c.standard_tag_suffix-standard.ensures ∙ c.in-NameAt.is)
-
-pub returns : goal.returns
-returns c = c.resolve_untagged-2.ensures ∙ no_tag_is _ _ _ _ _ c.if-tagged.false
+pub returns-in-None : goal.returns-in-None
+returns-in-None c = c.resolve_untagged.ensures ∙ (rw c.in-None.is at (found (goal.at.returns-in-None c).After-and_then))
