@@ -1,37 +1,32 @@
 -- The bytes up to a closing mark, from a place on.
+use Rattle.std.specs.Prelude.{Option, Some, None}
 use mathlib.Core.Path.{◌≡◌, refl, sym, ◌∙◌, ap}
 use mathlib.Core.Bool.{Bool, true, false, ◌&&◌, ◌||◌}
 use mathlib.Core.List.{List, [], ◌∷◌}
 use Prim.Native.Nat.{ℕ, zero, suc, ◌+◌, ◌-◌, ◌≤◌, ◌<◌}
 use native.Mathlib.Nat.{add-zero, add_assoc}
 use native.Mathlib.Omega.{arith}
-use borrow.Author.Tests.{eq-eqb, ne_eqb, eqb-true}
+use borrow.Author.Tests.{eq-eqb, ne_eqb, eqb-true, lt-ltb}
 use lib.Dec.{eqb}
 use lib.ListN.{length, drop, get_or, length-drop, drop_of_length-le}
 use lib.Seq.{get_or-drop, drop-drop}
 use Rattle.measure.specs.Quoted.{further, passed_together, to_closing, quoted_len}
 use Rattle.utf8.specs.Ascii.{single_quote, double_quote, backslash}
-use Rattle.measure.specs.declared.quoted.Quoted.{Quoted}
-use Rattle.measure.specs.declared.quoted.Quoted.TheVariants.{Found, Missing}
 use Rattle.letters.specs.Marks.{Ordinary, Unmarked}
+use Rattle.measure.proofs.Read.{has_byte}
 use Rattle.utf8.specs.Tests.{clash}
 
 -- ---- the opening mark
 
-pub none_opens : (s : List ℕ) (quote : ℕ) → length s ≡ 0 → Missing ≡ quoted_len s quote
-unfolding quoted_len
-none_opens [] quote h = refl
-none_opens (a ∷ s) quote h = absurd (omega arith)
+pub other_opens : (s : List ℕ) (quote : ℕ) → has_byte s 0 quote ≡ false → None ≡ quoted_len s quote
+unfolding quoted_len has_byte
+other_opens [] quote e = refl
+other_opens (a ∷ s) quote e = let f : eqb a quote ≡ false = rw (lt-ltb 0 (suc (length s)) (omega arith)) at e in rw f
 
-pub other_opens : (s : List ℕ) (quote : ℕ) → (get_or s 0 0 ≡ quote → ⊥) → Missing ≡ quoted_len s quote
-unfolding quoted_len
-other_opens [] quote n = refl
-other_opens (a ∷ s) quote n = rw (ne_eqb a quote n)
-
-pub opens : (s : List ℕ) (quote : ℕ) → 0 < length s → get_or s 0 0 ≡ quote → further 1 (to_closing quote (drop 1 s)) ≡ quoted_len s quote
-unfolding quoted_len
-opens [] quote h e = absurd (omega arith)
-opens (a ∷ s) quote h e = rw (eq-eqb a quote e)
+pub opens : (s : List ℕ) (quote : ℕ) → has_byte s 0 quote ≡ true → further 1 (to_closing quote (drop 1 s)) ≡ quoted_len s quote
+unfolding quoted_len has_byte
+opens [] quote e = absurd (clash (sym e))
+opens (a ∷ s) quote e = let f : eqb a quote ≡ true = rw (lt-ltb 0 (suc (length s)) (omega arith)) at e in rw f
 
 -- ---- one step, on the bytes left
 
@@ -62,7 +57,7 @@ two quote [] h p = absurd (omega arith)
 two quote (a ∷ []) h p = rw (ne_eqb a quote (λ e. clash (sym p ∙ last_closes quote a e)))
 two quote (a ∷ b ∷ t) h p = rw p
 
-closed : (quote : ℕ) (t : List ℕ) → 0 < length t → passed_together quote (get_or t 0 0) (get_or t 1 0) ≡ false → get_or t 0 0 ≡ quote → to_closing quote t ≡ Found 1
+closed : (quote : ℕ) (t : List ℕ) → 0 < length t → passed_together quote (get_or t 0 0) (get_or t 1 0) ≡ false → get_or t 0 0 ≡ quote → to_closing quote t ≡ Some 1
 unfolding to_closing
 closed quote [] h p e = absurd (omega arith)
 closed quote (a ∷ []) h p e = rw (eq-eqb a quote e)
@@ -76,9 +71,9 @@ one quote (a ∷ b ∷ t) h p n = rw (p, ne_eqb a quote n)
 
 -- ---- the same from a place on
 
-further-further : (i n : ℕ) (r : Quoted) → further i (further n r) ≡ further (i + n) r
-further-further i n (Found m) = ap Found (sym (add_assoc i n m))
-further-further i n Missing = refl
+further-further : (i n : ℕ) (r : Option ℕ) → further i (further n r) ≡ further (i + n) r
+further-further i n (Some m) = ap Some (sym (add_assoc i n m))
+further-further i n None = refl
 
 module _ (s : List ℕ) (quote i : ℕ) where
   here : get_or (drop i s) 0 0 ≡ get_or s i 0
@@ -94,13 +89,13 @@ module _ (s : List ℕ) (quote i : ℕ) where
     pub passes_two : passed_together quote (get_or s i 0) (get_or s (i + 1) 0) ≡ true → further (i + 2) (to_closing quote (drop (i + 2) s)) ≡ further i (to_closing quote (drop i s))
     passes_two p = further_on 2 (two quote (drop i s) left (rw (here, get_or-drop i s 1 0) p))
 
-    pub closes : passed_together quote (get_or s i 0) (get_or s (i + 1) 0) ≡ false → get_or s i 0 ≡ quote → Found (i + 1) ≡ further i (to_closing quote (drop i s))
+    pub closes : passed_together quote (get_or s i 0) (get_or s (i + 1) 0) ≡ false → get_or s i 0 ≡ quote → Some (i + 1) ≡ further i (to_closing quote (drop i s))
     closes p e = ap (further i) (sym (closed quote (drop i s) left (rw (here, get_or-drop i s 1 0) p) (here ∙ e)))
 
     pub passes_one : passed_together quote (get_or s i 0) (get_or s (i + 1) 0) ≡ false → (get_or s i 0 ≡ quote → ⊥) → further (i + 1) (to_closing quote (drop (i + 1) s)) ≡ further i (to_closing quote (drop i s))
     passes_one p n = further_on 1 (one quote (drop i s) left (rw (here, get_or-drop i s 1 0) p) (λ e. n (sym here ∙ e)))
 
-  pub never_closes : length s ≤ i → Missing ≡ further i (to_closing quote (drop i s))
+  pub never_closes : length s ≤ i → None ≡ further i (to_closing quote (drop i s))
   unfolding to_closing
   never_closes h = ap (λ (l : List ℕ). further i (to_closing quote l)) (sym (drop_of_length-le s h))
 

@@ -1,7 +1,7 @@
 -- What callers may rely on: a length is within the text left; a quoted scalar that is found has two marks, its own first and last
 -- bytes; and what was matched of a plain scalar, and the end of a block, stand at a boundary. A length that falls back to the
 -- value's may end anywhere.
-use Rattle.std.specs.Prelude.{◌≡◌, refl, Bool, true, false, cond, List, [], ◌∷◌, ◌++◌, ℕ, zero, suc, ◌+◌, ◌-◌, ◌≤◌, ◌<◌, eqb, length, drop, get_or}
+use Rattle.std.specs.Prelude.{◌≡◌, refl, Bool, true, false, cond, Option, Some, None, List, [], ◌∷◌, ◌++◌, ℕ, zero, suc, ◌+◌, ◌-◌, ◌≤◌, ◌<◌, eqb, length, drop, get_or}
 use Rattle.std.proofs.Common.{sym, ◌∙◌, ap, subst, append_assoc, append-nil, arith, eqb-true, length-append, get_or-append-add}
 use Rattle.utf8.specs.Tests.{below_inside}
 use Rattle.utf8.specs.Utf8.{Utf8, encode, encode_all}
@@ -16,8 +16,6 @@ use Rattle.measure.specs.Quoted.{further, passed_together, to_closing, quoted_le
 use Rattle.measure.specs.Block.{onto_first, lines, is_blank, trimmed_len, ends_block, past_line, later_reach, block_reach, block_len}
 use Rattle.measure.specs.Scalar.{scalar_measure, scalar_len}
 use Rattle.measure.proofs.Places.{prefix_boundary, bytes_append, run_split}
-use Rattle.measure.specs.declared.quoted.Quoted.{Quoted}
-use Rattle.measure.specs.declared.quoted.Quoted.TheVariants.{Found, Missing}
 
 -- ---- all styles
 
@@ -34,14 +32,14 @@ record Closes (s : List ℕ) (quote n : ℕ) : Type 0 where
   mark : get_or s (n - 1) 0 ≡ quote
 
 -- so far as it is found
-abbrev Closing : List ℕ → ℕ → Quoted → Type 0
-Closing s quote (Found n) = Closes s quote n
-Closing s quote Missing = Unit {0}
+abbrev Closing : List ℕ → ℕ → Option ℕ → Type 0
+Closing s quote (Some n) = Closes s quote n
+Closing s quote None = Unit {0}
 
 -- the same with more bytes before them
-closing_later : (xs s : List ℕ) (quote : ℕ) (r : Quoted) → Closing s quote r → Closing (xs ++ s) quote (further (length xs) r)
-closing_later xs s quote Missing k = tt
-closing_later xs s quote (Found n) k =
+closing_later : (xs s : List ℕ) (quote : ℕ) (r : Option ℕ) → Closing s quote r → Closing (xs ++ s) quote (further (length xs) r)
+closing_later xs s quote None k = tt
+closing_later xs s quote (Some n) k =
     let o = k.some in
     let w = k.within in
     let l = length-append xs s in
@@ -56,13 +54,13 @@ unfolding to_closing
 to_closing_lem quote [] = tt
 to_closing_lem quote (a ∷ []) = go (eqb a quote) refl
   where
-    go : (t : Bool) → eqb a quote ≡ t → Closing (a ∷ []) quote (cond t (Found 1) Missing)
+    go : (t : Bool) → eqb a quote ≡ t → Closing (a ∷ []) quote (cond t (Some 1) None)
     go true e = closes_here a [] quote e
     go false e = tt
 to_closing_lem quote (a ∷ b ∷ s) = go (passed_together quote a b) (eqb a quote) refl (to_closing_lem quote s) (to_closing_lem quote (b ∷ s))
   where
     go : (x y : Bool) → eqb a quote ≡ y → Closing s quote (to_closing quote s) → Closing (b ∷ s) quote (to_closing quote (b ∷ s))
-        → Closing (a ∷ b ∷ s) quote (cond x (further 2 (to_closing quote s)) (cond y (Found 1) (further 1 (to_closing quote (b ∷ s)))))
+        → Closing (a ∷ b ∷ s) quote (cond x (further 2 (to_closing quote s)) (cond y (Some 1) (further 1 (to_closing quote (b ∷ s)))))
     go true y e k m = closing_later (a ∷ b ∷ []) s quote (to_closing quote s) k
     go false true e k m = closes_here a (b ∷ s) quote e
     go false false e k m = closing_later (a ∷ []) (b ∷ s) quote (to_closing quote (b ∷ s)) m
@@ -74,24 +72,24 @@ pub record Enclosed (rest : List ℕ) (quote n : ℕ) : Type 0 where
   pub opening : get_or rest 0 0 ≡ quote
   pub closing : get_or rest (n - 1) 0 ≡ quote
 
-abbrev Enclosing : List ℕ → ℕ → Quoted → Type 0
-Enclosing rest quote (Found n) = Enclosed rest quote n
-Enclosing rest quote Missing = Unit {0}
+abbrev Enclosing : List ℕ → ℕ → Option ℕ → Type 0
+Enclosing rest quote (Some n) = Enclosed rest quote n
+Enclosing rest quote None = Unit {0}
 
 enclosing : (rest : List ℕ) (quote : ℕ) → Enclosing rest quote (quoted_len rest quote)
 unfolding quoted_len
 enclosing [] quote = tt
 enclosing (a ∷ s) quote = go (eqb a quote) refl (to_closing quote s) (to_closing_lem quote s)
   where
-    go : (t : Bool) → eqb a quote ≡ t → (r : Quoted) → Closing s quote r → Enclosing (a ∷ s) quote (cond t (further 1 r) Missing)
+    go : (t : Bool) → eqb a quote ≡ t → (r : Option ℕ) → Closing s quote r → Enclosing (a ∷ s) quote (cond t (further 1 r) None)
     go false e r k = tt
-    go true e Missing k = tt
-    go true e (Found n) k =
+    go true e None k = tt
+    go true e (Some n) k =
         let o = k.some in
-        let m : Closes (a ∷ s) quote (1 + n) = closing_later (a ∷ []) s quote (Found n) k in
+        let m : Closes (a ∷ s) quote (1 + n) = closing_later (a ∷ []) s quote (Some n) k in
         record { two = omega arith; within = m.within; opening = eqb-true a quote e; closing = m.mark }
 
-pub quoted_found : (rest : List ℕ) (quote n : ℕ) → quoted_len rest quote ≡ Found n → Enclosed rest quote n
+pub quoted_found : (rest : List ℕ) (quote n : ℕ) → quoted_len rest quote ≡ Some n → Enclosed rest quote n
 quoted_found rest quote n e = subst (Enclosing rest quote) e (enclosing rest quote)
 
 -- a place after an ASCII byte
@@ -101,7 +99,7 @@ after_ascii {s} {i} u h l =
     subst (λ (k : Char). Boundary s (i + k.len)) (first_char_ascii s i h l) (char_at u b h).next
 
 -- the marks are ASCII, so a quoted scalar ends at a boundary
-pub quoted_boundary : {rest : List ℕ} {quote n : ℕ} → Utf8 rest → quote < 0x80 → quoted_len rest quote ≡ Found n → Boundary rest n
+pub quoted_boundary : {rest : List ℕ} {quote n : ℕ} → Utf8 rest → quote < 0x80 → quoted_len rest quote ≡ Some n → Boundary rest n
 quoted_boundary {rest} {quote} {n} u l e =
     let f = quoted_found rest quote n e in
     let t = f.two in

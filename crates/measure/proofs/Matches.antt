@@ -19,13 +19,13 @@ use Rattle.utf8.specs.WhiteSpace.{white_space, is_in, is_white_space}
 use Rattle.utf8.proofs.Utf8Laws.{CharAt, char_at, boundary_start, boundary_splits, codes_encode, read}
 use Rattle.utf8.specs.declared.utf8.Char.{Char}
 use Rattle.measure.specs.Run.{bytes_of, white_space_run, after_run, holds_newline}
-use Rattle.measure.specs.Counted.{run_of, has_byte}
+use Rattle.measure.specs.Counted.{run_of}
 use Rattle.utf8.specs.Ascii.{newline}
 use Rattle.measure.specs.Plain.{is_fold, Reach, unmatched, reaches, past_equal, past_run, begins_with, takes_run, plain_reach, measured_or, plain_measure}
 use Rattle.measure.proofs.Places.{onward, bytes_cons, run_split, run_goes_on, run_stops}
 use Rattle.measure.specs.declared.run.Run.{Run}
 use Rattle.letters.proofs.Chunks.{part_is}
-use Rattle.measure.proofs.Read.{char_read, codes_end}
+use Rattle.measure.proofs.Read.{char_read, codes_end, has_byte}
 use Rattle.letters.specs.Letters.{WordByte, LetterByte, Letters}
 use Rattle.letters.proofs.Words.{Dark, dark, above_blank, letter_at, solid_at, word_solid, letter_here, fits, rest_of}
 use Rattle.utf8.specs.Tests.{clash, by_order, and_left, and_right}

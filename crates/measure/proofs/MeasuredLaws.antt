@@ -1,6 +1,6 @@
 -- "Measured" (02, (b)) is what `Measured` says; and what is measured ends at a boundary of the text, where the cut to the text left never
 -- meets it.
-use Rattle.std.specs.Prelude.{◌≡◌, refl, ◌⊎◌, Bool, true, false, ◌&&◌, cond, List, [], ◌∷◌, ◌++◌, ℕ, zero, suc, ◌+◌, ◌<◌, eqb, length, drop}
+use Rattle.std.specs.Prelude.{◌≡◌, refl, ◌⊎◌, Bool, true, false, ◌&&◌, cond, Option, Some, None, List, [], ◌∷◌, ◌++◌, ℕ, zero, suc, ◌+◌, ◌<◌, eqb, length, drop}
 use Rattle.std.proofs.Common.{sym, ◌∙◌, ap, subst, inl, inr, ⊎_elim, append_assoc, append-nil, add-zero, arith, eqb-true, eq-eqb, ne_eqb}
 use Rattle.utf8.specs.Tests.{clash}
 use Rattle.utf8.specs.Utf8.{Utf8, encode, encode_all}
@@ -17,8 +17,6 @@ use Rattle.measure.proofs.Places.{run_split, after_none, encode_takes, bytes_app
 use Rattle.measure.specs.Measured.{Matched, EndsEqual, begins_pair, Closed, bytes_passed, Marked, JustIf, SaysMeasured}
 use Rattle.measure.proofs.Laws.{plain_boundary, quoted_boundary, block_boundary}
 use Rattle.measure.specs.declared.length.Measure.{Measure}
-use Rattle.measure.specs.declared.quoted.Quoted.{Quoted}
-use Rattle.measure.specs.declared.quoted.Quoted.TheVariants.{Found, Missing}
 
 -- ---- plain
 
@@ -193,19 +191,19 @@ plain_empty rest = refl
 
 -- ---- quoted
 
-found_same : {m n : ℕ} → Found m ≡ Found n → m ≡ n
-found_same e = ap (λ (r : Quoted). of r) e
+found_same : {m n : ℕ} → Some m ≡ Some n → m ≡ n
+found_same e = ap (λ (r : Option ℕ). of r) e
   where
-    of : Quoted → ℕ
-    of (Found k) = k
-    of Missing = 0
+    of : Option ℕ → ℕ
+    of (Some k) = k
+    of None = 0
 
-missing_found : {n : ℕ} → Missing ≡ Found n → ⊥
-missing_found e = clash (sym (ap (λ (r : Quoted). is_found r) e))
+missing_found : {n : ℕ} → None ≡ Some n → ⊥
+missing_found e = clash (sym (ap (λ (r : Option ℕ). is_found r) e))
   where
-    is_found : Quoted → Bool
-    is_found (Found k) = true
-    is_found Missing = false
+    is_found : Option ℕ → Bool
+    is_found (Some k) = true
+    is_found None = false
 
 -- the bytes passed on the way to the closing mark, which is found n bytes from here
 abbrev ClosedIn : ℕ → List ℕ → ℕ → Type 0
@@ -214,58 +212,58 @@ ClosedIn quote s n = (ts : List Bool) × (Closed quote s ts) × (n ≡ bytes_pas
 eqb-false : (a b : ℕ) → eqb a b ≡ false → a ≡ b → ⊥
 eqb-false a b e h = clash (sym (eq-eqb a b h) ∙ e)
 
-to_closed : (quote : ℕ) (s : List ℕ) (n : ℕ) → to_closing quote s ≡ Found n → ClosedIn quote s n
+to_closed : (quote : ℕ) (s : List ℕ) (n : ℕ) → to_closing quote s ≡ Some n → ClosedIn quote s n
 unfolding to_closing Closed begins_pair bytes_passed
 to_closed quote [] n e = absurd (missing_found e)
 to_closed quote (a ∷ []) n e = go (eqb a quote) refl e
   where
-    go : (t : Bool) → eqb a quote ≡ t → cond t (Found 1) Missing ≡ Found n → ClosedIn quote (a ∷ []) n
+    go : (t : Bool) → eqb a quote ≡ t → cond t (Some 1) None ≡ Some n → ClosedIn quote (a ∷ []) n
     go true p e = ([], (refl, omega arith, eqb-true a quote p), sym (found_same e))
     go false p e = absurd (missing_found e)
 to_closed quote (a ∷ b ∷ s) n e =
     go (passed_together quote a b) refl (eqb a quote) refl (to_closing quote s) (to_closed quote s) (to_closing quote (b ∷ s)) (to_closed quote (b ∷ s)) e
   where
     go : (x : Bool) → passed_together quote a b ≡ x → (y : Bool) → eqb a quote ≡ y
-        → (r : Quoted) → ((m : ℕ) → r ≡ Found m → ClosedIn quote s m) → (q : Quoted) → ((m : ℕ) → q ≡ Found m → ClosedIn quote (b ∷ s) m)
-        → cond x (further 2 r) (cond y (Found 1) (further 1 q)) ≡ Found n → ClosedIn quote (a ∷ b ∷ s) n
-    go true p y w (Found m) f q g e =
+        → (r : Option ℕ) → ((m : ℕ) → r ≡ Some m → ClosedIn quote s m) → (q : Option ℕ) → ((m : ℕ) → q ≡ Some m → ClosedIn quote (b ∷ s) m)
+        → cond x (further 2 r) (cond y (Some 1) (further 1 q)) ≡ Some n → ClosedIn quote (a ∷ b ∷ s) n
+    go true p y w (Some m) f q g e =
         let k = f m refl in
         let z = found_same e in
         (true ∷ k.0, (p, k.1), let i = k.2 in omega arith)
-    go true p y w Missing f q g e = absurd (missing_found e)
+    go true p y w None f q g e = absurd (missing_found e)
     go false p true w r f q g e = ([], (p, omega arith, eqb-true a quote w), sym (found_same e))
-    go false p false w r f (Found m) g e =
+    go false p false w r f (Some m) g e =
         let k = g m refl in
         let z = found_same e in
         (false ∷ k.0, (p, omega arith, eqb-false a quote w, k.1), let i = k.2 in omega arith)
-    go false p false w r f Missing g e = absurd (missing_found e)
+    go false p false w r f None g e = absurd (missing_found e)
 
-closed_to : (quote : ℕ) (ts : List Bool) (s : List ℕ) → Closed quote s ts → to_closing quote s ≡ Found (bytes_passed ts + 1)
+closed_to : (quote : ℕ) (ts : List Bool) (s : List ℕ) → Closed quote s ts → to_closing quote s ≡ Some (bytes_passed ts + 1)
 unfolding to_closing Closed begins_pair bytes_passed
 closed_to quote [] [] k = absurd (omega (arith, k.1))
 closed_to quote [] (a ∷ []) k = rw (eq-eqb a quote k.2) refl
 closed_to quote [] (a ∷ b ∷ s) k = rw (k.0, eq-eqb a quote k.2) refl
 closed_to quote (true ∷ ts) [] k = absurd (clash (sym k.0))
 closed_to quote (true ∷ ts) (a ∷ []) k = absurd (clash (sym k.0))
-closed_to quote (true ∷ ts) (a ∷ b ∷ s) k = rw (k.0, closed_to quote ts s k.1) (ap Found (let e : 2 + (bytes_passed ts + 1) ≡ 2 + bytes_passed ts + 1 = omega arith in e))
+closed_to quote (true ∷ ts) (a ∷ b ∷ s) k = rw (k.0, closed_to quote ts s k.1) (ap Some (let e : 2 + (bytes_passed ts + 1) ≡ 2 + bytes_passed ts + 1 = omega arith in e))
 closed_to quote (false ∷ ts) [] k = absurd (omega (arith, k.1))
 closed_to quote (false ∷ ts) (a ∷ []) k = absurd (missing_found (closed_to quote ts [] k.3))
-closed_to quote (false ∷ ts) (a ∷ b ∷ s) k = rw (k.0, ne_eqb a quote k.2, closed_to quote ts (b ∷ s) k.3) (ap Found (let e : 1 + (bytes_passed ts + 1) ≡ 1 + bytes_passed ts + 1 = omega arith in e))
+closed_to quote (false ∷ ts) (a ∷ b ∷ s) k = rw (k.0, ne_eqb a quote k.2, closed_to quote ts (b ∷ s) k.3) (ap Some (let e : 1 + (bytes_passed ts + 1) ≡ 1 + bytes_passed ts + 1 = omega arith in e))
 
-measured_found : (m n : ℕ) (r : Quoted) → found_or m r ≡ measured n → r ≡ Found n
-measured_found m n (Found k) e = ap Found (ap (λ (x : Measure). x.len) e)
-measured_found m n Missing e = absurd (clash (sym (ap (λ (x : Measure). x.measured) e)))
+measured_found : (m n : ℕ) (r : Option ℕ) → found_or m r ≡ measured n → r ≡ Some n
+measured_found m n (Some k) e = ap Some (ap (λ (x : Measure). x.len) e)
+measured_found m n None e = absurd (clash (sym (ap (λ (x : Measure). x.measured) e)))
 
 -- measured, with n bytes, exactly where the marks stand so
 pub quoted_marked : (rest value : List ℕ) (quote n : ℕ) → quoted_measure rest value quote ≡ measured n → Marked rest quote n
 unfolding quoted_measure quoted_len
-quoted_marked [] value quote n e = absurd (missing_found (measured_found (length value) n Missing e))
+quoted_marked [] value quote n e = absurd (missing_found (measured_found (length value) n None e))
 quoted_marked (a ∷ s) value quote n e = go (eqb a quote) refl (to_closing quote s) (to_closed quote s) (measured_found (length value) n _ e)
   where
-    go : (t : Bool) → eqb a quote ≡ t → (r : Quoted) → ((m : ℕ) → r ≡ Found m → ClosedIn quote s m) → cond t (further 1 r) Missing ≡ Found n → Marked (a ∷ s) quote n
+    go : (t : Bool) → eqb a quote ≡ t → (r : Option ℕ) → ((m : ℕ) → r ≡ Some m → ClosedIn quote s m) → cond t (further 1 r) None ≡ Some n → Marked (a ∷ s) quote n
     go false p r f e = absurd (missing_found e)
-    go true p Missing f e = absurd (missing_found e)
-    go true p (Found m) f e =
+    go true p None f e = absurd (missing_found e)
+    go true p (Some m) f e =
         let k = f m refl in
         let z = found_same e in
         let i = k.2 in
@@ -282,9 +280,9 @@ pub quoted_assumed : (rest value : List ℕ) (quote : ℕ) → (quoted_measure r
 unfolding quoted_measure
 quoted_assumed rest value quote e = go (quoted_len rest quote) e
   where
-    go : (r : Quoted) → (found_or (length value) r).measured ≡ false → (found_or (length value) r).len ≡ length value
-    go Missing e = refl
-    go (Found m) e = absurd (clash e)
+    go : (r : Option ℕ) → (found_or (length value) r).measured ≡ false → (found_or (length value) r).len ≡ length value
+    go None e = refl
+    go (Some m) e = absurd (clash e)
 
 -- ---- block, and all styles
 
@@ -304,9 +302,9 @@ quoted_measured_ends : {rest : List ℕ} → Utf8 rest → (value : List ℕ) (q
 unfolding quoted_measure
 quoted_measured_ends {rest} u value quote l e = quoted_boundary u l (found (quoted_len rest quote) e)
   where
-    found : (r : Quoted) → (found_or (length value) r).measured ≡ true → r ≡ Found (found_or (length value) r).len
-    found (Found m) e = refl
-    found Missing e = absurd (clash (sym e))
+    found : (r : Option ℕ) → (found_or (length value) r).measured ≡ true → r ≡ Some (found_or (length value) r).len
+    found (Some m) e = refl
+    found None e = absurd (clash (sym e))
 
 style_ends : {rest : List ℕ} → Utf8 rest → (value : List ℕ) (style : ℕ) (empty_span : Bool) (column : ℕ)
     → (style_measure rest value style empty_span column).measured ≡ true → Boundary rest (style_measure rest value style empty_span column).len

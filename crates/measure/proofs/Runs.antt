@@ -1,10 +1,9 @@
 -- A white-space run, character by character: what was counted so far, and the run of what is left.
 use mathlib.Core.Path.{◌≡◌, sym, ◌∙◌, ap}
-use mathlib.Core.Bool.{Bool, true, false, ◌||◌, or-false, or-true, or_assoc}
+use mathlib.Core.Bool.{Bool, true, false, ◌||◌, or-false, or_assoc}
 use mathlib.Core.List.{List, [], ◌∷◌}
 use Prim.Native.Nat.{ℕ, ◌+◌, ◌≤◌}
 use native.Mathlib.Nat.{zero-add, add-zero, add_assoc}
-use borrow.Author.Tests.{eq-eqb, ne_eqb}
 use lib.Dec.{eqb}
 use lib.ListN.{length, drop}
 use Rattle.utf8.specs.Utf8.{Utf8, encode, encode_all}
@@ -39,13 +38,6 @@ goes_on : (n m : ℕ) (t : Bool) (c : ℕ) (cs : List ℕ) → m ≡ length (enc
 unfolding run_so_far white_space_run holds_newline
 goes_on n m t c cs z e = rw (e, z, bytes_cons c (white_space_run cs), ← add_assoc, or_assoc)
 
--- whether a newline was among the characters, with one more
-pub newline_now : (t t' : Bool) (c : ℕ) → c ≡ newline → t' ≡ true → t' ≡ t || eqb c newline
-newline_now t t' c e f = rw (eq-eqb c newline e) (f ∙ sym (or-true t))
-
-pub newline_not_now : (t t' : Bool) (c : ℕ) → (c ≡ newline → ⊥) → t' ≡ t → t' ≡ t || eqb c newline
-newline_not_now t t' c e f = rw (ne_eqb c newline e) (f ∙ sym (or-false t))
-
 -- so far n bytes of the run that s begins with were counted, and t says whether a newline was among them
 pub record CountingRun (s : List ℕ) (n : ℕ) (t : Bool) : Type 0 where
   pub boundary : Boundary s n
@@ -63,9 +55,9 @@ module _ {s : List ℕ} {n : ℕ} {t : Bool} {k : Char} (r : CountingRun s n t) 
   pub counting_stops : is_white_space k.code ≡ false → run_by n t ≡ run_of (codes s)
   counting_stops e = sym (ap (run_so_far n t) a.forward ∙ stops n t k.code (codes (drop (n + k.len) s)) e) ∙ r.same
 
-  pub counting_goes_on : is_white_space k.code ≡ true → (t' : Bool) → t' ≡ t || eqb k.code newline → CountingRun s (n + k.len) t'
-  counting_goes_on e t' f =
+  pub counting_goes_on : is_white_space k.code ≡ true → CountingRun s (n + k.len) (t || eqb k.code newline)
+  counting_goes_on e =
       record {
         boundary = a.next;
-        same = rw f (sym (ap (run_so_far n t) a.forward ∙ goes_on n k.len t k.code (codes (drop (n + k.len) s)) a.size e) ∙ r.same);
+        same = sym (ap (run_so_far n t) a.forward ∙ goes_on n k.len t k.code (codes (drop (n + k.len) s)) a.size e) ∙ r.same;
       }

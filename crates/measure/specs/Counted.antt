@@ -1,5 +1,5 @@
--- What the code counts in one pass: a run, a line, a byte at a place. The measures are told without it.
-use Rattle.std.specs.Prelude.{ℕ, Bool, ◌&&◌, List, [], ◌∷◌, eqb, ltb, length, get_or}
+-- What the code counts in one pass: a run, a line. The measures are told without it.
+use Rattle.std.specs.Prelude.{ℕ, List, [], ◌∷◌}
 use Rattle.measure.specs.Run.{bytes_of, white_space_run, holds_newline}
 use Rattle.measure.specs.Block.{lines, trimmed_len}
 use Rattle.measure.specs.declared.run.Run.{Run}
@@ -23,7 +23,3 @@ line_of cs =
       trimmed = trimmed_len (first_of (lines cs));
       len = bytes_of (first_of (lines cs));
     }
-
--- whether a text has the byte b at a place
-unfoldable pub has_byte : List ℕ → ℕ → ℕ → Bool
-has_byte s i b = ltb i (length s) && eqb (get_or s i 0) b

@@ -12,7 +12,7 @@ use utf8::white_space::is_white_space;
 
 // A line without its newline, in bytes: its leading white space, up to its last character that is no white space (0 where it is
 // blank), and all of it.
-#[derive(Clone, Copy)]
+#[derive(Clone, Copy, Debug, PartialEq, Eq)]
 struct Line {
     lead: usize,
     trimmed: usize,
@@ -27,10 +27,9 @@ fn first_line(tail: &[u8]) -> Line
     let mut lead = 0;
     let mut trimmed = 0;
     let mut len = 0;
-    while len < tail.len() {
-        let c = first_char(tail, len);
+    while let Some(c) = first_char(tail, len) {
         if c.code == NEWLINE {
-            return Line { lead, trimmed, len };
+            break;
         }
         len += c.len;
         if is_white_space(c.code) {

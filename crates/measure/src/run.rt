@@ -10,7 +10,7 @@ use utf8::white_space::is_white_space;
 pub const NEWLINE: u32 = 0xa;
 
 // The white space that a text begins with: its bytes, and whether a newline is among it.
-#[derive(Clone, Copy)]
+#[derive(Clone, Copy, Debug, PartialEq, Eq)]
 pub struct Run {
     pub len: usize,
     pub newline: bool,
@@ -23,14 +23,11 @@ pub fn white_space_run(tail: &[u8]) -> Run
 {
     let mut len = 0;
     let mut newline = false;
-    while len < tail.len() {
-        let c = first_char(tail, len);
+    while let Some(c) = first_char(tail, len) {
         if !is_white_space(c.code) {
-            return Run { len, newline };
+            break;
         }
-        if c.code == NEWLINE {
-            newline = true;
-        }
+        newline |= c.code == NEWLINE;
         len += c.len;
     }
     Run { len, newline }

@@ -1,21 +1,14 @@
--- The `[`, `{` and `,` from a place of a token on.
-use mathlib.Core.Path.{◌≡◌, ◌∙◌, ap}
-use mathlib.Core.Bool.{true, false}
-use mathlib.Core.List.{List}
-use Prim.Native.Nat.{ℕ, suc, ◌+◌, ◌≤◌, ◌<◌}
-use native.Mathlib.Numerals.{add-one}
-use lib.ListN.{length, drop, get_or, drop_of_length-le}
-use lib.Seq.{drop-cons}
+-- The `[`, `{` and `,` that a token begins with, counted as a prefix.
+use Rattle.std.specs.Prelude.{◌≡◌, refl, Bool, true, false, cond, List, [], ◌∷◌, ℕ, suc, ◌+◌}
+use Rattle.std.specs.List.{prefix_len}
+use Rattle.std.proofs.Common.{arith}
 use Rattle.tag.specs.Tag.{is_opening, openings}
 
-pub openings_here : (s : List ℕ) (i : ℕ) → i < length s → is_opening (get_or s i 0) ≡ false → openings (drop i s) ≡ 0
+pub prefix_openings : (s : List ℕ) → prefix_len is_opening s ≡ openings s
 unfolding openings
-openings_here s i h t = ap openings (drop-cons s i 0 h) ∙ rw t
-
-pub openings_on : (s : List ℕ) (i : ℕ) → i < length s → is_opening (get_or s i 0) ≡ true → openings (drop i s) ≡ suc (openings (drop (i + 1) s))
-unfolding openings
-openings_on s i h t = ap openings (drop-cons s i 0 h) ∙ rw (t, add-one)
-
-pub openings_end : (s : List ℕ) (i : ℕ) → length s ≤ i → openings (drop i s) ≡ 0
-unfolding openings
-openings_end s i h = rw (drop_of_length-le s h)
+prefix_openings [] = refl
+prefix_openings (c ∷ s) = go (is_opening c) (prefix_openings s)
+  where
+    go : (t : Bool) → prefix_len is_opening s ≡ openings s → cond t (1 + prefix_len is_opening s) 0 ≡ cond t (suc (openings s)) 0
+    go true e = omega arith
+    go false e = refl

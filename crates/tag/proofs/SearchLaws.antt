@@ -1,5 +1,6 @@
 -- The search by the text's bytes: `[`, `{`, `,`, `!` and `&` are one byte each, and no byte of another character is one of them. So the
 -- bytes of the last token before a place say what it decides. Only the search itself and `TagLaws` look in here.
+use Rattle.std.specs.Prelude.{Some, None}
 use mathlib.Core.Path.{◌≡◌, refl, sym, ◌∙◌, ap}
 use mathlib.Core.Bool.{Bool, true, false, cond}
 use mathlib.Core.List.{List, [], ◌∷◌, ◌++◌}
@@ -13,7 +14,7 @@ use lib.Seq.{get_or-take, get_or-drop}
 use Rattle.utf8.specs.Utf8.{Utf8, encode, encode_all}
 use Rattle.utf8.specs.Boundary.{Boundary}
 use Rattle.tag.specs.Tokens.{byte_length, chars_before, token, with_word, tokens_before}
-use Rattle.tag.specs.Tag.{is_opening, openings, property, span, found, none, span_of, decide, first_tag, tag_before}
+use Rattle.tag.specs.Tag.{is_opening, openings, property, span, span_of, decide, first_tag, tag_before}
 use Rattle.tag.proofs.TokenLaws.{token_end, token_start, byte_length_cons, byte_length_before, last_word, LastToken, last_token}
 
 -- ---- one token, by its bytes
@@ -106,7 +107,7 @@ pub record LastProperty (s : List ℕ) (i a e n m : ℕ) : Type 0 where
   pub back : e ≤ i
   pub left : 1 ≤ m → a + n < e
   pub first : 1 ≤ m → get_or s (a + n) 0 ≡ m
-  pub decides : tag_before s i ≡ cond (eqb m 0x21) (found (span (a + n) e)) (cond (eqb m 0x26) (tag_before s a) none)
+  pub decides : tag_before s i ≡ cond (eqb m 0x21) (Some (span (a + n) e)) (cond (eqb m 0x26) (tag_before s a) None)
 
 pub last_property : {s : List ℕ} {i e a n m : ℕ} → Utf8 s → Boundary s i → e ≡ token_end s i → a ≡ token_start s e
     → n ≡ openings (take (e - a) (drop a s)) → m ≡ get_or (take (e - a) (drop a s)) n 0 → LastProperty s i a e n m

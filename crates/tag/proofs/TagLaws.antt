@@ -1,5 +1,6 @@
 -- What callers may count on: a property found lies before the node and within the text and begins with `!`, a guess lies within the
 -- text, and no span ends before it starts.
+use Rattle.std.specs.Prelude.{Option, Some, None}
 use mathlib.Core.Path.{◌≡◌, refl, sym, ◌∙◌, ap, subst}
 use mathlib.Core.Bool.{Bool, true, false, cond}
 use mathlib.Core.List.{List, []}
@@ -13,16 +14,16 @@ use Rattle.utf8.specs.Utf8.{Utf8}
 use Rattle.utf8.specs.Boundary.{Boundary}
 use Rattle.tag.specs.declared.property.TagSpan.{TagSpan}
 use Rattle.tag.specs.Proved.{IsProperty, SpanWithin, TagIs}
-use Rattle.tag.specs.Tag.{span, Found, found, none, tag_before, span_or, property_span, span_bytes, tag_property, tag_offset, guess, tag_span}
+use Rattle.tag.specs.Tag.{span, tag_before, span_or, property_span, span_bytes, tag_property, tag_offset, guess, tag_span}
 use Rattle.tag.proofs.SearchLaws.{LastProperty, last_property}
 
 -- ---- a property found
 
 by_mark : {s : List ℕ} {i a e n m : ℕ} {p : TagSpan} → LastProperty s i a e n m
-    → (a < i → tag_before s a ≡ found p → IsProperty s a p) → tag_before s i ≡ found p → IsProperty s i p
+    → (a < i → tag_before s a ≡ Some p → IsProperty s a p) → tag_before s i ≡ Some p → IsProperty s i p
 by_mark {s} {i} {a} {e} {n} {m} {p} k r f = go (eqb m 0x21) (eqb m 0x26) refl refl (sym k.decides ∙ f)
   where
-    go : (x y : Bool) → eqb m 0x21 ≡ x → eqb m 0x26 ≡ y → cond x (found (span (a + n) e)) (cond y (tag_before s a) none) ≡ found p → IsProperty s i p
+    go : (x y : Bool) → eqb m 0x21 ≡ x → eqb m 0x26 ≡ y → cond x (Some (span (a + n) e)) (cond y (tag_before s a) None) ≡ Some p → IsProperty s i p
     go true y ex ey g =
         let is : span (a + n) e ≡ p = cc in
         let tag = eqb-true m 0x21 ex in
@@ -41,10 +42,10 @@ by_mark {s} {i} {a} {e} {n} {m} {p} k r f = go (eqb m 0x21) (eqb m 0x26) refl re
         record { some = t.some; before = omega arith; within = t.within; bang = t.bang; from = t.from; to = t.to }
     go false false ex ey g = absurd (let z : ◌≡◌ {A = ℕ} 0 1 = cc in omega arith)
 
-pub found_tagged : {s : List ℕ} {i : ℕ} {p : TagSpan} → Utf8 s → Boundary s i → tag_before s i ≡ found p → IsProperty s i p
+pub found_tagged : {s : List ℕ} {i : ℕ} {p : TagSpan} → Utf8 s → Boundary s i → tag_before s i ≡ Some p → IsProperty s i p
 found_tagged {s} {i} {p} u b f = go (suc i) i (omega arith) b f
   where
-    go : (n i : ℕ) → i < n → Boundary s i → tag_before s i ≡ found p → IsProperty s i p
+    go : (n i : ℕ) → i < n → Boundary s i → tag_before s i ≡ Some p → IsProperty s i p
     go zero i h b f = absurd (omega arith)
     go (suc n) i h b f =
         let k = last_property u b refl refl refl refl in
@@ -62,9 +63,9 @@ guess_within s i n h = record { order = omega arith; end = omega arith }
 or_within : {s : List ℕ} {i : ℕ} {q : TagSpan} → Utf8 s → Boundary s i → SpanWithin s q → SpanWithin s (span_or (tag_before s i) q)
 or_within {s} {i} {q} u b w = go (tag_before s i) refl
   where
-    go : (f : Found) → tag_before s i ≡ f → SpanWithin s (span_or f q)
-    go (found p) e = tagged_within (found_tagged u b e)
-    go none e = w
+    go : (f : Option TagSpan) → tag_before s i ≡ f → SpanWithin s (span_or f q)
+    go (Some p) e = tagged_within (found_tagged u b e)
+    go None e = w
 
 pub tag_span_within : {s : List ℕ} {i : ℕ} → Utf8 s → Boundary s i → (n : ℕ) → SpanWithin s (tag_span s i n)
 unfolding tag_span
@@ -77,11 +78,11 @@ property_within {s} {i} u b = or_within u b (record { order = omega arith; end =
 -- ---- found or not
 
 -- where there is no property the part is empty, and where there is one it begins with `!`
-pub none_empty : (s : List ℕ) (i : ℕ) → tag_before s i ≡ none → tag_property s i ≡ []
+pub none_empty : (s : List ℕ) (i : ℕ) → tag_before s i ≡ None → tag_property s i ≡ []
 unfolding tag_property property_span span_bytes
 none_empty s i e = let z : i - i ≡ 0 = omega arith in rw (e, z)
 
-pub found_begins : {s : List ℕ} {i : ℕ} {p : TagSpan} → Utf8 s → Boundary s i → tag_before s i ≡ found p → get_or (tag_property s i) 0 0 ≡ 0x21
+pub found_begins : {s : List ℕ} {i : ℕ} {p : TagSpan} → Utf8 s → Boundary s i → tag_before s i ≡ Some p → get_or (tag_property s i) 0 0 ≡ 0x21
 unfolding tag_property property_span span_bytes
 found_begins {s} {i} {p} u b e =
     let t = found_tagged u b e in
@@ -94,17 +95,17 @@ some_found : (s : List ℕ) (i n : ℕ) → (property_span s i).start < (propert
 unfolding property_span tag_span
 some_found s i n h = go (tag_before s i) h
   where
-    go : (f : Found) → (span_or f (span i i)).start < (span_or f (span i i)).end → span_or f (span i i) ≡ span_or f (guess s i n)
-    go (found p) h = refl
-    go none h = absurd (omega arith)
+    go : (f : Option TagSpan) → (span_or f (span i i)).start < (span_or f (span i i)).end → span_or f (span i i) ≡ span_or f (guess s i n)
+    go (Some p) h = refl
+    go None h = absurd (omega arith)
 
 empty_guessed : {s : List ℕ} {i : ℕ} → Utf8 s → Boundary s i → (n : ℕ) → (property_span s i).end ≤ (property_span s i).start → guess s i n ≡ tag_span s i n
 unfolding property_span tag_span
 empty_guessed {s} {i} u b n h = go (tag_before s i) refl h
   where
-    go : (f : Found) → tag_before s i ≡ f → (span_or f (span i i)).end ≤ (span_or f (span i i)).start → guess s i n ≡ span_or f (guess s i n)
-    go (found p) e h = absurd (let l = (found_tagged u b e).some in omega arith)
-    go none e h = refl
+    go : (f : Option TagSpan) → tag_before s i ≡ f → (span_or f (span i i)).end ≤ (span_or f (span i i)).start → guess s i n ≡ span_or f (guess s i n)
+    go (Some p) e h = absurd (let l = (found_tagged u b e).some in omega arith)
+    go None e h = refl
 
 -- from its offset on, the part handed back is as long as the property's span
 part_ends : {s : List ℕ} {i : ℕ} → Utf8 s → Boundary s i → tag_offset s i + length (tag_property s i) ≡ (property_span s i).end

@@ -16,7 +16,7 @@ use Rattle.utf8.proofs.Utf8Laws.{codes_encode, codes-encode_all, encode_all_appe
 use Rattle.utf8.specs.declared.utf8.Char.{Char}
 use Rattle.tag.specs.Tokens.{byte_length, chars_before, token, with_word, tokens, tokens_before}
 use Rattle.tag.specs.Proved.{All, Edge, TokensAre}
-use Rattle.tag.specs.Back.{skip, back_over, is_space, is_token_char}
+use Rattle.tag.specs.Back.{skip, back_over, is_token_char}
 
 -- ---- bytes
 
@@ -255,11 +255,11 @@ tokens_are {s} {i} u b = record { no_tokens = no_tokens s i; next_token = next_t
 
 -- where the last token before byte i ends
 abbrev pub token_end : List ℕ → ℕ → ℕ
-token_end s i = back_over (is_space true) s i
+token_end s i = back_over is_white_space s i
 
 -- where the token that ends at byte i starts
 abbrev pub token_start : List ℕ → ℕ → ℕ
-token_start s i = back_over (is_space false) s i
+token_start s i = back_over is_token_char s i
 
 -- the code points of the last token before byte i
 unfoldable pub last_word : List ℕ → ℕ → List ℕ

@@ -1,5 +1,6 @@
 -- One token of the search: what its bytes say of the property before the node.
-use mathlib.Core.Path.{◌≡◌, sym, ◌∙◌, ap}
+use Rattle.std.specs.Prelude.{Some, None}
+use mathlib.Core.Path.{◌≡◌, sym, ◌∙◌}
 use mathlib.Core.List.{List}
 use Prim.Native.Nat.{ℕ, ◌+◌, ◌-◌, ◌≤◌, ◌<◌}
 use native.Mathlib.Omega.{arith}
@@ -7,7 +8,7 @@ use borrow.Author.Tests.{ne_eqb}
 use lib.ListN.{length, take, drop, get_or}
 use Rattle.utf8.specs.Utf8.{Utf8}
 use Rattle.utf8.specs.Boundary.{Boundary}
-use Rattle.tag.specs.Tag.{openings, span, Found, found, none, tag_before, span_or, property_span}
+use Rattle.tag.specs.Tag.{openings, span, tag_before}
 use Rattle.tag.proofs.TokenLaws.{token_end, token_start}
 use Rattle.tag.proofs.SearchLaws.{LastProperty, last_property}
 
@@ -25,19 +26,15 @@ pub turn : {s : List ℕ} {node i e a n m : ℕ} → Utf8 s → Searching s node
     → n ≡ openings (take (e - a) (drop a s)) → m ≡ get_or (take (e - a) (drop a s)) n 0 → Turn s node i a e n m
 turn u g he ha hn hm = record { property = last_property u g.edge he ha hn hm; same = g.same }
 
-answer : (s : List ℕ) (node : ℕ) (f : Found) → tag_before s node ≡ f → span_or f (span node node) ≡ property_span s node
-unfolding property_span
-answer s node f e = ap (λ (g : Found). span_or g (span node node)) (sym e)
-
 module _ {s : List ℕ} {node i a e n m : ℕ} (t : Turn s node i a e n m) where
   pub tag_fits : m ≡ 0x21 → a + n ≤ length s
   tag_fits tag = let l = t.property.left (omega arith) in let w = t.property.end.within in omega arith
 
-  pub tag_found : m ≡ 0x21 → span (a + n) e ≡ property_span s node
-  tag_found tag = answer s node (found (span (a + n) e)) (sym t.same ∙ t.property.decides ∙ rw tag)
+  pub tag_found : m ≡ 0x21 → Some (span (a + n) e) ≡ tag_before s node
+  tag_found tag = sym (rw tag at t.property.decides) ∙ t.same
 
-  pub none_found : (m ≡ 0x21 → ⊥) → (m ≡ 0x26 → ⊥) → span node node ≡ property_span s node
-  none_found no_tag_is no-anchor = answer s node none (sym t.same ∙ t.property.decides ∙ rw (ne_eqb m 0x21 no_tag_is, ne_eqb m 0x26 no-anchor))
+  pub none_found : (m ≡ 0x21 → ⊥) → (m ≡ 0x26 → ⊥) → None ≡ tag_before s node
+  none_found no_tag_is no-anchor = sym (rw (ne_eqb m 0x21 no_tag_is, ne_eqb m 0x26 no-anchor) at t.property.decides) ∙ t.same
 
   -- a token that is passed over has a byte at least
   pub anchor_less : m ≡ 0x26 → a < i

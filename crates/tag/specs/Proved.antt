@@ -1,10 +1,10 @@
 -- What is proved of tokens and of the tag's span. The arguments are in proofs/TokenLaws.antt (`tokens_are`) and proofs/TagLaws.antt (`tag_is`).
-use Rattle.std.specs.Prelude.{ℕ, ◌+◌, ◌≤◌, ◌<◌, ◌≡◌, Bool, true, List, [], ◌∷◌, ◌++◌, reverse, length, take, get_or}
+use Rattle.std.specs.Prelude.{ℕ, ◌+◌, ◌≤◌, ◌<◌, ◌≡◌, Bool, true, Some, None, List, [], ◌∷◌, ◌++◌, reverse, length, take, get_or}
 use Rattle.utf8.specs.Characters.{codes}
 use Rattle.utf8.specs.Boundary.{Boundary}
 use Rattle.utf8.specs.WhiteSpace.{is_white_space}
 use Rattle.tag.specs.Tokens.{byte_length, token, tokens_before}
-use Rattle.tag.specs.Tag.{span, found, none, tag_before, property_span, tag_property, tag_offset, guess, tag_span}
+use Rattle.tag.specs.Tag.{span, tag_before, property_span, tag_property, tag_offset, guess, tag_span}
 use Rattle.tag.specs.Back.{is_token_char}
 use Rattle.tag.specs.declared.property.TagSpan.{TagSpan}
 
@@ -47,10 +47,10 @@ pub record SpanWithin (s : List ℕ) (p : TagSpan) : Type 0 where
   pub end : p.end ≤ length s
 
 pub record TagIs (s : List ℕ) (i : ℕ) : Type 0 where
-  pub found_tagged : (p : TagSpan) → tag_before s i ≡ found p → IsProperty s i p
+  pub found_tagged : (p : TagSpan) → tag_before s i ≡ Some p → IsProperty s i p
   -- the part handed back begins with `!`; where there is no property it is empty
-  pub found_begins : (p : TagSpan) → tag_before s i ≡ found p → get_or (tag_property s i) 0 0 ≡ 0x21
-  pub none_empty : tag_before s i ≡ none → tag_property s i ≡ []
+  pub found_begins : (p : TagSpan) → tag_before s i ≡ Some p → get_or (tag_property s i) 0 0 ≡ 0x21
+  pub none_empty : tag_before s i ≡ None → tag_property s i ≡ []
   -- where it is not empty it is the tag's span, and where it is empty the span is guessed
   pub part_found : (n : ℕ) → 0 < length (tag_property s i) → span (tag_offset s i) (tag_offset s i + length (tag_property s i)) ≡ tag_span s i n
   pub part_empty : (n : ℕ) → length (tag_property s i) ≤ 0 → guess s i n ≡ tag_span s i n

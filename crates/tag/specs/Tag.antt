@@ -1,7 +1,7 @@
 -- The tag property before a node, and the tag's span (S9, P6): of the tokens going back from the node's start, each without its
 -- leading `[`, `{` and `,`, the first that does not begin with `&` decides. It is the property if it begins with `!`; otherwise, and
 -- where no token is left, there is none, and the span is guessed. What callers may count on stands in `Proved`.
-use Rattle.std.specs.Prelude.{ℕ, suc, ◌+◌, ◌-◌, min, Bool, ◌||◌, cond, List, [], ◌∷◌, eqb, length, take, drop, get_or}
+use Rattle.std.specs.Prelude.{ℕ, suc, ◌+◌, ◌-◌, min, Bool, ◌||◌, cond, Option, Some, None, List, [], ◌∷◌, eqb, length, take, drop, get_or}
 use Rattle.tag.specs.Tokens.{Token, token, byte_length, tokens_before}
 use Rattle.tag.specs.declared.property.TagSpan.{TagSpan}
 
@@ -35,31 +35,27 @@ is_anchor t = token_begins 0x26 t
 abbrev pub span : ℕ → ℕ → TagSpan
 span a b = record { start = a; end = b }
 
-pub data Found : Type 0 where
-  found : TagSpan → Found
-  none : Found
-
 unfoldable pub span_of : Token → TagSpan
 span_of t = span t.start (t.start + byte_length t.chars)
 
 -- what a property says, where `further` is what the tokens before it say
-unfoldable pub decide : Token → Found → Found
-decide p further = cond (is_tag p) (found (span_of p)) (cond (is_anchor p) further none)
+unfoldable pub decide : Token → Option TagSpan → Option TagSpan
+decide p further = cond (is_tag p) (Some (span_of p)) (cond (is_anchor p) further None)
 
 -- of tokens, the nearest first
-unfoldable pub first_tag : List Token → Found
-first_tag [] = none
+unfoldable pub first_tag : List Token → Option TagSpan
+first_tag [] = None
 first_tag (t ∷ ts) = decide (property t) (first_tag ts)
 
 -- the tag property before the node at byte i of the text s
-unfoldable pub tag_before : List ℕ → ℕ → Found
+unfoldable pub tag_before : List ℕ → ℕ → Option TagSpan
 tag_before s i = first_tag (tokens_before s i)
 
 -- ---- what is handed back
 
-abbrev pub span_or : Found → TagSpan → TagSpan
-span_or (found p) q = p
-span_or none q = q
+abbrev pub span_or : Option TagSpan → TagSpan → TagSpan
+span_or (Some p) q = p
+span_or None q = q
 
 -- its span; where there is none, the empty one at the node's start
 unfoldable pub property_span : List ℕ → ℕ → TagSpan

@@ -2,10 +2,11 @@
 ghost use Rattle.std.specs.Prelude.{◌≡◌};
 ghost use Rattle.utf8.specs.Utf8.{Utf8};
 ghost use Rattle.utf8.specs.Boundary.{Boundary};
-ghost use Rattle.tag.specs.Tag.{property_span, tag_property, tag_offset, tag_span};
+ghost use Rattle.tag.specs.Tag.{tag_before, tag_property, tag_offset, tag_span};
 
 use crate::token::{back_over, opening_len};
 use utf8::utf8::byte_at;
+use utf8::white_space::is_white_space;
 
 // What a tag and an anchor begin with.
 const TAG: u8 = b'!';
@@ -13,39 +14,34 @@ const TAG: u8 = b'!';
 const ANCHOR: u8 = b'&';
 
 // The bytes from `start` to `end`, `end` not counted in.
-#[derive(Clone, Copy)]
+#[derive(Clone, Copy, Debug, PartialEq, Eq)]
 pub struct TagSpan {
     pub start: usize,
     pub end: usize,
 }
 
-// The span of the tag property before the node that starts at byte `node`, found going back token by token; where there is none, the
-// empty span at `node`.
-fn find_property(text: &[u8], node: usize) -> TagSpan
+// The span of the tag property before the node that starts at byte `node`, found going back token by token.
+fn find_property(text: &[u8], node: usize) -> Option<TagSpan>
     requires utf8 { Utf8 text.now }
     requires boundary { Boundary text.now node }
-    ensures { result ≡ property_span text.now node }
+    ensures { result ≡ tag_before text.now node }
 {
     let mut before = node;
     loop {
-        let end = back_over(text, before, true);
-        let start = back_over(text, end, false);
+        let end = back_over(text, before, is_white_space);
+        let start = back_over(text, end, |c| !is_white_space(c));
         let token = &text[start..end];
         let dropped = opening_len(token);
-        let mark = byte_at(token, dropped);
-        if mark == TAG {
-            return TagSpan {
-                start: start + dropped,
-                end,
-            };
+        match byte_at(token, dropped) {
+            TAG => {
+                return Some(TagSpan {
+                    start: start + dropped,
+                    end,
+                });
+            }
+            ANCHOR => before = start,
+            _ => return None,
         }
-        if mark != ANCHOR {
-            return TagSpan {
-                start: node,
-                end: node,
-            };
-        }
-        before = start;
     }
 }
 
@@ -55,20 +51,20 @@ pub fn find_tag_span(text: &[u8], node: usize) -> &[u8]
     requires boundary { Boundary text.now node }
     ensures { result.now ≡ tag_property text.now node }
 {
-    let found = find_property(text, node);
-    let start = found.start;
-    let end = found.end;
-    &text[start..end]
+    match find_property(text, node) {
+        Some(p) => &text[p.start..p.end],
+        None => &text[node..node],
+    }
 }
 
 // The byte offset of that part; `node` where there is no property.
+#[tactic(auto, unfolding(crate::specs::Tag::tag_offset, crate::specs::Tag::property_span))]
 pub fn find_tag_offset(text: &[u8], node: usize) -> usize
     requires utf8 { Utf8 text.now }
     requires boundary { Boundary text.now node }
     ensures { result ≡ tag_offset text.now node }
 {
-    let found = find_property(text, node);
-    found.start
+    find_property(text, node).map_or(node, |p| p.start)
 }
 
 // The span of the tag of the node that starts at byte `node`, its suffix being `suffix` bytes long: the property before the node, as
@@ -80,8 +76,7 @@ pub fn make_tag_info(text: &[u8], node: usize, suffix: usize) -> TagSpan
     ensures { result ≡ tag_span text.now node suffix }
 {
     let property = find_tag_span(text, node);
-    let found = 0 < property.len();
-    if found {
+    if !property.is_empty() {
         let start = find_tag_offset(text, node);
         return TagSpan {
             start,
@@ -89,14 +84,8 @@ pub fn make_tag_info(text: &[u8], node: usize, suffix: usize) -> TagSpan
         };
     }
     let left = text.len() - node;
-    if suffix < left {
-        return TagSpan {
-            start: node,
-            end: node + 1 + suffix,
-        };
-    }
     TagSpan {
         start: node,
-        end: text.len(),
+        end: node + suffix.saturating_add(1).min(left),
     }
 }

@@ -30,9 +30,6 @@ module _ (c : After-first_line-line) where
   fits_here : Fitting rest_now at_now c.first_line-line.result
   fits_here = line_fits rest_utf8 (c.loop-at.invariant.place c.loop-at-test.true) line_here
 
-pub first_line-first-requires : goal.first_line-first-requires
-first_line-first-requires c = c.requires
-
 pub overflow_add-at : goal.overflow_add-at
 overflow_add-at c = let f = line_fits c.requires (boundary_start c.requires) c.first_line-first.ensures in omega arith
 
@@ -55,9 +52,6 @@ overflow_add-at-in-loop-at c = let f = fits_here (goal.at.overflow_add-at-in-loo
 pub overflow_add-at-in-loop-at-2 : goal.overflow_add-at-in-loop-at-2
 overflow_add-at-in-loop-at-2 c = let f = fits_here (goal.at.overflow_add-at-in-loop-at-2 c).After-first_line-line in omega arith
 
-pub loop-at-smaller : goal.loop-at-smaller
-loop-at-smaller c = let h = c.loop-at-test.true in omega arith
-
 pub loop-at-preserved : goal.loop-at-preserved
 loop-at-preserved c =
     let r = c.loop-at.invariant in
@@ -70,6 +64,3 @@ loop-at-preserved c =
 
 pub returns : goal.returns
 returns c = block_at-end c.loop-at.invariant c.loop-at-test.false
-
-pub slice_bounds-first_line-count : goal.slice_bounds-first_line-count
-slice_bounds-first_line-count c = omega arith

@@ -5,8 +5,8 @@ use lib.ListN.{length}
 use Rattle.measure.proofs.Line.{CountingLine}
 use Rattle.measure.proofs.block.first_line.Given as goal
 
-abbrev pub invariant-loop-len : goal.invariant-loop-len
-invariant-loop-len l = CountingLine l.tail l.lead l.trimmed l.len
+abbrev pub invariant-loop-c : goal.invariant-loop-c
+invariant-loop-c l = CountingLine l.tail l.lead l.trimmed l.len
 
-abbrev pub decreases-loop-len : goal.decreases-loop-len
-decreases-loop-len l = length l.tail - l.len
+abbrev pub decreases-loop-c : goal.decreases-loop-c
+decreases-loop-c l = length l.tail - l.len

@@ -6,8 +6,8 @@ use lib.ListN.{length, drop}
 use Rattle.measure.specs.Quoted.{further, to_closing, quoted_len}
 use Rattle.measure.proofs.quoted.quoted_scalar_len.Given as goal
 
-abbrev pub invariant-loop-i : goal.invariant-loop-i
-invariant-loop-i l = further l.i (to_closing l.quote (drop l.i l.rest)) ≡ quoted_len l.rest l.quote
+abbrev pub invariant-loop-b : goal.invariant-loop-b
+invariant-loop-b l = further l.i (to_closing l.quote (drop l.i l.rest)) ≡ quoted_len l.rest l.quote
 
-abbrev pub decreases-loop-i : goal.decreases-loop-i
-decreases-loop-i l = length l.rest - l.i
+abbrev pub decreases-loop-b : goal.decreases-loop-b
+decreases-loop-b l = length l.rest - l.i

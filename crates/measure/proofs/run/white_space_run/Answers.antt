@@ -1,36 +1,27 @@
-use mathlib.Core.Path.{sym, ◌∙◌}
-use native.Mathlib.Omega.{arith}
+use Rattle.std.proofs.Common.{sym, ◌∙◌, arith}
 use Rattle.utf8.proofs.Utf8Laws.{CharAt}
-use Rattle.measure.proofs.Read.{char_read}
-use Rattle.measure.proofs.Runs.{run_begins, run_at_end, counting_stops, counting_goes_on, newline_now, newline_not_now}
+use Rattle.measure.proofs.Read.{some_read, none_read}
+use Rattle.measure.proofs.Runs.{run_begins, run_at_end, counting_stops, counting_goes_on}
 use Rattle.measure.proofs.run.white_space_run.Goals as goal
-use Rattle.measure.proofs.run.white_space_run.Goals.{After-first_char-c, then-c-eq-NEWLINE, else-c-eq-NEWLINE}
+use Rattle.measure.proofs.run.white_space_run.Goals.{In-Some}
 
-char_here : (c : After-first_char-c) → CharAt c.args.tail.now c.loop-len.len c.first_char-c.result
-char_here c = char_read c.requires c.loop-len.invariant.boundary c.loop-len-test.true c.first_char-c.ensures
+char_here : (c : In-Some) → CharAt c.args.tail.now c.loop-c.len c.in-Some.c
+char_here c = some_read c.requires c.loop-c.invariant.boundary c.in-Some.ensures
 
-pub loop-len-init : goal.loop-len-init
-loop-len-init c = run_begins c.requires
-
-pub returns-then-not-is_white_space : goal.returns-then-not-is_white_space
-returns-then-not-is_white_space c = counting_stops c.loop-len.invariant (char_here (goal.at.returns-then-not-is_white_space c).After-first_char-c) (sym c.is_white_space.ensures ∙ c.if-not-is_white_space.true)
+pub loop-c-init : goal.loop-c-init
+loop-c-init c = run_begins c.requires
 
 pub overflow_add-len : goal.overflow_add-len
-overflow_add-len c = let room = (char_here (goal.at.overflow_add-len c).After-first_char-c).room in omega arith
+overflow_add-len c = let k = char_here (goal.at.overflow_add-len c).In-Some in omega arith
 
-pub loop-len-smaller : goal.loop-len-smaller
-loop-len-smaller c = let k = char_here (goal.at.loop-len-smaller c).After-first_char-c in omega arith
+pub loop-c-smaller : goal.loop-c-smaller
+loop-c-smaller c = let k = char_here (goal.at.loop-c-smaller c).In-Some in omega arith
 
-pub loop-len-preserved : goal.loop-len-preserved
-loop-len-preserved c =
-    let t = c.loop-len.newline in
-    let code = c.first_char-c.result.code in
-    counting_goes_on c.loop-len.invariant (char_here (goal.at.loop-len-preserved c).After-first_char-c) (sym c.is_white_space.ensures ∙ c.if-not-is_white_space.false)
-    c.if-c-eq-NEWLINE.newline
-    (elim c.if-c-eq-NEWLINE.branch [
-      | then-c-eq-NEWLINE w ↦ newline_now t c.if-c-eq-NEWLINE.newline code w.if-c-eq-NEWLINE.true w.newline-is
-      | else-c-eq-NEWLINE w ↦ newline_not_now t c.if-c-eq-NEWLINE.newline code w.if-c-eq-NEWLINE.false w.newline-is
-    ])
+pub loop-c-preserved : goal.loop-c-preserved
+loop-c-preserved c = counting_goes_on c.loop-c.invariant (char_here (goal.at.loop-c-preserved c).In-Some) (sym c.is_white_space.ensures ∙ c.if-not-is_white_space.false)
 
-pub returns : goal.returns
-returns c = run_at_end c.loop-len.invariant c.loop-len-test.false
+pub returns-then-not-is_white_space : goal.returns-then-not-is_white_space
+returns-then-not-is_white_space c = counting_stops c.loop-c.invariant (char_here (goal.at.returns-then-not-is_white_space c).In-Some) (sym c.is_white_space.ensures ∙ c.if-not-is_white_space.true)
+
+pub returns-in_default : goal.returns-in_default
+returns-in_default c = run_at_end c.loop-c.invariant (none_read c.requires c.loop-c.invariant.boundary c.in_default.ensures)

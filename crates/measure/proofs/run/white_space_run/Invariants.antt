@@ -5,8 +5,8 @@ use lib.ListN.{length}
 use Rattle.measure.proofs.Runs.{CountingRun}
 use Rattle.measure.proofs.run.white_space_run.Given as goal
 
-abbrev pub invariant-loop-len : goal.invariant-loop-len
-invariant-loop-len l = CountingRun l.tail l.len l.newline
+abbrev pub invariant-loop-c : goal.invariant-loop-c
+invariant-loop-c l = CountingRun l.tail l.len l.newline
 
-abbrev pub decreases-loop-len : goal.decreases-loop-len
-decreases-loop-len l = length l.tail - l.len
+abbrev pub decreases-loop-c : goal.decreases-loop-c
+decreases-loop-c l = length l.tail - l.len

@@ -1,37 +1,30 @@
-use mathlib.Core.Path.{refl}
-use native.Mathlib.Omega.{arith}
+use Rattle.std.proofs.Common.{rules, tests, arith}
+use Rattle.utf8.specs.WhiteSpace.{is_white_space}
+use Rattle.tag.specs.Back.{is_token_char}
 use Rattle.tag.proofs.TokenLaws.{LastToken, end_boundary, last_token}
-use Rattle.tag.proofs.Turn.{Turn, turn, tag_fits, tag_found, none_found, anchor_less, anchor_passed}
+use Rattle.tag.proofs.Turn.{Turn, turn, tag_found, none_found, anchor_less, anchor_passed}
 use Rattle.tag.proofs.property.find_property.Goals as goal
-use Rattle.tag.proofs.property.find_property.Goals.{After-back_over-start, After-byte_at-mark}
+use Rattle.tag.proofs.property.find_property.Goals.{After-back_over-start, After-byte_at}
 
 -- the token that was cut out, where both its ends are known
-token-at :
-    (c : After-back_over-start)
-    → LastToken c.args.text.now c.loop-node.before c.back_over-start.result c.back_over-end.result
+token-at : (c : After-back_over-start) → LastToken c.args.text.now c.loop-before.before c.back_over-start.result c.back_over-end.result
 token-at c =
-    last_token c.requires.utf8 c.loop-node.invariant.edge c.back_over-end.ensures c.back_over-start.ensures
+    last_token c.requires.utf8 c.loop-before.invariant.edge
+    (c.back_over-end.ensures is_white_space (λ x b p. search rules))
+    (c.back_over-start.ensures is_token_char (λ x b p. search (rules, tests)))
 
 -- what it says, where its mark is known
 turn_at :
-    (c : After-byte_at-mark)
-    → let given = c.args in
-    Turn given.text.now given.node c.loop-node.before c.back_over-start.result c.back_over-end.result
-    c.opening_len-dropped.result c.byte_at-mark.result
+    (c : After-byte_at)
+    → Turn c.args.text.now c.args.node c.loop-before.before c.back_over-start.result c.back_over-end.result c.opening_len-dropped.result c.byte_at.result
 turn_at c =
-    turn c.requires.utf8 c.loop-node.invariant c.back_over-end.ensures c.back_over-start.ensures
-    c.opening_len-dropped.ensures c.byte_at-mark.ensures
+    turn c.requires.utf8 c.loop-before.invariant
+    (c.back_over-end.ensures is_white_space (λ x b p. search rules))
+    (c.back_over-start.ensures is_token_char (λ x b p. search (rules, tests)))
+    c.opening_len-dropped.ensures c.byte_at.ensures
 
-pub loop-node-init : goal.loop-node-init
-loop-node-init c = record { edge = c.requires.boundary; same = refl }
-
-pub back_over-end-requires : goal.back_over-end-requires
-back_over-end-requires c = record { utf8 = c.requires.utf8; boundary = c.loop-node.invariant.edge }
-
-pub back_over-start-requires : goal.back_over-start-requires
-back_over-start-requires c =
-    let text = c.requires.utf8 in
-    record { utf8 = text; boundary = end_boundary text c.loop-node.invariant.edge c.back_over-end.ensures }
+pub back_over-start-requires-clause-boundary : goal.back_over-start-requires-clause-boundary
+back_over-start-requires-clause-boundary c = end_boundary c.requires.utf8 c.loop-before.invariant.edge (c.back_over-end.ensures is_white_space (λ x b p. search rules))
 
 pub slice_bounds-token-count : goal.slice_bounds-token-count
 slice_bounds-token-count c = let whole = (token-at c).whole in omega arith
@@ -42,17 +35,14 @@ slice_bounds-token-start c = let whole = (token-at c).whole in omega arith
 pub slice_bounds-token-end : goal.slice_bounds-token-end
 slice_bounds-token-end c = (token-at c).end.within
 
-pub overflow_add-result : goal.overflow_add-result
-overflow_add-result c = let fits = tag_fits (turn_at (goal.at.overflow_add-result c).After-byte_at-mark) c.if-mark-eq-TAG.true in omega arith
+pub returns-in-33 : goal.returns-in-33
+returns-in-33 c = tag_found (turn_at (goal.at.returns-in-33 c).After-byte_at) c.in-33.is
 
-pub returns-then-mark-eq-TAG : goal.returns-then-mark-eq-TAG
-returns-then-mark-eq-TAG c = tag_found (turn_at (goal.at.returns-then-mark-eq-TAG c).After-byte_at-mark) c.if-mark-eq-TAG.true
+pub loop-before-smaller : goal.loop-before-smaller
+loop-before-smaller c = anchor_less (turn_at (goal.at.loop-before-smaller c).After-byte_at) c.in-38.is
 
-pub returns-then-mark-ne-ANCHOR : goal.returns-then-mark-ne-ANCHOR
-returns-then-mark-ne-ANCHOR c = none_found (turn_at (goal.at.returns-then-mark-ne-ANCHOR c).After-byte_at-mark) c.if-mark-eq-TAG.false c.if-mark-ne-ANCHOR.true
+pub loop-before-preserved : goal.loop-before-preserved
+loop-before-preserved c = anchor_passed (turn_at (goal.at.loop-before-preserved c).After-byte_at) c.in-38.is
 
-pub loop-node-smaller : goal.loop-node-smaller
-loop-node-smaller c = anchor_less (turn_at (goal.at.loop-node-smaller c).After-byte_at-mark) c.if-mark-ne-ANCHOR.false
-
-pub loop-node-preserved : goal.loop-node-preserved
-loop-node-preserved c = anchor_passed (turn_at (goal.at.loop-node-preserved c).After-byte_at-mark) c.if-mark-ne-ANCHOR.false
+pub returns-in_default : goal.returns-in_default
+returns-in_default c = none_found (turn_at (goal.at.returns-in_default c).After-byte_at) (λ e. omega arith) (λ e. omega arith)

@@ -3,8 +3,8 @@
 use Rattle.tag.proofs.Turn.{Searching}
 use Rattle.tag.proofs.property.find_property.Given as goal
 
-abbrev pub invariant-loop-node : goal.invariant-loop-node
-invariant-loop-node l = Searching l.text l.node l.before
+abbrev pub invariant-loop-before : goal.invariant-loop-before
+invariant-loop-before l = Searching l.text l.node l.before
 
-abbrev pub decreases-loop-node : goal.decreases-loop-node
-decreases-loop-node l = l.before
+abbrev pub decreases-loop-before : goal.decreases-loop-before
+decreases-loop-before l = l.before

@@ -1,44 +1,26 @@
-use mathlib.Core.Path.{◌≡◌, sym, ◌∙◌, ap}
-use mathlib.Core.Bool.{Bool, true, false, not, beq}
-use Prim.Native.Nat.{ℕ}
-use borrow.Author.Tests.{not-true, not-false}
-use Rattle.utf8.specs.WhiteSpace.{is_white_space}
-use Rattle.tag.specs.Back.{is_space}
-use Rattle.tag.proofs.Steps.{going_start, going_ends, Stepping, stepping, step_less, going_stops, going_on}
+use Rattle.std.proofs.Common.{sym, ◌∙◌, arith}
+use Rattle.tag.proofs.Steps.{going_ends, some_before, none_before, going_stops, going_on}
 use Rattle.tag.proofs.token.back_over.Goals as goal
-use Rattle.tag.proofs.token.back_over.Goals.{After-last_char-c}
-
--- the code's test is whether the character is of the kind
-of_kind_lem : (space : Bool) (c : ℕ) (w : Bool) → w ≡ is_white_space c → beq w space ≡ is_space space c
-of_kind_lem true c true e = e
-of_kind_lem true c false e = e
-of_kind_lem false c true e = ap not e
-of_kind_lem false c false e = ap not e
-
--- the character before `j`
-step-at :
-    (c : After-last_char-c)
-    → let given = c.args in
-    Stepping (is_space given.space) given.text.now given.i c.loop-j.j c.last_char-c.result
-step-at c = stepping c.requires.utf8 c.loop-j.invariant c.loop-j-test.true c.last_char-c.ensures
-
-pub loop-j-init : goal.loop-j-init
-loop-j-init c = going_start (is_space c.args.space) c.requires.boundary
-
-pub last_char-c-requires : goal.last_char-c-requires
-last_char-c-requires c = record { utf8 = c.requires.utf8; boundary = c.loop-j.invariant.edge }
-
-pub returns-then-is_white_space-space : goal.returns-then-is_white_space-space
-returns-then-is_white_space-space c = going_stops (step-at (goal.at.returns-then-is_white_space-space c).After-last_char-c) (sym (of_kind_lem _ _ _ c.is_white_space.ensures) ∙ not-true _ c.if-is_white_space-space.true)
+use Rattle.tag.proofs.token.back_over.Goals.{In-Some, in-Some+then-not-kind, in_default}
 
 pub overflow_sub-j : goal.overflow_sub-j
-overflow_sub-j c = (step-at (goal.at.overflow_sub-j c).After-last_char-c).last.fits
+overflow_sub-j g c = (some_before c.requires.utf8 c.loop-c.invariant.edge c.in-Some.ensures).fits
 
-pub loop-j-smaller : goal.loop-j-smaller
-loop-j-smaller c = step_less (step-at (goal.at.loop-j-smaller c).After-last_char-c)
+pub loop-c-smaller : goal.loop-c-smaller
+loop-c-smaller g c = let t = some_before c.requires.utf8 c.loop-c.invariant.edge c.in-Some.ensures in omega arith
 
-pub loop-j-preserved : goal.loop-j-preserved
-loop-j-preserved c = going_on (step-at (goal.at.loop-j-preserved c).After-last_char-c) (sym (of_kind_lem _ _ _ c.is_white_space.ensures) ∙ not-false _ c.if-is_white_space-space.false)
+pub loop-c-preserved : goal.loop-c-preserved
+loop-c-preserved g c =
+    let t = some_before c.requires.utf8 c.loop-c.invariant.edge c.in-Some.ensures in
+    record {
+      edge = t.edge;
+      going = λ test tells. going_on c.requires.utf8 t (c.loop-c.invariant.going test tells) (sym (tells _ _ c.kind.ensures) ∙ c.if-not-kind.false);
+    }
 
 pub returns : goal.returns
-returns c = going_ends c.requires.utf8 c.loop-j.invariant c.loop-j-test.false
+returns g c = λ test tells.
+    let going = c.loop-c.invariant.going test tells in
+    elim c.match-last_char.branch [
+      | in-Some+then-not-kind w ↦ going_stops c.requires.utf8 (some_before c.requires.utf8 c.loop-c.invariant.edge w.in-Some.ensures) going (sym (tells _ _ w.kind.ensures) ∙ w.if-not-kind.true)
+      | in_default w ↦ going_ends c.requires.utf8 going (none_before c.requires.utf8 c.loop-c.invariant.edge w.in_default.ensures)
+    ]

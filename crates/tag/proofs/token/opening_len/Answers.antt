@@ -1,36 +1,17 @@
-use mathlib.Core.Path.{sym, ◌∙◌}
-use native.Mathlib.Omega.{arith}
-use Rattle.tag.proofs.Openings.{openings_here, openings_on, openings_end}
+-- `tag::token::opening_len` meets its contract: it counts the token's longest prefix of such bytes.
+use Rattle.std.proofs.Common.{rules, tests, ◌∙◌}
+use Rattle.std.proofs.lemmas.Iterator.{YieldsList-from_slice}
+use Rattle.std.proofs.lemmas.Iterator.Search.{YieldsList-from_take_while}
+use Rattle.std.proofs.lemmas.Iterator.Consumers.{count_from_yields_List}
+use Rattle.std.proofs.lemmas.List.Folds.{length-prefix_len}
+use Rattle.tag.specs.Tag.{is_opening}
+use Rattle.tag.proofs.Openings.{prefix_openings}
 use Rattle.tag.proofs.token.opening_len.Goals as goal
-
-pub loop-i-init : goal.loop-i-init
-loop-i-init c = (omega arith, omega arith)
-
-pub bounds-token-i : goal.bounds-token-i
-bounds-token-i c = omega arith
-
-pub returns-then-not-is_opening : goal.returns-then-not-is_opening
-returns-then-not-is_opening c =
-    let byte = sym c.is_opening.ensures ∙ c.if-not-is_opening.true in
-    let here = openings_here c.args.token.now c.loop-i.i c.loop-i-test.true byte in
-    let inv = c.loop-i.invariant.1 in
-    omega arith
-
-pub overflow_add-i : goal.overflow_add-i
-overflow_add-i c = omega arith
-
-pub loop-i-smaller : goal.loop-i-smaller
-loop-i-smaller c = omega arith
-
-pub loop-i-preserved : goal.loop-i-preserved
-loop-i-preserved c =
-    let byte = sym c.is_opening.ensures ∙ c.if-not-is_opening.false in
-    let on = openings_on c.args.token.now c.loop-i.i c.loop-i-test.true byte in
-    let inv = c.loop-i.invariant.1 in
-    (omega arith, omega arith)
 
 pub returns : goal.returns
 returns c =
-    let end = openings_end c.args.token.now c.loop-i.i c.loop-i-test.false in
-    let inv = c.loop-i.invariant.1 in
-    omega arith
+    let s = c.args.token.now in
+    count_from_yields_List c.take_while.result _ c.count.ensures.ran
+    (YieldsList-from_take_while _ is_opening (YieldsList-from_slice s (cc)) c.take_while.ensures.closure c.take_while.ensures.done (λ x b q k. search (rules, tests)))
+    ∙ length-prefix_len is_opening s
+    ∙ prefix_openings s
