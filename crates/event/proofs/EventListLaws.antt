@@ -8,15 +8,15 @@ use native.Mathlib.Decide.{dec_lt}
 use native.Mathlib.Omega.{arith}
 use lib.ListN.{length, drop, length-append, length-drop}
 use lib.Seq.{drop-append_seam}
+use Rattle.std.specs.Prelude.{Err}
 use Rattle.utf8.specs.Ascii.{Bytes}
 use Rattle.event.specs.Encode.{YamlEvent, encode_event, SoundEvent}
-use Rattle.event.specs.Read.{read_event}
+use Rattle.event.specs.Read.{malformed, read_event}
 use Rattle.event.specs.Meaning.{StandsAt, Answers}
 use Rattle.event.specs.EventList.{encode_events, AllSound, Front}
 use Rattle.event.specs.Proved.{Unambiguous}
 use Rattle.event.proofs.EncodeLaws.{stands_after, body_length, event_length}
 use Rattle.event.proofs.ReadLaws.{malformed_or_answers, malformed_none_stands, encode_prefix_free, encode_injective}
-use Rattle.event.specs.declared.read.Event.TheVariants.{Malformed}
 
 -- an event takes a header and a marker index at least
 pub event_takes : (e : YamlEvent) → 7 ≤ length (encode_event e)
@@ -82,7 +82,7 @@ module _ (s : List ℕ) where
           none [] e = refl
           none (x ∷ xs) e = absurd (omega arith)
 
-  stuck : (i : ℕ) → i < length s → read_event s i ≡ Malformed → Found i
+  stuck : (i : ℕ) → i < length s → read_event s i ≡ Err malformed → Found i
   unfolding encode_events AllSound
   stuck i h bad =
       let l = length-drop i s in
@@ -106,7 +106,7 @@ module _ (s : List ℕ) where
     from zero i h = ended i (omega arith)
     from (suc f) i h = by (dec_lt i (length s)) (malformed_or_answers s bytes i) (λ j g. from f j g)
       where
-        by : Dec (i < length s) → (read_event s i ≡ Malformed) ⊎ Answers s i (read_event s i) → ((j : ℕ) → length s ≤ j + f → Found j) → Found i
+        by : Dec (i < length s) → (read_event s i ≡ Err malformed) ⊎ Answers s i (read_event s i) → ((j : ℕ) → length s ≤ j + f → Found j) → Found i
         by (no l) a rest = ended i (omega arith)
         by (yes l) (inl bad) rest = stuck i l bad
         by (yes l) (inr a) rest = let t = event_takes a.event in more i a.event a.stands (rest (i + length (encode_event a.event)) (omega arith))

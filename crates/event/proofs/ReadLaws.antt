@@ -2,60 +2,45 @@
 -- of its strings; and it says malformed exactly where none stands (E1, R3). So two sound events never have the same bytes, and neither
 -- starts with the other's. Below that, what holds of every answer. `Bytes s` says that the numbers of s are bytes, as those of any
 -- slice of the code are.
-use mathlib.Core.Path.{◌≡◌, refl, sym, ◌∙◌, ap}
-use mathlib.Core.Bool.{Bool}
-use mathlib.Core.List.{List, [], ◌∷◌, ◌++◌, append_assoc}
-use mathlib.Core.Logic.{◌⊎◌, inl, inr}
-use Prim.Native.Nat.{ℕ, ◌+◌}
-use native.Mathlib.Omega.{arith}
-use lib.ListN.{length, drop}
+use Rattle.std.specs.Prelude.{◌≡◌, refl, Bool, List, [], ◌∷◌, ◌++◌, ◌⊎◌, ℕ, ◌+◌, length, drop, Some, Ok, Err}
+use Rattle.std.proofs.Common.{sym, ◌∙◌, ap, inl, inr, arith, append_assoc}
 use Rattle.event.specs.Number.{high_first}
 use Rattle.utf8.specs.Ascii.{Bytes}
 use Rattle.event.specs.Encode.{Tag, untagged, tagged, YamlEvent, sequence_start, sequence_end, mapping_start, mapping_end, scalar, alias, encode_string, encode_tag, encode_flag, marker_index, encode_rest, encode_event, SoundTag, SoundEvent}
-use Rattle.event.specs.Read.{part, part_of, read_event}
-use Rattle.event.specs.Meaning.{StandsAt, placed_tag, placed_body, placed, Answers, says, said_tag, said, Exact}
+use Rattle.event.specs.Read.{malformed, part, part_of, read_event}
+use Rattle.event.specs.Meaning.{StandsAt, placed_tag, placed_body, placed, Answers, said_tag, said, Exact}
 use Rattle.event.specs.Proved.{TextParts, EventPassed, EventWithin}
 use Rattle.event.proofs.EncodeLaws.{stands_after, stands_inside, byte_after, number_after, part_stands, tag_length, rest_length, body_length, event_length}
 use Rattle.event.proofs.WrittenIsRead.{rest-stands, event_read}
 use Rattle.event.proofs.ReadIsWritten.{event_found}
-use Rattle.event.specs.declared.read.Event.TheVariants.{Malformed}
 
 -- ---- an event is answered exactly where one stands
 
 -- nothing sound is refused, and it is read as what it is
-pub sound_is_read : (s : List ℕ) (i : ℕ) (e : YamlEvent) → StandsAt s i e → read_event s i ≡ placed i e
+pub sound_is_read : (s : List ℕ) (i : ℕ) (e : YamlEvent) → StandsAt s i e → read_event s i ≡ Ok (placed i e)
 sound_is_read = event_read
 
 -- at every place one or the other
-pub malformed_or_answers : (s : List ℕ) → Bytes s → (i : ℕ) → (read_event s i ≡ Malformed) ⊎ Answers s i (read_event s i)
+pub malformed_or_answers : (s : List ℕ) → Bytes s → (i : ℕ) → (read_event s i ≡ Err malformed) ⊎ Answers s i (read_event s i)
 malformed_or_answers = event_found
 
 -- nothing else gets through: an answer that is not malformed is that of an event that stands there
-pub read_is_sound : (s : List ℕ) → Bytes s → (i : ℕ) → (read_event s i ≡ Malformed → ⊥) → Answers s i (read_event s i)
+pub read_is_sound : (s : List ℕ) → Bytes s → (i : ℕ) → (read_event s i ≡ Err malformed → ⊥) → Answers s i (read_event s i)
 read_is_sound s bytes i h = go (malformed_or_answers s bytes i)
   where
-    go : (read_event s i ≡ Malformed) ⊎ Answers s i (read_event s i) → Answers s i (read_event s i)
+    go : (read_event s i ≡ Err malformed) ⊎ Answers s i (read_event s i) → Answers s i (read_event s i)
     go (inl x) = absurd (h x)
     go (inr x) = x
 
-not_malformed : (i : ℕ) (e : YamlEvent) → placed i e ≡ Malformed → ⊥
-unfolding placed
-not_malformed i (sequence_start m t) q = let z : ◌≡◌ {A = ℕ} 0 1 = cc in omega arith
-not_malformed i (sequence_end m) q = let z : ◌≡◌ {A = ℕ} 0 1 = cc in omega arith
-not_malformed i (mapping_start m t) q = let z : ◌≡◌ {A = ℕ} 0 1 = cc in omega arith
-not_malformed i (mapping_end m) q = let z : ◌≡◌ {A = ℕ} 0 1 = cc in omega arith
-not_malformed i (scalar m c y f t v) q = let z : ◌≡◌ {A = ℕ} 0 1 = cc in omega arith
-not_malformed i (alias m) q = let z : ◌≡◌ {A = ℕ} 0 1 = cc in omega arith
-
 -- malformed means that no sound event stands there
-pub malformed_none_stands : (s : List ℕ) (i : ℕ) → read_event s i ≡ Malformed → (e : YamlEvent) → StandsAt s i e → ⊥
-malformed_none_stands s i h e stands = not_malformed i e (sym (sound_is_read s i e stands) ∙ h)
+pub malformed_none_stands : (s : List ℕ) (i : ℕ) → read_event s i ≡ Err malformed → (e : YamlEvent) → StandsAt s i e → ⊥
+malformed_none_stands s i h e stands = let is = sound_is_read s i e stands in cc
 
 -- and where none stands, malformed is answered
-pub none_stands_malformed : (s : List ℕ) → Bytes s → (i : ℕ) → ((e : YamlEvent) → StandsAt s i e → ⊥) → read_event s i ≡ Malformed
+pub none_stands_malformed : (s : List ℕ) → Bytes s → (i : ℕ) → ((e : YamlEvent) → StandsAt s i e → ⊥) → read_event s i ≡ Err malformed
 none_stands_malformed s bytes i h = go (malformed_or_answers s bytes i)
   where
-    go : (read_event s i ≡ Malformed) ⊎ Answers s i (read_event s i) → read_event s i ≡ Malformed
+    go : (read_event s i ≡ Err malformed) ⊎ Answers s i (read_event s i) → read_event s i ≡ Err malformed
     go (inl x) = x
     go (inr x) = absurd (h x.event x.stands)
 
@@ -99,7 +84,7 @@ module _ (s : List ℕ) where
   value_part : (i : ℕ) (t : Tag) (v u : List ℕ) → drop i s ≡ encode_tag t ++ (v ++ u) → part_of s (part (i + length (encode_tag t)) (length v)) ≡ v
   value_part i t v u stands = part_stands s (i + length (encode_tag t)) v u (stands_after s i (encode_tag t) (v ++ u) stands (i + length (encode_tag t)) refl)
 
-  rest_said : (i n : ℕ) (e : YamlEvent) (u : List ℕ) → drop i s ≡ encode_rest e ++ u → said s (placed_body i n e) ≡ says e
+  rest_said : (i n : ℕ) (e : YamlEvent) (u : List ℕ) → drop i s ≡ encode_rest e ++ u → said s (Ok (placed_body i n e)) ≡ Some e
   unfolding said encode_rest
   rest_said i n (sequence_start m t) u stands = rw (tag_said i t u stands)
   rest_said i n (sequence_end m) u stands = refl
@@ -111,7 +96,7 @@ module _ (s : List ℕ) where
   rest_said i n (alias m) u stands = refl
 
   -- an answer's numbers, and the bytes of its parts, are those of the event that stands there
-  pub parts_are : (i : ℕ) (e : YamlEvent) → StandsAt s i e → said s (placed i e) ≡ says e
+  pub parts_are : (i : ℕ) (e : YamlEvent) → StandsAt s i e → said s (Ok (placed i e)) ≡ Some e
   unfolding placed
   parts_are i e p = rest_said (i + 3 + 4) (i + length (encode_event e)) e p.rest (rest-stands s i e p)
 
@@ -120,7 +105,7 @@ module _ (s : List ℕ) where
 -- at one place stands one event
 pub stands_unique : (s : List ℕ) (i : ℕ) (e f : YamlEvent) → StandsAt s i e → StandsAt s i f → e ≡ f
 stands_unique s i e f p q =
-    let same : says e ≡ says f = sym (parts_are s i e p) ∙ ap (said s) (sym (sound_is_read s i e p) ∙ sound_is_read s i f q) ∙ parts_are s i f q in
+    let same : Some e ≡ Some f = sym (parts_are s i e p) ∙ ap (said s) (sym (sound_is_read s i e p) ∙ sound_is_read s i f q) ∙ parts_are s i f q in
     cc
 
 -- the bytes of a sound event start those of no other, whatever follows
@@ -139,7 +124,7 @@ module _ (s : List ℕ) (i : ℕ) where
       let size = event_length e in
       record { index_fits = p.sound.index_fits; onward = omega arith; inside = stands_inside s i (encode_event e) p.rest p.starts (omega arith) }
 
-  stands_within : (e : YamlEvent) → StandsAt s i e → EventWithin s i (placed i e)
+  stands_within : (e : YamlEvent) → StandsAt s i e → EventWithin s i (Ok (placed i e))
   unfolding placed encode_rest
   stands_within (sequence_start m t) p = (passed (sequence_start m t) p, tag_within s (i + 3 + 4) t p.rest (rest-stands s i (sequence_start m t) p) p.sound.rest)
   stands_within (sequence_end m) p = passed (sequence_end m) p
@@ -165,7 +150,7 @@ module _ (s : List ℕ) (i : ℕ) where
   pub answer_within : Bytes s → EventWithin s i (read_event s i)
   answer_within bytes = go (malformed_or_answers s bytes i)
     where
-      go : (read_event s i ≡ Malformed) ⊎ Answers s i (read_event s i) → EventWithin s i (read_event s i)
+      go : (read_event s i ≡ Err malformed) ⊎ Answers s i (read_event s i) → EventWithin s i (read_event s i)
       go (inl x) = rw x tt
       go (inr x) = rw x.answered (stands_within x.event x.stands)
 

@@ -3,6 +3,7 @@
 // An answer holds numbers, and the places and lengths of strings in the event bytes. Nothing is copied.
 #![tactic(auto)]
 
+pub mod malformed;
 pub mod number;
 pub mod read;
 pub mod string;

@@ -8,12 +8,9 @@ pub fn number_at(events: &[u8], at: usize, width: usize) -> u32
     requires width_in_bounds { at + width ≤ length events.now }
     ensures { result ≡ number_at events.now at width }
 {
-    let mut n: u32 = 0;
-    let mut k = 0;
-    while k < width {
-        let byte = events[at + k] as u32;
-        n = n * 256 + byte;
-        k += 1;
+    let mut n = 0;
+    for &byte in &events[at..at + width] {
+        n = n * 256 + u32::from(byte);
     }
     n
 }

@@ -1,10 +1,11 @@
 // The reader of one event. (01: Events; row 3 of the table.)
-ghost use Rattle.std.specs.Prelude.{◌≡◌, ◌≤◌, length};
-ghost use Rattle.event.specs.Read.{read_scalar, bare_event, read_body, read_event};
+ghost use Rattle.std.specs.Prelude.{◌≡◌};
+ghost use Rattle.event.specs.Read.{read_scalar, read_body, read_event};
 
+use crate::malformed::Malformed;
 use crate::number::number_at;
 use crate::string::Part;
-use crate::tag::{StartTag, TagRead, YamlTag, start_tag, tag_at};
+use crate::tag::{YamlTag, start_tag, tag_at};
 use utf8::utf8::is_utf8;
 
 // The most event bytes of a call.
@@ -15,6 +16,7 @@ const HEADER: usize = 3;
 // The bytes of the marker index, which every body starts with.
 const INDEX: usize = 4;
 
+// The tag bytes.
 const SEQUENCE_START: u8 = 1;
 
 const SEQUENCE_END: u8 = 2;
@@ -38,11 +40,11 @@ const YAML_TAG: usize = 6;
 const FOLDED: u8 = 4;
 
 // An event: its marker index, what its body adds, and the place after it.
-#[derive(Clone, Copy)]
+#[derive(Clone, Copy, Debug, PartialEq, Eq)]
 pub enum Event {
     SequenceStart {
         index: u32,
-        tag: YamlTag,
+        tag: Option<YamlTag>,
         next: usize,
     },
     SequenceEnd {
@@ -51,7 +53,7 @@ pub enum Event {
     },
     MappingStart {
         index: u32,
-        tag: YamlTag,
+        tag: Option<YamlTag>,
         next: usize,
     },
     MappingEnd {
@@ -63,7 +65,7 @@ pub enum Event {
         column: u32,
         style: u8,
         empty_span: bool,
-        tag: YamlTag,
+        tag: Option<YamlTag>,
         value: Part,
         next: usize,
     },
@@ -71,119 +73,84 @@ pub enum Event {
         index: u32,
         next: usize,
     },
-    // Number 3.
-    Malformed,
 }
 
-// The scalar whose body goes on from its column at `at` to `end`.
-fn read_scalar(events: &[u8], index: u32, at: usize, end: usize) -> Event
-    requires at_le_end { at ≤ end }
-    requires end_in_bounds { end ≤ length events.now }
-    ensures { result ≡ read_scalar events.now index at end }
+// The scalar whose body goes on from its column at `at` to the end of the bytes.
+#[tactic(auto, unfolding(crate::specs::Read::read_scalar))]
+fn read_scalar(events: &[u8], index: u32, at: usize) -> Result<Event, Malformed>
+    ensures { result ≡ read_scalar events.now index at }
 {
-    if end - at < YAML_TAG {
-        return Event::Malformed;
+    if events.len().saturating_sub(at) < YAML_TAG {
+        return Err(Malformed);
     }
     let column = number_at(events, at, 4);
     let style = events[at + STYLE];
-    if FOLDED < style {
-        return Event::Malformed;
-    }
     let flag = events[at + EMPTY_SPAN];
-    if 1 < flag {
-        return Event::Malformed;
+    if FOLDED < style || 1 < flag {
+        return Err(Malformed);
     }
-    let TagRead::Valid { tag, next: from } = tag_at(events, at + YAML_TAG, end) else {
-        return Event::Malformed;
-    };
-    if is_utf8(&events[from..end]) {
-        return Event::Scalar {
-            index,
-            column,
-            style,
-            empty_span: flag == 1,
-            tag,
-            value: Part {
-                at: from,
-                len: end - from,
-            },
-            next: end,
-        };
+    let (tag, from) = tag_at(events, at + YAML_TAG)?;
+    let value = &events[from..];
+    if !is_utf8(value) {
+        return Err(Malformed);
     }
-    Event::Malformed
+    Ok(Event::Scalar {
+        index,
+        column,
+        style,
+        empty_span: flag == 1,
+        tag,
+        value: Part {
+            at: from,
+            len: value.len(),
+        },
+        next: events.len(),
+    })
 }
 
-// The event of this kind whose body is its marker index alone.
-fn bare_event(kind: u8, index: u32, next: usize) -> Event
-    ensures { result ≡ bare_event kind index next }
-{
-    if kind == SEQUENCE_END {
-        return Event::SequenceEnd { index, next };
-    }
-    if kind == MAPPING_END {
-        return Event::MappingEnd { index, next };
-    }
-    if kind == ALIAS {
-        return Event::Alias { index, next };
-    }
-    Event::Malformed
-}
-
-// The event of this kind whose body goes on after its marker index, at `at`, to `end`.
+// The event of this kind whose body goes on after its marker index, at `at`, to the end of the bytes.
 #[tactic(auto, unfolding(crate::specs::Read::read_body))]
-fn read_body(events: &[u8], kind: u8, index: u32, at: usize, end: usize) -> Event
-    requires at_le_end { at ≤ end }
-    requires end_in_bounds { end ≤ length events.now }
-    ensures { result ≡ read_body events.now kind index at end }
+fn read_body(events: &[u8], kind: u8, index: u32, at: usize) -> Result<Event, Malformed>
+    ensures { result ≡ read_body events.now kind index at }
 {
-    if kind == SCALAR {
-        return read_scalar(events, index, at, end);
-    }
-    if kind == SEQUENCE_START {
-        let StartTag::Valid(tag) = start_tag(events, at, end) else {
-            return Event::Malformed;
-        };
-        return Event::SequenceStart {
+    let next = events.len();
+    match kind {
+        SCALAR => read_scalar(events, index, at),
+        SEQUENCE_START => Ok(Event::SequenceStart {
             index,
-            tag,
-            next: end,
-        };
-    }
-    if kind == MAPPING_START {
-        let StartTag::Valid(tag) = start_tag(events, at, end) else {
-            return Event::Malformed;
-        };
-        return Event::MappingStart {
+            tag: start_tag(events, at)?,
+            next,
+        }),
+        MAPPING_START => Ok(Event::MappingStart {
             index,
-            tag,
-            next: end,
-        };
+            tag: start_tag(events, at)?,
+            next,
+        }),
+        // The body of any other is its marker index alone.
+        _ if at < next => Err(Malformed),
+        SEQUENCE_END => Ok(Event::SequenceEnd { index, next }),
+        MAPPING_END => Ok(Event::MappingEnd { index, next }),
+        ALIAS => Ok(Event::Alias { index, next }),
+        _ => Err(Malformed),
     }
-    if at < end {
-        return Event::Malformed;
-    }
-    bare_event(kind, index, end)
 }
 
 // The event that starts at `at`, or Malformed: the header cut off, an unknown tag or style, a flag above 1, a body that is
 // short, overlong or past the bytes, or a value, handle or suffix that is no UTF-8.
-pub fn read_event(events: &[u8], at: usize) -> Event
+#[tactic(auto, unfolding(crate::specs::Read::read_event))]
+pub fn read_event(events: &[u8], at: usize) -> Result<Event, Malformed>
     ensures { result ≡ read_event events.now at }
 {
-    if events.len() < at {
-        return Event::Malformed;
-    }
-    if events.len() - at < HEADER {
-        return Event::Malformed;
+    if events.len().saturating_sub(at) < HEADER {
+        return Err(Malformed);
     }
     let len = number_at(events, at + 1, 2) as usize;
     let body = at + HEADER;
-    if events.len() - body < len {
-        return Event::Malformed;
-    }
-    if len < INDEX {
-        return Event::Malformed;
+    let end = body + len;
+    if events.len() < end || len < INDEX {
+        return Err(Malformed);
     }
     let index = number_at(events, body, INDEX);
-    read_body(events, events[at], index, body + INDEX, body + len)
+    // Nothing of the event is read past its body's end.
+    read_body(&events[..end], events[at], index, body + INDEX)
 }

@@ -1,7 +1,8 @@
 // The handle or the suffix of a YAML tag: a two-byte length, then as many bytes of UTF-8.
-ghost use Rattle.std.specs.Prelude.{◌≡◌, ◌≤◌, length};
-ghost use Rattle.event.specs.Read.{read_string};
+ghost use Rattle.std.specs.Prelude.{◌≡◌, ◌+◌, ◌≤◌, length, IfOk};
+ghost use Rattle.event.specs.Read.{part_of, read_string};
 
+use crate::malformed::Malformed;
 use crate::number::number_at;
 use utf8::utf8::is_utf8;
 
@@ -9,36 +10,36 @@ use utf8::utf8::is_utf8;
 const LENGTH: usize = 2;
 
 // A part of the event bytes.
-#[derive(Clone, Copy)]
+#[derive(Clone, Copy, Debug, PartialEq, Eq)]
 pub struct Part {
     pub at: usize,
     pub len: usize,
 }
 
-#[derive(Clone, Copy)]
-pub enum Text {
-    // The bytes of the string, its length left out.
-    Valid(Part),
-    // Cut off, or no UTF-8.
-    Invalid,
+impl Part {
+    // Its bytes.
+    pub fn bytes_in(self, events: &[u8]) -> &[u8]
+        requires { self.at + self.len ≤ length events.now }
+        ensures { result.now ≡ part_of events.now self }
+    {
+        &events[self.at..self.at + self.len]
+    }
 }
 
-// The string that starts at `at` and ends at `end` or before.
-pub fn string_at(events: &[u8], at: usize, end: usize) -> Text
-    requires at_le_end { at ≤ end }
-    requires end_in_bounds { end ≤ length events.now }
-    ensures { result ≡ read_string events.now at end }
+// The string that starts at `at`, its length left out, or Malformed: it is cut off, or no UTF-8.
+#[tactic(auto, unfolding(crate::specs::Read::read_string))]
+pub fn string_at(events: &[u8], at: usize) -> Result<Part, Malformed>
+    ensures value { result ≡ read_string events.now at }
+    ensures inside { IfOk result (λ p. p.at + p.len ≤ length events.now) }
 {
-    if end - at < LENGTH {
-        return Text::Invalid;
+    if events.len().saturating_sub(at) < LENGTH {
+        return Err(Malformed);
     }
     let len = number_at(events, at, LENGTH) as usize;
     let from = at + LENGTH;
-    if end - from < len {
-        return Text::Invalid;
+    let string = events.get(from..from + len).ok_or(Malformed)?;
+    if !is_utf8(string) {
+        return Err(Malformed);
     }
-    if is_utf8(&events[from..from + len]) {
-        return Text::Valid(Part { at: from, len });
-    }
-    Text::Invalid
+    Ok(Part { at: from, len })
 }

@@ -1,38 +1,28 @@
-use mathlib.Core.Path.{◌≡◌, ◌∙◌, ap}
-use Prim.Native.Nat.{◌+◌}
-use native.Mathlib.Numerals.{add-one}
-use native.Mathlib.Omega.{arith}
-use borrow.Author.Rules.{rules}
+use Rattle.std.proofs.Common.{◌≡◌, ℕ, ◌+◌, ◌-◌, ◌<◌, List, length, get_or, take, drop, ◌∙◌, rules, arith, add-one, length-take, get_or-take, get_or-drop}
 use Rattle.event.specs.Number.{number_at}
-use Rattle.utf8.specs.Ascii.{Bytes}
 use Rattle.event.proofs.NumberLaws.{number_grows}
 use Rattle.event.proofs.number.number_at.Goals as goal
 
-pub loop-k-init : goal.loop-k-init
-unfolding number_at
-loop-k-init c = search rules
+-- a byte of the number is one of the whole bytes
+byte_is : (s : List ℕ) (i w k : ℕ) → k < length (take (i + w - i) (drop i s)) → get_or (take (i + w - i) (drop i s)) k 0 ≡ get_or s (i + k) 0
+byte_is s i w k h = get_or-take (i + w - i) (drop i s) k 0 (omega (arith, length-take (i + w - i) (drop i s))) ∙ get_or-drop i s k 0
 
-pub overflow_cast-byte : goal.overflow_cast-byte
-overflow_cast-byte c = omega (arith, c.shared_slice_known-1.given (c.args.at + c.loop-k.k))
+pub loop-byte-init : goal.loop-byte-init
+unfolding number_at
+loop-byte-init c = search rules
 
 pub overflow_mul-n : goal.overflow_mul-n
 overflow_mul-n c =
-    let given = c.args in
-    let bytes : Bytes given.events.now = λ i. omega (arith, c.shared_slice_known-1.given i) in
-    omega (arith, number_grows given.events.now bytes given.at c.loop-k.k (omega arith))
+    let l = length-take (c.args.at + c.args.width - c.args.at) (drop c.args.at c.args.events.now) in
+    omega (arith, number_grows c.args.events.now (λ i. omega (arith, c.type_inv.events i)) c.args.at c.loop-byte.byte-index (omega arith))
 
 pub overflow_add-n : goal.overflow_add-n
 overflow_add-n c =
-    let given = c.args in
-    let bytes : Bytes given.events.now = λ i. omega (arith, c.shared_slice_known-1.given i) in
-    let byte = bytes (given.at + c.loop-k.k) in
-    omega (arith, number_grows given.events.now bytes given.at c.loop-k.k (omega arith))
+    let l = length-take (c.args.at + c.args.width - c.args.at) (drop c.args.at c.args.events.now) in
+    let small : c.from.result < 256 = search rules in
+    omega (arith, number_grows c.args.events.now (λ i. omega (arith, c.type_inv.events i)) c.args.at c.loop-byte.byte-index (omega arith))
 
-pub loop-k-preserved : goal.loop-k-preserved
+pub loop-byte-preserved : goal.loop-byte-preserved
 unfolding number_at
-loop-k-preserved c = (omega arith, rw (add-one, c.loop-k.invariant.1))
-
-pub returns : goal.returns
-returns c =
-    let all : c.loop-k.k ≡ c.args.width = omega arith in
-    c.loop-k.invariant.1 ∙ ap (number_at c.args.events.now c.args.at) all
+loop-byte-preserved c =
+    rw (add-one, c.loop-byte.invariant, c.from.ensures ∙ byte_is c.args.events.now c.args.at c.args.width c.loop-byte.byte-index c.loop-byte-test.true)
