@@ -1,5 +1,5 @@
 -- Demand 3 holds of the walk: `demand3` over any rules with a fair table of escapes, `demand3_of_scalars` of every scalar.
-use Rattle.std.specs.Prelude.{◌≡◌, refl, ◌⊎◌, ℕ, ◌+◌, ◌-◌, ◌*◌, ◌≤◌, ◌<◌, length, take, drop}
+use Rattle.std.specs.Prelude.{◌≡◌, refl, ◌⊎◌, Some, ℕ, ◌+◌, ◌-◌, ◌*◌, ◌≤◌, ◌<◌, length, take, drop}
 use Rattle.std.proofs.Common.{sym, ap, ◌∙◌, inl, inr, arith, le-leb}
 use Rattle.std.proofs.Math.Path.{subst}
 use Rattle.std.proofs.Math.Bool.{true}
@@ -11,11 +11,11 @@ use Rattle.std.proofs.lemmas.Bool.{lt-leb}
 use Rattle.utf8.specs.Boundary.{Boundary, is_boundary}
 use Rattle.utf8.proofs.Utf8Laws.{is_boundary_lem, boundary_is}
 use Rattle.provenance.specs.declared.step.Step.{Step}
-use Rattle.provenance.specs.declared.step.Step.TheVariants.{Verbatim, Replacement, NoStep}
+use Rattle.provenance.specs.declared.step.Step.TheVariants.{Verbatim, Replacement}
 use Rattle.provenance.specs.declared.walk.Walked.{Walked}
 use Rattle.provenance.specs.declared.walk.Walked.TheVariants.{Listed, NoRoom, NoList}
 use Rattle.provenance.specs.Escape.{EscapeReach, escapes_reach}
-use Rattle.provenance.specs.Grammar.{Rules, step_at, rules_of}
+use Rattle.provenance.specs.Grammar.{Rules, FittingStep, step_at, rules_of}
 use Rattle.provenance.specs.Reading.{IsReading, Reading, source_len, content_len, reading_of, Piece, pieces_of}
 use Rattle.provenance.specs.Layout.{zeros, laid_by, laid_pieces, walked_number, answer_of, left_of, pieces_if}
 use Rattle.provenance.specs.Start.{walk_start, list_from, scalar_list}
@@ -96,7 +96,7 @@ module _ (r : Rules) {reach : EscapeReach} (fair : FairTable r.escapes reach) (t
   unfolding list_from pieces_if
   listed_if b ts h = rw (boundary_is b, reading_is_found r fair src value ts h)
 
-  abbrev at : ℕ → ℕ → Step
+  abbrev at : ℕ → ℕ → FittingStep
   at = step_at r src value
 
   walk_fair : Fair reach at (length src) (length value)
@@ -111,10 +111,9 @@ module _ (r : Rules) {reach : EscapeReach} (fair : FairTable r.escapes reach) (t
       let d = length-drop v value in
       let more = h.0 in
       step_past r fair (drop s src) (drop v value) a b (omega arith) h.1 (omega arith)
-  escape_last s v (NoStep ∷ []) h m k = absurd h.2
-  escape_last s v (t ∷ u ∷ us) h m k = escape_last (s + source_len t) (v + content_len t) (u ∷ us) h.3 (let more = h.3.0 in omega arith) k
+  escape_last s v (t ∷ u ∷ us) h m k = escape_last (s + source_len t) (v + content_len t) (u ∷ us) h.2 (let more = h.2.0 in omega arith) k
 
-  equal_bytes : (s v n : ℕ) → v < length value → at s v ≡ Verbatim n → take n (drop s src) ≡ take n (drop v value)
+  equal_bytes : (s v n : ℕ) → v < length value → at s v ≡ Some (Verbatim n) → take n (drop s src) ≡ take n (drop v value)
   equal_bytes s v n more e = (step_same r fair (drop s src) (drop v value) n e).3
 
   module _ (ts : List Step) (h : Reading r src value ts) where

@@ -26,11 +26,11 @@ use Rattle.measure.specs.Scalar.{plain}
 use Rattle.measure.proofs.Places.{run_split, after_none, encode_takes}
 use Rattle.measure.proofs.MeasuredLaws.{after_no_run}
 use Rattle.provenance.specs.declared.step.Step.{Step}
-use Rattle.provenance.specs.declared.step.Step.TheVariants.{Verbatim, Replacement, NoStep}
+use Rattle.provenance.specs.declared.step.Step.TheVariants.{Verbatim, Replacement}
 use Rattle.provenance.specs.Run.{white_run, newlines_in, blank_run}
 use Rattle.provenance.specs.Escape.{EscapeReach}
 use Rattle.provenance.specs.EscapeLaws.{FairTable}
-use Rattle.provenance.specs.Grammar.{Rules, is_break_byte, step_at, rules_of}
+use Rattle.provenance.specs.Grammar.{Rules, FittingStep, is_break_byte, step_at, rules_of}
 use Rattle.provenance.specs.Reading.{IsReading, reading_of, Piece, step_pieces, both_verbatim, join_on, joined, pieces_of}
 use Rattle.provenance.specs.ReadingLaws.{found_is_reading}
 use Rattle.provenance.specs.Layout.{pieces_if}
@@ -372,12 +372,11 @@ joined_ends first (p ∷ ps) = on_ends (joined ps) ∙ joined_ends p.end ps
     on_ends [] = refl
     on_ends (q ∷ qs) = by_answer (both_verbatim p q) (λ e. rw e) (λ e. rw e)
 
-steps_end : (at : ℕ → ℕ → Step) (len s v first : ℕ) (ts : List Step) → IsReading at len s v ts → pieces_end first (step_pieces first ts) ≡ first + source_lens ts
+steps_end : (at : ℕ → ℕ → FittingStep) (len s v first : ℕ) (ts : List Step) → IsReading at len s v ts → pieces_end first (step_pieces first ts) ≡ first + source_lens ts
 unfolding IsReading pieces_end step_pieces source_lens
 steps_end at len s v first [] r = sym (add-zero first)
-steps_end at len s v first (Verbatim n ∷ ts) r = steps_end at len (s + n) (v + n) (first + n) ts r.3 ∙ add_assoc first n (source_lens ts)
-steps_end at len s v first (Replacement a b ∷ ts) r = steps_end at len (s + a) (v + b) (first + a) ts r.3 ∙ add_assoc first a (source_lens ts)
-steps_end at len s v first (NoStep ∷ ts) r = absurd r.2
+steps_end at len s v first (Verbatim n ∷ ts) r = steps_end at len (s + n) (v + n) (first + n) ts r.2 ∙ add_assoc first n (source_lens ts)
+steps_end at len s v first (Replacement a b ∷ ts) r = steps_end at len (s + a) (v + b) (first + a) ts r.2 ∙ add_assoc first a (source_lens ts)
 
 pub reading_end : (r : Rules) {reach : EscapeReach} → FairTable r.escapes reach → (src val : List ℕ) (first : ℕ) (ts : List Step) → reading_of r src val ≡ some ts
     → pieces_end first (pieces_of first ts) ≡ first + source_lens ts

@@ -1,7 +1,7 @@
 -- The laws of a reading's pieces: they lie one after the other, copy what they say, and add up to the value. Over any fair step function.
 -- The pieces are laid as a walk writes them: a verbatim run stays open until a replacement or the value's end closes it. That these are
 -- the joined pieces of the steps is `laid_is`.
-use Rattle.std.specs.Prelude.{cond, ◌≡◌, refl, ℕ, ◌+◌, ◌-◌, ◌≤◌, ◌<◌, ltb, eqb, length, take, drop}
+use Rattle.std.specs.Prelude.{cond, Some, ◌≡◌, refl, ℕ, ◌+◌, ◌-◌, ◌≤◌, ◌<◌, ltb, eqb, length, take, drop}
 use Rattle.std.proofs.Math.Path.{sym, ap, subst}
 use Rattle.std.proofs.Common.{◌∙◌, length-drop, take-add, drop-drop, lt-ltb, le-ltb}
 use Rattle.std.proofs.Math.Logic.{⊎_elim}
@@ -9,8 +9,9 @@ use mathlib.Core.List.{List, [], ◌∷◌, ◌++◌}
 use Prim.{Unit, tt}
 use native.Mathlib.Omega.{arith}
 use Rattle.provenance.specs.declared.step.Step.{Step}
-use Rattle.provenance.specs.declared.step.Step.TheVariants.{Verbatim, Replacement, NoStep}
+use Rattle.provenance.specs.declared.step.Step.TheVariants.{Verbatim, Replacement}
 use Rattle.provenance.specs.Escape.{EscapeReach}
+use Rattle.provenance.specs.Grammar.{FittingStep}
 use Rattle.provenance.specs.Reading.{IsReading, content_len, Piece, piece, verbatim, replacement, step_pieces, join_on, joined, pieces_of}
 use Rattle.provenance.specs.Demand.{StartsAt, Follow, EndBy, Copied, AllCopied, contents}
 use Rattle.utf8.specs.Tests.{by_order}
@@ -28,7 +29,6 @@ unfoldable pub laid : ℕ → ℕ → List Step → List Piece
 laid from s [] = closed_run from s
 laid from s (Verbatim n ∷ ts) = laid from (s + n) ts
 laid from s (Replacement a b ∷ ts) = closed_run from s ++ (piece replacement s (s + a) b ∷ laid (s + a) (s + a) ts)
-laid from s (NoStep ∷ ts) = []
 
 -- ---- one piece a step, neighbouring verbatim ones joined
 
@@ -64,7 +64,7 @@ unfoldable pub value_end : ℕ → List Step → ℕ
 value_end v [] = v
 value_end v (t ∷ ts) = value_end (v + content_len t) ts
 
-module _ {reach : EscapeReach} (at : ℕ → ℕ → Step) (L len : ℕ) (fair : Fair reach at L len) where
+module _ {reach : EscapeReach} (at : ℕ → ℕ → FittingStep) (L len : ℕ) (fair : Fair reach at L len) where
   -- with no run open, and with one
   abbrev AsJoined : ℕ → List Step → Type 0
   AsJoined p ts =
@@ -76,7 +76,7 @@ module _ {reach : EscapeReach} (at : ℕ → ℕ → Step) (L len : ℕ) (fair :
   as_joined s v [] r p = (let h : p ≤ p = omega arith in rw (le-ltb _ _ h), λ from h. rw (lt-ltb _ _ h))
   as_joined s v (Verbatim n ∷ ts) r p =
       let b = fair.same s v n r.0 r.1 in
-      let i = as_joined (s + n) (v + n) ts r.3 (p + n) in
+      let i = as_joined (s + n) (v + n) ts r.2 (p + n) in
       let q : p + n - p ≡ n = omega arith in (
         i.1 p (omega arith) ∙ ap (λ (k : ℕ). join_on (piece verbatim p (p + n) k) (joined (step_pieces (p + n) ts))) q,
         λ from h.
@@ -86,13 +86,12 @@ module _ {reach : EscapeReach} (at : ℕ → ℕ → Step) (L len : ℕ) (fair :
             ∙ sym (join_verbatim from p (p + n) (p - from) n (joined (step_pieces (p + n) ts))),
       )
   as_joined s v (Replacement x y ∷ ts) r p =
-      let i = as_joined (s + x) (v + y) ts r.3 (p + x) in
+      let i = as_joined (s + x) (v + y) ts r.2 (p + x) in
       let j = join_replacement p (p + x) y (joined (step_pieces (p + x) ts)) in (
         (let h : p ≤ p = omega arith in rw (le-ltb _ _ h) (ap (λ (l : List Piece). piece replacement p (p + x) y ∷ l) i.0 ∙ sym j)),
         λ from h.
             rw (lt-ltb _ _ h, j) (ap (λ (l : List Piece). piece verbatim from p (p - from) ∷ piece replacement p (p + x) y ∷ l) i.0),
       )
-  as_joined s v (NoStep ∷ ts) r p = absurd r.2
 
   pub laid_is : (base : ℕ) (ts : List Step) → IsReading at len 0 0 ts → laid base base ts ≡ pieces_of base ts
   unfolding pieces_of
@@ -103,11 +102,10 @@ module _ {reach : EscapeReach} (at : ℕ → ℕ → Step) (L len : ℕ) (fair :
   chained : (s v : ℕ) (ts : List Step) → IsReading at len s v ts → (from p : ℕ) → from ≤ p → Chain from (laid from p ts)
   unfolding laid IsReading Chain
   chained s v [] r from p h = by_order from p (λ lt. rw (lt-ltb _ _ lt) (refl, tt)) (λ le. rw (le-ltb _ _ le) tt)
-  chained s v (Verbatim n ∷ ts) r from p h = chained (s + n) (v + n) ts r.3 from (p + n) (omega arith)
+  chained s v (Verbatim n ∷ ts) r from p h = chained (s + n) (v + n) ts r.2 from (p + n) (omega arith)
   chained s v (Replacement x y ∷ ts) r from p h =
-      let i = chained (s + x) (v + y) ts r.3 (p + x) (p + x) (omega arith) in
+      let i = chained (s + x) (v + y) ts r.2 (p + x) (p + x) (omega arith) in
       by_order from p (λ lt. rw (lt-ltb _ _ lt) (refl, (refl, i))) (λ le. rw (le-ltb _ _ le) (omega arith, i))
-  chained s v (NoStep ∷ ts) r from p h = absurd r.2
 
   pub first_starts : (base : ℕ) (ts : List Step) → IsReading at len 0 0 ts → StartsAt base (laid base base ts)
   first_starts base ts r = chain_starts base _ (chained 0 0 ts r base base (omega arith))
@@ -120,13 +118,12 @@ module _ {reach : EscapeReach} (at : ℕ → ℕ → Step) (L len : ℕ) (fair :
   ended : (base s v : ℕ) (ts : List Step) → IsReading at len s v ts → (from p : ℕ) → p ≡ base + s → s ≤ L + reach.past → EndBy (base + (L + reach.past)) (laid from p ts)
   unfolding laid IsReading EndBy
   ended base s v [] r from p e h = by_order from p (λ lt. rw (lt-ltb _ _ lt) (omega arith, tt)) (λ le. rw (le-ltb _ _ le) tt)
-  ended base s v (Verbatim n ∷ ts) r from p e h = let b = fair.same s v n r.0 r.1 in ended base (s + n) (v + n) ts r.3 from (p + n) (omega arith) (omega arith)
+  ended base s v (Verbatim n ∷ ts) r from p e h = let b = fair.same s v n r.0 r.1 in ended base (s + n) (v + n) ts r.2 from (p + n) (omega arith) (omega arith)
   ended base s v (Replacement x y ∷ ts) r from p e h =
       let b = fair.other s v x y r.0 r.1 in
       let k : s + x ≤ L + reach.past = ⊎_elim (λ w. w.2) (λ w. omega arith) b.1 in
-      let i = ended base (s + x) (v + y) ts r.3 (p + x) (p + x) (omega arith) k in
+      let i = ended base (s + x) (v + y) ts r.2 (p + x) (p + x) (omega arith) k in
       by_order from p (λ lt. rw (lt-ltb _ _ lt) (omega arith, (omega arith, i))) (λ le. rw (le-ltb _ _ le) (omega arith, i))
-  ended base s v (NoStep ∷ ts) r from p e h = absurd r.2
 
   pub all_ended : (base : ℕ) (ts : List Step) → IsReading at len 0 0 ts → EndBy (base + (L + reach.past)) (laid base base ts)
   all_ended base ts r = ended base 0 0 ts r base base (omega arith) (omega arith)
@@ -136,11 +133,10 @@ module _ {reach : EscapeReach} (at : ℕ → ℕ → Step) (L len : ℕ) (fair :
   content_sum : (s v : ℕ) (ts : List Step) → IsReading at len s v ts → (from p : ℕ) → from ≤ p → v + contents (laid from p ts) ≡ value_end v ts + (p - from)
   unfolding laid IsReading contents value_end
   content_sum s v [] r from p h = by_order from p (λ lt. rw (lt-ltb _ _ lt) (omega arith)) (λ le. rw (le-ltb _ _ le) (omega arith))
-  content_sum s v (Verbatim n ∷ ts) r from p h = let i = content_sum (s + n) (v + n) ts r.3 from (p + n) (omega arith) in omega arith
+  content_sum s v (Verbatim n ∷ ts) r from p h = let i = content_sum (s + n) (v + n) ts r.2 from (p + n) (omega arith) in omega arith
   content_sum s v (Replacement x y ∷ ts) r from p h =
-      let i = content_sum (s + x) (v + y) ts r.3 (p + x) (p + x) (omega arith) in
+      let i = content_sum (s + x) (v + y) ts r.2 (p + x) (p + x) (omega arith) in
       by_order from p (λ lt. rw (lt-ltb _ _ lt) (omega arith)) (λ le. rw (le-ltb _ _ le) (omega arith))
-  content_sum s v (NoStep ∷ ts) r from p h = absurd r.2
 
   pub contents_are : (base : ℕ) (ts : List Step) → IsReading at len 0 0 ts → contents (laid base base ts) ≡ value_end 0 ts
   contents_are base ts r = let q = content_sum 0 0 ts r base base (omega arith) in omega arith
@@ -149,14 +145,13 @@ module _ {reach : EscapeReach} (at : ℕ → ℕ → Step) (L len : ℕ) (fair :
   pub value_end_bounds : (s v : ℕ) (ts : List Step) → v ≤ len + (reach.content - 1) → IsReading at len s v ts → (len ≤ value_end v ts) × (value_end v ts ≤ len + (reach.content - 1))
   unfolding IsReading value_end
   value_end_bounds s v [] h r = (r, h)
-  value_end_bounds s v (Verbatim n ∷ ts) h r = let b = fair.same s v n r.0 r.1 in value_end_bounds (s + n) (v + n) ts (omega arith) r.3
-  value_end_bounds s v (Replacement x y ∷ ts) h r = value_end_bounds (s + x) (v + y) ts (fair.other s v x y r.0 r.1).0 r.3
-  value_end_bounds s v (NoStep ∷ ts) h r = absurd r.2
+  value_end_bounds s v (Verbatim n ∷ ts) h r = let b = fair.same s v n r.0 r.1 in value_end_bounds (s + n) (v + n) ts (omega arith) r.2
+  value_end_bounds s v (Replacement x y ∷ ts) h r = value_end_bounds (s + x) (v + y) ts (fair.other s v x y r.0 r.1).0 r.2
 
   -- ---- each verbatim piece holds the value's bytes; the source is the text from `base` on
 
   module _ (text val : List ℕ) (base : ℕ) (eL : L ≡ length (drop base text)) (eLen : len ≡ length val)
-      (equal : (s v n : ℕ) → v < len → at s v ≡ Verbatim n → take n (drop s (drop base text)) ≡ take n (drop v val)) where
+      (equal : (s v n : ℕ) → v < len → at s v ≡ Some (Verbatim n) → take n (drop s (drop base text)) ≡ take n (drop v val)) where
     -- the run from..s is open, its bytes are those of the value from c on
     pub record OpenRun (from s v c : ℕ) : Type 0 where
       pub in_order : from ≤ s
@@ -169,7 +164,7 @@ module _ {reach : EscapeReach} (at : ℕ → ℕ → Step) (L len : ℕ) (fair :
         let z : s - s ≡ 0 = omega arith in
         record { in_order = omega arith; place = omega arith; inside = λ h. absurd (omega arith); bytes = rw z refl }
 
-    open_more : (from s v c n : ℕ) → v < len → at s v ≡ Verbatim n → OpenRun from s v c → OpenRun from (s + n) (v + n) c
+    open_more : (from s v c n : ℕ) → v < len → at s v ≡ Some (Verbatim n) → OpenRun from s v c → OpenRun from (s + n) (v + n) c
     open_more from s v c n more e o =
         let h = o.in_order in
         let ec = o.place in
@@ -207,10 +202,10 @@ module _ {reach : EscapeReach} (at : ℕ → ℕ → Step) (L len : ℕ) (fair :
         (λ le. let h : base + s ≤ base + from = omega arith in rw (le-ltb _ _ h) tt)
     copied s v (Verbatim n ∷ ts) r from c o =
         let q : base + (s + n) ≡ base + s + n = omega arith in
-        rw q at (copied (s + n) (v + n) ts r.3 from c (open_more from s v c n r.0 r.1 o))
+        rw q at (copied (s + n) (v + n) ts r.2 from c (open_more from s v c n r.0 r.1 o))
     copied s v (Replacement x y ∷ ts) r from c o =
         let q : base + (s + x) ≡ base + s + x = omega arith in
-        let i : AllCopied text val (v + y) (laid (base + s + x) (base + s + x) ts) = rw q at (copied (s + x) (v + y) ts r.3 (s + x) (v + y) (open_none (s + x) (v + y))) in
+        let i : AllCopied text val (v + y) (laid (base + s + x) (base + s + x) ts) = rw q at (copied (s + x) (v + y) ts r.2 (s + x) (v + y) (open_none (s + x) (v + y))) in
         let no : replacement ≡ verbatim → ⊥ = (λ e. omega arith) in
         let ec = o.place in
         by_order from s
@@ -222,7 +217,6 @@ module _ {reach : EscapeReach} (at : ℕ → ℕ → Step) (L len : ℕ) (fair :
         let h : base + s ≤ base + from = omega arith in
         let e : c + y ≡ v + y = (let u = o.in_order in omega arith) in
         rw (le-ltb _ _ h) ((λ k. absurd (no k)), subst (λ (k : ℕ). AllCopied text val k (laid (base + s + x) (base + s + x) ts)) (sym e) i))
-    copied s v (NoStep ∷ ts) r from c o = absurd r.2
 
     pub all_copied : (ts : List Step) → IsReading at len 0 0 ts → AllCopied text val 0 (laid base base ts)
     all_copied ts r = let q : base + 0 ≡ base = omega arith in rw q at (copied 0 0 ts r 0 0 (open_none 0 0))

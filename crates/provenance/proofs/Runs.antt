@@ -1,19 +1,22 @@
 -- Runs, byte by byte, as the loops go through them.
 use mathlib.Core.Path.{◌≡◌, refl, sym, ap, ◌∙◌}
-use mathlib.Core.Bool.{true, false, cond}
-use mathlib.Core.List.{List, ◌∷◌}
+use Rattle.std.specs.Prelude.{Some, None, unwrap_or}
+use Rattle.std.specs.List.{list_all, prefix_len, position, position_or_len}
+use mathlib.Core.Bool.{Bool, true, false, ◌&&◌, cond}
+use mathlib.Core.List.{List, [], ◌∷◌}
 use Prim.Native.Nat.{ℕ, zero, suc, ◌+◌, ◌≤◌, ◌<◌}
 use native.Mathlib.Numerals.{add-one}
 use native.Mathlib.Omega.{arith}
-use lib.Dec.{eqb}
+use lib.Dec.{eqb, ltb}
 use lib.ListN.{length, drop, get_or, drop_of_length-le}
 use lib.Seq.{drop-cons}
-use borrow.Author.Tests.{lt-ltb, le-ltb, ne_eqb}
+use borrow.Author.Tests.{ne_eqb}
 use Rattle.utf8.specs.Class.{is_white_space_byte}
 use Rattle.provenance.specs.declared.run.Run.{Run}
 use Rattle.provenance.specs.Run.{white_run, newlines_in, through_last, blank_run, only_newlines}
 use Rattle.measure.specs.Plain.{is_fold}
 use Rattle.utf8.specs.Ascii.{newline}
+use Rattle.provenance.specs.Tests.{by_answer}
 use Rattle.provenance.specs.Counted.{run_with, counted_run}
 use Rattle.provenance.specs.Start.{before_newline, header_end}
 
@@ -78,52 +81,27 @@ scan_other l i k m h w e =
     ∙ other_first (get_or l i 0) (drop (suc i) l) i k m w e
     ∙ ap (λ (j : ℕ). scan_so_far (i + 1) k m (drop j l)) (sym (add-one i))
 
--- ---- the value's blanks
+-- ---- by std's words
 
-pub blank_more : (l : List ℕ) (i : ℕ) → i < length l → is_fold (get_or l i 0) ≡ true → length (blank_run (drop i l)) ≡ suc (length (blank_run (drop (i + 1) l)))
+pub blank_run_is : (l : List ℕ) → length (blank_run l) ≡ prefix_len is_fold l
 unfolding blank_run
-blank_more l i h e = rw (add-one i, drop-cons l i 0 h, e)
+blank_run_is [] = refl
+blank_run_is (b ∷ bs) = by_answer (is_fold b) (λ e. rw e (ap suc (blank_run_is bs) ∙ omega arith)) (λ e. rw e)
 
-pub blank_stops : (l : List ℕ) (i : ℕ) → i < length l → is_fold (get_or l i 0) ≡ false → length (blank_run (drop i l)) ≡ 0
-unfolding blank_run
-blank_stops l i h e = rw (drop-cons l i 0 h, e)
-
-pub blank_ends : (l : List ℕ) (i : ℕ) → length l ≤ i → length (blank_run (drop i l)) ≡ 0
-unfolding blank_run
-blank_ends l i h = rw (drop_of_length-le l h)
-
--- ---- newlines and nothing else
-
-pub only_more : (l : List ℕ) (i : ℕ) → i < length l → get_or l i 0 ≡ newline → only_newlines (drop i l) ≡ only_newlines (drop (i + 1) l)
+pub only_newlines_is : (l : List ℕ) → only_newlines l ≡ list_all (λ b. eqb b newline) l
 unfolding only_newlines
-only_more l i h e = rw (add-one i, drop-cons l i 0 h, e)
+only_newlines_is [] = refl
+only_newlines_is (b ∷ bs) = ap (λ (t : Bool). eqb b newline && t) (only_newlines_is bs)
 
-pub only_not : (l : List ℕ) (i : ℕ) → i < length l → (get_or l i 0 ≡ newline → ⊥) → only_newlines (drop i l) ≡ false
-unfolding only_newlines
-only_not l i h e = rw (drop-cons l i 0 h, ne_eqb _ _ e)
-
-pub only_ends : (l : List ℕ) (i : ℕ) → length l ≤ i → only_newlines (drop i l) ≡ true
-unfolding only_newlines
-only_ends l i h = rw (drop_of_length-le l h)
-
--- ---- the header line
-
-pub before_more : (l : List ℕ) (i : ℕ) → i < length l → (get_or l i 0 ≡ newline → ⊥) → before_newline (drop i l) ≡ suc (before_newline (drop (i + 1) l))
+before_newline_is : (l : List ℕ) → before_newline l ≡ position_or_len (λ b. eqb b newline) l
 unfolding before_newline
-before_more l i h e = rw (add-one i, drop-cons l i 0 h, ne_eqb _ _ e)
+before_newline_is [] = refl
+before_newline_is (b ∷ bs) = by_answer (eqb b newline) (λ e. rw e) (λ e. rw e (ap suc (before_newline_is bs) ∙ omega arith))
 
-pub before_stops : (l : List ℕ) (i : ℕ) → i < length l → get_or l i 0 ≡ newline → before_newline (drop i l) ≡ 0
-unfolding before_newline
-before_stops l i h e = rw (drop-cons l i 0 h, e)
-
-pub before_ends : (l : List ℕ) (i : ℕ) → length l ≤ i → before_newline (drop i l) ≡ 0
-unfolding before_newline
-before_ends l i h = rw (drop_of_length-le l h)
-
-pub header_found : (l : List ℕ) (i len : ℕ) → before_newline l ≡ i → i < length l → i ≡ header_end l len
+pub header_end_is : (l : List ℕ) (len : ℕ) → header_end l len ≡ unwrap_or (position (λ b. eqb b newline) l) len
 unfolding header_end
-header_found l i len e h = rw (e, lt-ltb _ _ h)
-
-pub header_open : (l : List ℕ) (len : ℕ) → length l ≤ before_newline l → len ≡ header_end l len
-unfolding header_end
-header_open l len h = rw (le-ltb _ _ h)
+header_end_is l len = rw (before_newline_is l) (either (ltb (position_or_len (λ b. eqb b newline) l) (length l)))
+  where
+    either : (t : Bool) → cond t (position_or_len (λ b. eqb b newline) l) len ≡ unwrap_or (cond t (Some (position_or_len (λ b. eqb b newline) l)) None) len
+    either true = refl
+    either false = refl

@@ -1,58 +1,17 @@
--- Where the walk starts, as the code asks.
+-- The list of a scalar, by where its walk starts.
 use mathlib.Core.Path.{◌≡◌, sym, ap, ◌∙◌}
-use mathlib.Core.Bool.{Bool, true, false, ◌&&◌, cond}
+use mathlib.Core.Bool.{true, false}
 use mathlib.Core.List.{List}
-use Prim.Native.Nat.{ℕ, ◌+◌}
-use lib.ListN.{length, drop, get_or}
+use Prim.Native.Nat.{ℕ}
+use lib.ListN.{length, drop}
 use mathlib.Core.Option.{Option}
 use Rattle.utf8.specs.Boundary.{is_boundary}
 use Rattle.provenance.specs.declared.walk.Walked.{Walked}
 use Rattle.provenance.specs.declared.walk.Walked.TheVariants.{NoList}
-use Rattle.provenance.specs.Run.{only_newlines}
-use Rattle.provenance.specs.Grammar.{is_block, rules_of}
+use Rattle.provenance.specs.Grammar.{rules_of}
 use Rattle.provenance.specs.Reading.{Piece, reading_of}
 use Rattle.provenance.specs.Layout.{room, zeros, answer_of, buffer_of, pieces_if}
-use Rattle.provenance.specs.Start.{is_quoted, is_header, at_empty_block_header, header_end, walk_start, list_from, scalar_list}
-use Rattle.provenance.specs.Tests.{and_no}
-
-pub header_yes : (l v : List ℕ) → is_header (get_or l 0 0) ≡ true → (t : Bool) → t ≡ only_newlines v → t ≡ at_empty_block_header l v
-unfolding at_empty_block_header
-header_yes l v h t e = e ∙ sym (ap (λ (x : Bool). x && only_newlines v) h)
-
-pub header_no : (l v : List ℕ) → is_header (get_or l 0 0) ≡ false → false ≡ at_empty_block_header l v
-unfolding at_empty_block_header
-header_no l v h = sym (ap (λ (x : Bool). x && only_newlines v) h)
-
-module _ (text : List ℕ) (start len : ℕ) (value : List ℕ) (style : ℕ) where
-  abbrev elsewhere : ℕ
-  elsewhere = cond (is_block style && at_empty_block_header (drop start text) value) (start + header_end (drop start text) len) start
-
-  pub start_quoted : is_quoted style ≡ true → start + 1 ≡ walk_start text start len value style
-  unfolding walk_start
-  start_quoted q = sym (ap (λ (t : Bool). cond t (start + 1) elsewhere) q)
-
-  module _ (q : is_quoted style ≡ false) where
-    not_quoted : elsewhere ≡ walk_start text start len value style
-    unfolding walk_start
-    not_quoted = sym (ap (λ (t : Bool). cond t (start + 1) elsewhere) q)
-
-    pub start_plain : is_block style ≡ false → start ≡ walk_start text start len value style
-    start_plain b = sym (ap (λ (t : Bool). cond (t && at_empty_block_header (drop start text) value) (start + header_end (drop start text) len) start) b) ∙ not_quoted
-
-    pub start_content : at_empty_block_header (drop start text) value ≡ false → start ≡ walk_start text start len value style
-    start_content h =
-        sym (ap (λ (t : Bool). cond (is_block style && t) (start + header_end (drop start text) len) start) h
-        ∙ ap (λ (t : Bool). cond t (start + header_end (drop start text) len) start) (and_no (is_block style)))
-        ∙ not_quoted
-
-    pub start_header : is_block style ≡ true → at_empty_block_header (drop start text) value ≡ true → (n : ℕ) → n ≡ header_end (drop start text) len → start + n ≡ walk_start text start len value style
-    start_header b h n e =
-        ap (λ (k : ℕ). start + k) e
-        ∙ sym (ap (λ (t : Bool). cond (t && at_empty_block_header (drop start text) value) (start + header_end (drop start text) len) start) b
-        ∙ ap (λ (t : Bool). cond t (start + header_end (drop start text) len) start) h)
-        ∙ not_quoted
-
--- ---- the list of a scalar
+use Rattle.provenance.specs.Start.{walk_start, list_from, scalar_list}
 
 module _ (text : List ℕ) (start len : ℕ) (value : List ℕ) (style column : ℕ) where
   abbrev list : Option (List Piece)

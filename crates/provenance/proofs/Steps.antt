@@ -1,23 +1,24 @@
 -- The step that fits, as the code finds it.
 use mathlib.Core.Path.{◌≡◌, refl, sym, ap, ◌∙◌, subst}
-use mathlib.Core.Bool.{Bool, true, false, ◌&&◌, ◌||◌, cond}
+use mathlib.Core.Bool.{Bool, true, false, ◌&&◌, cond}
 use mathlib.Core.List.{List, [], ◌∷◌}
 use Prim.Native.Nat.{ℕ, ◌+◌, ◌-◌, ◌≤◌, ◌<◌, min}
 use native.Mathlib.Omega.{arith}
 use lib.Dec.{ltb, eqb}
 use lib.ListN.{length, take, drop, get_or, length-take, length-drop}
-use lib.Seq.{drop-drop, get_or-drop}
+use lib.Seq.{drop-drop}
 use borrow.Author.Tests.{lt-ltb, le-ltb, eq-eqb, ne_eqb}
-use Rattle.utf8.specs.Ascii.{same_bytes, newline, carriage_return}
-use Rattle.utf8.specs.Class.{is_white_space_byte}
+use Rattle.utf8.specs.Ascii.{same_bytes}
 use Rattle.provenance.specs.declared.run.Run.{Run}
 use Rattle.provenance.specs.declared.escape.Escape.{Escape}
-use Rattle.provenance.specs.declared.escape.Escape.TheVariants.{Takes, NoEscape}
+use Rattle.std.specs.Prelude.{Option, Some, None, option_map}
+use Rattle.std.specs.Option.{option_or}
+use Rattle.std.specs.Bool.{then_some}
 use Rattle.provenance.specs.declared.step.Step.{Step}
-use Rattle.provenance.specs.declared.step.Step.TheVariants.{Verbatim, Replacement, NoStep}
-use Rattle.provenance.specs.Run.{white_run, newlines_in, through_last, cut, blank_run, only_newlines}
+use Rattle.provenance.specs.declared.step.Step.TheVariants.{Verbatim, Replacement}
+use Rattle.provenance.specs.Run.{white_run, newlines_in, through_last, cut, blank_run}
 use Rattle.provenance.specs.Counted.{no_run, counted_run, cut_len}
-use Rattle.provenance.specs.Grammar.{Rules, or_else, break_pair, starts_break, is_break_byte, opens_break, break_step, as_step, escape_step, equal_step, end_step, step}
+use Rattle.provenance.specs.Grammar.{Rules, FittingStep, break_pair, starts_break, is_break_byte, opens_break, break_step, as_step, escape_step, equal_step, end_step, step}
 use Rattle.provenance.specs.Looked.{break_run, Tells, known_after}
 use Rattle.utf8.specs.Tests.{clash, by_order}
 use Rattle.provenance.specs.Tests.{by_test, by_answer, byte_past, and_no}
@@ -26,25 +27,6 @@ use Rattle.provenance.specs.StepLaws.{same_refl, same_true}
 
 -- ---- where a break may begin
 
-pub opens_not : (block : Bool) (b c : ℕ) → is_break_byte c ≡ false → false ≡ opens_break block b c
-unfolding opens_break
-opens_not block b c e = sym (ap (λ (t : Bool). t && starts_break block b) e)
-
-module _ (block : Bool) (b c : ℕ) (e : is_break_byte c ≡ true) where
-  opens_by : starts_break block b ≡ opens_break block b c
-  unfolding opens_break
-  opens_by = sym (ap (λ (t : Bool). t && starts_break block b) e)
-
-  pub opens_wide : block ≡ false → is_white_space_byte b ≡ opens_break block b c
-  opens_wide f = sym (ap (λ (t : Bool). starts_break t b) f) ∙ opens_by
-
-  pub opens_newline : block ≡ true → b ≡ newline → true ≡ opens_break block b c
-  opens_newline f n = sym (ap (λ (t : Bool). starts_break t b) f ∙ ap (λ (t : Bool). t || eqb b carriage_return) (eq-eqb b newline n)) ∙ opens_by
-
-  pub opens_return : block ≡ true → (b ≡ newline → ⊥) → eqb b carriage_return ≡ opens_break block b c
-  opens_return f n = sym (ap (λ (t : Bool). starts_break t b) f ∙ ap (λ (t : Bool). t || eqb b carriage_return) (ne_eqb b newline n)) ∙ opens_by
-
--- no break begins past the end
 never_opens : (block : Bool) (c : ℕ) → opens_break block 0 c ≡ false
 unfolding opens_break
 never_opens block c = by_test (λ (t : Bool). is_break_byte c && starts_break t 0 ≡ false) block (and_no (is_break_byte c)) (and_no (is_break_byte c))
@@ -59,26 +41,6 @@ pub opens_told : (t block block' : Bool) (b b' c c' : ℕ) → t ≡ opens_break
 opens_told t block block' b b' c c' e p q r = sym (e ∙ ap (λ (x : Bool). opens_break x b c) p ∙ ap (λ (x : ℕ). opens_break block' x c) q ∙ ap (λ (x : ℕ). opens_break block' b' x) r)
 
 -- ---- the run that is looked at
-
-module _ (block : Bool) (src val : List ℕ) (s v known : ℕ) where
-  abbrev Looked : Run
-  Looked = cond (ltb s known) no_run (break_run block (drop s src) (drop v val))
-
-  opens_here : (t : Bool) → opens_break block (get_or src s 0) (get_or val v 0) ≡ t → opens_break block (get_or (drop s src) 0 0) (get_or (drop v val) 0 0) ≡ t
-  opens_here t e =
-      let p : s + 0 ≡ s = omega arith in
-      let q : v + 0 ≡ v = omega arith in
-      ap (λ (x : ℕ). opens_break block x (get_or (drop v val) 0 0)) (get_or-drop s src 0 0 ∙ ap (λ (k : ℕ). get_or src k 0) p)
-      ∙ ap (λ (x : ℕ). opens_break block (get_or src s 0) x) (get_or-drop v val 0 0 ∙ ap (λ (k : ℕ). get_or val k 0) q)
-      ∙ e
-
-  pub run_closed : known ≤ s → opens_break block (get_or src s 0) (get_or val v 0) ≡ false → no_run ≡ Looked
-  unfolding break_run
-  run_closed h e = rw (le-ltb _ _ h, opens_here false e)
-
-  pub run_opened : known ≤ s → opens_break block (get_or src s 0) (get_or val v 0) ≡ true → (run : Run) → run ≡ counted_run (drop s src) → run ≡ Looked
-  unfolding break_run
-  run_opened h e run q = rw (le-ltb _ _ h, opens_here true e) q
 
 -- the numbers of a run
 pub numbers_of : (run : Run) (l : List ℕ) → run ≡ counted_run l → (run.len ≡ length (white_run l)) × (run.newlines ≡ newlines_in (white_run l)) × (run.last ≡ through_last (white_run l))
@@ -149,66 +111,47 @@ module _ (block : Bool) (column : ℕ) (l val : List ℕ) (a b : ℕ) (ea : a �
       let n : same_bytes X Y ≡ false = by_answer (same_bytes X Y) (λ y. absurd (clash (sym (f (sym left_is ∙ same_true X Y y ∙ right_is)) ∙ e))) (λ y. y) in
       ap (λ (k : ℕ). Replacement k b) ea ∙ ap (λ (k : ℕ). Replacement (length X) k) eb ∙ sym (ap (λ (t : Bool). cond t (Verbatim (length X)) (Replacement (length X) (length Y))) n)
 
-pair_first : (block : Bool) (column : ℕ) (run val : List ℕ) (t : Step) → or_else (break_pair block column run val) t ≡ break_pair block column run val
-unfolding break_pair
-pair_first block column run val t =
-    by_test (λ (b : Bool). or_else (cond b (Verbatim (length (cut block column run))) (Replacement (length (cut block column run)) (length (take (newlines_in run) (blank_run val))))) t ≡ cond b (Verbatim (length (cut block column run))) (Replacement (length (cut block column run)) (length (take (newlines_in run) (blank_run val)))))
-    (same_bytes (cut block column run) (take (newlines_in run) (blank_run val))) refl refl
-
 -- ---- the four in turn
 
 module _ (r : Rules) (src val : List ℕ) where
-  pub step_break : (run : Run) → run ≡ break_run r.block src val → 0 < run.newlines → (t : Step) → t ≡ break_pair r.block r.column (white_run src) val → t ≡ step r src val
+  pub step_break : (run : Run) → run ≡ break_run r.block src val → 0 < run.newlines → (t : Step) → t ≡ break_pair r.block r.column (white_run src) val → Some t ≡ step r src val
   unfolding step break_step
   step_break run e h t q =
       let p = found r.block src val run e h in
       let n : 0 < newlines_in (white_run src) = (let m = (numbers_of run src p.1).1 in omega arith) in
-      q ∙ sym (rw (p.0, lt-ltb 0 _ n) (pair_first r.block r.column (white_run src) val _))
+      ap (λ (x : Step). Some x) q ∙ sym (rw (p.0, lt-ltb 0 _ n))
 
   module _ (z : (break_run r.block src val).newlines ≡ 0) where
-    break_falls : break_step r src val ≡ NoStep
+    break_falls : break_step r src val ≡ None
     unfolding break_step break_run counted_run
     break_falls =
         by_answer (opens_break r.block (get_or src 0 0) (get_or val 0 0))
         (λ o. let q = rw o at z in let w : newlines_in (white_run src) ≤ 0 = omega arith in rw (o, le-ltb 0 _ w))
         (λ o. rw o)
 
-    rest_is : or_else (escape_step r src) (or_else (equal_step src val) (end_step src val)) ≡ step r src val
+    rest_is : option_or (escape_step r src) (option_or (equal_step src val) (end_step src val)) ≡ step r src val
     unfolding step
-    rest_is = sym (ap (λ (t : Step). or_else t (or_else (escape_step r src) (or_else (equal_step src val) (end_step src val)))) break_falls)
+    rest_is = sym (ap (λ (t : FittingStep). option_or t (option_or (escape_step r src) (option_or (equal_step src val) (end_step src val)))) break_falls)
 
-    pub step_escape : (e : Escape) (a b : ℕ) → e ≡ r.escapes src → e ≡ Takes a b → Replacement a b ≡ step r src val
-    step_escape e a b p q =
-        sym (ap (λ (x : Escape). or_else (as_step x) (or_else (equal_step src val) (end_step src val))) (sym p ∙ q)) ∙ rest_is
+    pub step_escape : (e : Option Escape) (x : Escape) → e ≡ r.escapes src → e ≡ Some x → Some (as_step x) ≡ step r src val
+    step_escape e x p q =
+        sym (ap (λ (x : Option Escape). option_or (option_map as_step x) (option_or (equal_step src val) (end_step src val))) (sym p ∙ q)) ∙ rest_is
 
-    module _ (e : Escape) (p : e ≡ r.escapes src) (q : e ≡ NoEscape) where
-      last_is : or_else (equal_step src val) (end_step src val) ≡ step r src val
-      last_is = sym (ap (λ (x : Escape). or_else (as_step x) (or_else (equal_step src val) (end_step src val))) (sym p ∙ q)) ∙ rest_is
+    module _ (e : Option Escape) (p : e ≡ r.escapes src) (q : e ≡ None) where
+      last_is : option_or (equal_step src val) (end_step src val) ≡ step r src val
+      last_is = sym (ap (λ (x : Option Escape). option_or (option_map as_step x) (option_or (equal_step src val) (end_step src val))) (sym p ∙ q)) ∙ rest_is
 
-      pub step_end : src ≡ [] → (t : Step) → t ≡ end_step [] val → t ≡ step r src val
+      pub step_end : src ≡ [] → (t : FittingStep) → t ≡ end_step [] val → t ≡ step r src val
       unfolding equal_step
-      step_end n t h = h ∙ sym (ap (λ (l : List ℕ). or_else (equal_step l val) (end_step l val)) n) ∙ last_is
+      step_end n t h = h ∙ sym (ap (λ (l : List ℕ). option_or (equal_step l val) (end_step l val)) n) ∙ last_is
 
       module _ (x : ℕ) (xs : List ℕ) (y : ℕ) (ys : List ℕ) (ex : src ≡ x ∷ xs) (ey : val ≡ y ∷ ys) where
-        pub step_equal : x ≡ y → Verbatim 1 ≡ step r src val
+        pub step_byte : then_some (eqb x y) (Verbatim 1) ≡ step r src val
         unfolding equal_step end_step
-        step_equal h =
-            sym (ap (λ (l : List ℕ). or_else (equal_step l val) (end_step l val)) ex ∙ ap (λ (l : List ℕ). or_else (equal_step (x ∷ xs) l) (end_step (x ∷ xs) l)) ey
-            ∙ ap (λ (t : Bool). or_else (cond t (Verbatim 1) NoStep) NoStep) (eq-eqb x y h)) ∙ last_is
-
-        pub step_nothing : (x ≡ y → ⊥) → NoStep ≡ step r src val
-        unfolding equal_step end_step
-        step_nothing h =
-            sym (ap (λ (l : List ℕ). or_else (equal_step l val) (end_step l val)) ex ∙ ap (λ (l : List ℕ). or_else (equal_step (x ∷ xs) l) (end_step (x ∷ xs) l)) ey
-            ∙ ap (λ (t : Bool). or_else (cond t (Verbatim 1) NoStep) NoStep) (ne_eqb x y h)) ∙ last_is
-
-pub end_fits : (val : List ℕ) → only_newlines val ≡ true → Replacement 0 (length val) ≡ end_step [] val
-unfolding end_step
-end_fits val e = rw e
-
-pub end_not : (val : List ℕ) → only_newlines val ≡ false → NoStep ≡ end_step [] val
-unfolding end_step
-end_not val e = rw e
+        step_byte =
+            by_test (λ (t : Bool). then_some t (Verbatim 1) ≡ option_or (cond t (Some (Verbatim 1)) None) None) (eqb x y) refl refl
+            ∙ sym (ap (λ (l : List ℕ). option_or (equal_step l val) (end_step l val)) ex ∙ ap (λ (l : List ℕ). option_or (equal_step (x ∷ xs) l) (end_step (x ∷ xs) l)) ey)
+            ∙ last_is
 
 -- ---- runs that are known to hold no newline
 

@@ -3,18 +3,20 @@ use mathlib.Core.Bool.{cond}
 use mathlib.Core.Path.{◌≡◌, refl, sym, ap, ◌∙◌, subst}
 use mathlib.Core.Logic.{⊎_elim}
 use mathlib.Core.List.{List, [], ◌∷◌, ◌++◌, append-nil, append_assoc}
-use Prim.{tt}
 use Prim.Native.Nat.{ℕ, zero, suc, ◌+◌, ◌-◌, ◌*◌, ◌≤◌, ◌<◌}
 use native.Mathlib.Omega.{arith}
 use lib.Dec.{ltb}
-use lib.ListN.{length, drop, set, length-append, length-set}
-use lib.Seq.{set_at, drop_at}
+use lib.ListN.{length, take, drop, length-append}
+use lib.Seq.{sets, sets-eq, length-sets, take_at, drop_at, drop-drop}
 use borrow.Author.Tests.{lt-ltb, le-ltb}
 use Rattle.provenance.specs.declared.step.Step.{Step}
-use Rattle.provenance.specs.declared.step.Step.TheVariants.{Verbatim, Replacement, NoStep}
+use Rattle.std.specs.Prelude.{Some, None}
+use Rattle.std.proofs.lemmas.Option.{none-some, same_Some}
+use Rattle.provenance.specs.declared.step.Step.TheVariants.{Verbatim, Replacement}
+use Rattle.provenance.specs.Grammar.{FittingStep}
 use Rattle.provenance.specs.Reading.{IsReading, source_len, content_len, Piece, piece, verbatim, replacement}
 use Rattle.provenance.specs.Layout.{zeros, flat, laid_by, piece_width, piece_numbers, laid_pieces, room}
-use Rattle.provenance.specs.Writing.{four_at, put_piece, put_open, count_open, put_replacement, cleared_to, written_len}
+use Rattle.provenance.specs.Writing.{put_piece, put_open, count_open, put_replacement, cleared_to, written_len}
 use Rattle.utf8.specs.Tests.{by_order}
 use Rattle.provenance.specs.Escape.{EscapeReach}
 use Rattle.provenance.specs.StepLaws.{Fair}
@@ -72,33 +74,28 @@ unfolding laid_by
 filled_behind m ps buf h e =
     rw (written_fits (length ps) m h, e) (drop_at (flat piece_numbers ps) (zeros (m - piece_width * length ps)) (piece_width * length ps) (numbers_length ps))
 
-set_after : (xs pre : List ℕ) (y : ℕ) (ys : List ℕ) (a n : ℕ) → length xs + length pre ≡ n → set (xs ++ (pre ++ y ∷ ys)) n a ≡ xs ++ (pre ++ a ∷ ys)
-set_after xs pre y ys a n h =
-    ap (λ (l : List ℕ). set l n a) (sym (append_assoc xs pre (y ∷ ys)))
-    ∙ set_at (xs ++ pre) y ys a n (length-append xs pre ∙ h)
-    ∙ append_assoc xs pre (a ∷ ys)
-
 -- four stores behind a front of that length, where four zeros are
-four_after : (xs zs : List ℕ) (i : ℕ) (p : Piece) → length xs ≡ i
-    → four_at (xs ++ (0 ∷ 0 ∷ 0 ∷ 0 ∷ zs)) i p ≡ xs ++ (p.kind ∷ p.start ∷ p.end ∷ p.content ∷ zs)
+four_after : (xs zs : List ℕ) (i : ℕ) (p : Piece) → length xs ≡ i → sets (xs ++ (0 ∷ 0 ∷ 0 ∷ 0 ∷ zs)) i (piece_numbers p) ≡ xs ++ (piece_numbers p ++ zs)
 four_after xs zs i p h =
-    ap (λ (l : List ℕ). set (set (set l (i + 1) p.start) (i + 2) p.end) (i + 3) p.content) (set_after xs [] 0 (0 ∷ 0 ∷ 0 ∷ zs) p.kind i (omega arith))
-    ∙ ap (λ (l : List ℕ). set (set l (i + 2) p.end) (i + 3) p.content) (set_after xs (p.kind ∷ []) 0 (0 ∷ 0 ∷ zs) p.start (i + 1) (omega arith))
-    ∙ ap (λ (l : List ℕ). set l (i + 3) p.content) (set_after xs (p.kind ∷ p.start ∷ []) 0 (0 ∷ zs) p.end (i + 2) (omega arith))
-    ∙ set_after xs (p.kind ∷ p.start ∷ p.end ∷ []) 0 zs p.content (i + 3) (omega arith)
+    let l = xs ++ (0 ∷ 0 ∷ 0 ∷ 0 ∷ zs) in
+    let n = length-append xs (0 ∷ 0 ∷ 0 ∷ 0 ∷ zs) in
+    sets-eq (piece_numbers p) l i (omega arith)
+    ∙ append_assoc (take i l) (piece_numbers p) (drop (i + 4) l)
+    ∙ ap (λ (f : List ℕ). f ++ (piece_numbers p ++ drop (i + 4) l)) (take_at xs (0 ∷ 0 ∷ 0 ∷ 0 ∷ zs) i h)
+    ∙ ap (λ (b : List ℕ). xs ++ (piece_numbers p ++ b)) (sym (drop-drop 4 i l) ∙ ap (drop 4) (drop_at xs (0 ∷ 0 ∷ 0 ∷ 0 ∷ zs) i h))
 
 zeros_four : (r : ℕ) → zeros (4 + r) ≡ 0 ∷ 0 ∷ 0 ∷ 0 ∷ zeros r
 zeros_four r = let e : 4 + r ≡ suc (suc (suc (suc r))) = omega arith in ap (λ (k : ℕ). zeros k) e
 
-put_fits : (m : ℕ) (ps : List Piece) (buf : List ℕ) (p : Piece) → 4 * length ps + 4 ≤ m → buf ≡ laid_pieces m ps → four_at buf (piece_width * length ps) p ≡ laid_pieces m (ps ++ (p ∷ []))
+put_fits : (m : ℕ) (ps : List Piece) (buf : List ℕ) (p : Piece) → 4 * length ps + 4 ≤ m → buf ≡ laid_pieces m ps → sets buf (piece_width * length ps) (piece_numbers p) ≡ laid_pieces m (ps ++ (p ∷ []))
 unfolding laid_by
 put_fits m ps buf p fits h =
     let r : ℕ = m - (4 * length ps + 4) in
     let e : m - piece_width * length ps ≡ 4 + r = omega arith in
     let e' : m - piece_width * length (ps ++ (p ∷ [])) ≡ r = (let q = length-append ps (p ∷ []) in omega arith) in
-    ap (λ (l : List ℕ). four_at l (piece_width * length ps) p) (h ∙ ap (λ (k : ℕ). flat piece_numbers ps ++ zeros k) e ∙ ap (λ (l : List ℕ). flat piece_numbers ps ++ l) (zeros_four r))
+    ap (λ (l : List ℕ). sets l (piece_width * length ps) (piece_numbers p)) (h ∙ ap (λ (k : ℕ). flat piece_numbers ps ++ zeros k) e ∙ ap (λ (l : List ℕ). flat piece_numbers ps ++ l) (zeros_four r))
     ∙ four_after (flat piece_numbers ps) (zeros r) (piece_width * length ps) p (numbers_length ps)
-    ∙ sym (append_assoc (flat piece_numbers ps) (p.kind ∷ p.start ∷ p.end ∷ p.content ∷ []) (zeros r))
+    ∙ sym (append_assoc (flat piece_numbers ps) (piece_numbers p) (zeros r))
     ∙ ap (λ (l : List ℕ). l ++ zeros r) (sym (numbers_append ps (p ∷ [])))
     ∙ ap (λ (k : ℕ). flat piece_numbers (ps ++ (p ∷ [])) ++ zeros k) (sym e')
 
@@ -110,10 +107,10 @@ put_kept m ps buf p h =
     by_order (length ps) (room (length buf))
     (λ lt.
     let fits : 4 * length ps + 4 ≤ m = omega arith in
-    let is : four_at buf (piece_width * length ps) p ≡ laid_pieces m (ps ++ (p ∷ [])) = put_fits m ps buf p fits (h.kept (omega arith)) in
+    let is : sets buf (piece_width * length ps) (piece_numbers p) ≡ laid_pieces m (ps ++ (p ∷ [])) = put_fits m ps buf p fits (h.kept (omega arith)) in
     rw (lt-ltb _ _ lt)
     (record {
-      size = simp length-set h.size;
+      size = simp length-sets h.size;
       kept = λ _. is;
       behind = filled_behind m (ps ++ (p ∷ [])) _ (omega arith) is;
     }))
@@ -140,9 +137,6 @@ open_count ps base from s =
     rw (closed_at base from s)
     (by_order from s (λ lt. rw (lt-ltb _ _ lt) (length-append ps _)) (λ le. rw (le-ltb _ _ le) (rw append-nil)))
 
-pub count_more : (n from s : ℕ) → count_open n from s ≤ n + 1
-count_more n from s = by_order from s (λ lt. rw (lt-ltb _ _ lt) (omega arith)) (λ le. rw (le-ltb _ _ le) (omega arith))
-
 count_within : (n from s : ℕ) → n ≤ from → from ≤ s → count_open n from s ≤ s
 count_within n from s h k = by_order from s (λ lt. rw (lt-ltb _ _ lt) (omega arith)) (λ le. rw (le-ltb _ _ le) (omega arith))
 
@@ -160,7 +154,7 @@ clear_all m ps buf k h e =
 
 -- ---- the walk
 
-module _ (reach : EscapeReach) (at : ℕ → ℕ → Step) (L len base m : ℕ) where
+module _ (reach : EscapeReach) (at : ℕ → ℕ → FittingStep) (L len base m : ℕ) where
   -- a reading from here on gives one from the start, and the other way round; its pieces are those written and those of the rest
   pub record Going (buf : List ℕ) (s v from n : ℕ) : Type 0 where
     pub written : List Piece
@@ -192,13 +186,19 @@ module _ (reach : EscapeReach) (at : ℕ → ℕ → Step) (L len base m : ℕ) 
       }
 
   -- a reading goes on by the step that stands there
-  next : (s v : ℕ) (t : Step) (ts : List Step) → v < len → at s v ≡ t → IsReading at len s v ts
+  next : (s v : ℕ) (t : Step) (ts : List Step) → v < len → at s v ≡ Some t → IsReading at len s v ts
       → (us : List Step) × (ts ≡ t ∷ us) × IsReading at len (s + source_len t) (v + content_len t) us
   unfolding IsReading
   next s v t [] h e r = absurd (omega arith)
   next s v t (u ∷ us) h e r =
-      let q : u ≡ t = sym r.1 ∙ e in
-      (us, ap (λ (x : Step). x ∷ us) q, subst (λ (x : Step). IsReading at len (s + source_len x) (v + content_len x) us) q r.3)
+      let q : u ≡ t = same_Some u t (sym r.1 ∙ e) in
+      (us, ap (λ (x : Step). x ∷ us) q, subst (λ (x : Step). IsReading at len (s + source_len x) (v + content_len x) us) q r.2)
+
+  -- and stops where none does
+  stuck : (s v : ℕ) (ts : List Step) → v < len → at s v ≡ None → IsReading at len s v ts → ⊥
+  unfolding IsReading
+  stuck s v [] h e r = omega arith
+  stuck s v (t ∷ ts) h e r = none-some t (sym e ∙ r.1)
 
   module _ (fair : Fair reach at L len) (buf : List ℕ) (s v from n : ℕ) (h : Going buf s v from n) where
     -- with the open run written
@@ -212,7 +212,7 @@ module _ (reach : EscapeReach) (at : ℕ → ℕ → Step) (L len base m : ℕ) 
     kept_W = subst (λ (k : ℕ). Kept m W (put_open buf k base from s)) h.count (open_kept m h.written buf base from s h.held)
 
     module _ (more : v < len) where
-      pub on_verbatim : (k : ℕ) → at s v ≡ Verbatim k → Going buf (s + k) (v + k) from n
+      pub on_verbatim : (k : ℕ) → at s v ≡ Some (Verbatim k) → Going buf (s + k) (v + k) from n
       unfolding IsReading laid
       on_verbatim k e =
           let b = fair.same s v k more e in
@@ -224,7 +224,7 @@ module _ (reach : EscapeReach) (at : ℕ → ℕ → Step) (L len base m : ℕ) 
             written = h.written;
             count = h.count;
             held = h.held;
-            on = λ ts r. rw q (h.on (Verbatim k ∷ ts) (more, e, tt, r));
+            on = λ ts r. rw q (h.on (Verbatim k ∷ ts) (more, e, r));
             back = λ us r.
                 let g = h.back us r in
                 let x = next s v (Verbatim k) g.0 more e g.1 in
@@ -236,7 +236,7 @@ module _ (reach : EscapeReach) (at : ℕ → ℕ → Step) (L len base m : ℕ) 
             fewer = λ _. fewer';
           }
 
-      pub on_replacement : (a b : ℕ) (e : at s v ≡ Replacement a b) (n' : ℕ) (buf' : List ℕ)
+      pub on_replacement : (a b : ℕ) (e : at s v ≡ Some (Replacement a b)) (n' : ℕ) (buf' : List ℕ)
           → n' ≡ count_open n from s + 1 → buf' ≡ put_replacement buf n base from s a b → Going buf' (s + a) (v + b) (s + a) n'
       unfolding IsReading laid put_replacement
       on_replacement a b e n' buf' en eb =
@@ -253,7 +253,7 @@ module _ (reach : EscapeReach) (at : ℕ → ℕ → Step) (L len base m : ℕ) 
                 subst (λ (l : List ℕ). Kept m (W ++ (p ∷ [])) l) (sym (eb ∙ ap (λ (k : ℕ). put_piece (put_open buf n base from s) k p) c))
                 (put_kept m W (put_open buf n base from s) p kept_W);
             on = λ ts r.
-                let g = h.on (Replacement a b ∷ ts) (more, e, tt, r) in
+                let g = h.on (Replacement a b ∷ ts) (more, e, r) in
                 (g.0, g.1, rw q (g.2 ∙ regroup h.written (closed_run (base + from) (base + s)) p (laid (base + s + a) (base + s + a) ts)));
             back = λ us r.
                 let g = h.back us r in
@@ -267,12 +267,8 @@ module _ (reach : EscapeReach) (at : ℕ → ℕ → Step) (L len base m : ℕ) 
           }
 
       -- stuck short of the value's end: no reading at all
-      pub on_none : at s v ≡ NoStep → (us : List Step) → IsReading at len 0 0 us → ⊥
-      unfolding IsReading
-      on_none e us r =
-          let g = h.back us r in
-          let x = next s v NoStep g.0 more e g.1 in
-          (subst (λ (l : List Step). IsReading at len s v l) x.1 g.1).2
+      pub on_none : at s v ≡ None → (us : List Step) → IsReading at len 0 0 us → ⊥
+      on_none e us r = let g = h.back us r in stuck s v g.0 more e g.1
 
     -- at the value's end: the reading, and all its pieces
     module _ (end : len ≤ v) where
@@ -294,14 +290,14 @@ module _ (reach : EscapeReach) (at : ℕ → ℕ → Step) (L len base m : ℕ) 
       subst (λ (x : ℕ). Going buf x (v + 0) from n) es (subst (λ (x : ℕ). Going buf s x from n) ev h)
 
   one_letter : (fair : Fair reach at L len) (buf : List ℕ) (s v from n k : ℕ) → Going buf (s + k) (v + k) from n → v + k < len
-      → at (s + k) (v + k) ≡ Verbatim 1 → Going buf (s + suc k) (v + suc k) from n
+      → at (s + k) (v + k) ≡ Some (Verbatim 1) → Going buf (s + suc k) (v + suc k) from n
   one_letter fair buf s v from n k h more e =
       let es : s + k + 1 ≡ s + suc k = omega arith in
       let ev : v + k + 1 ≡ v + suc k = omega arith in
       subst (λ (x : ℕ). Going buf x (v + suc k) from n) es (subst (λ (x : ℕ). Going buf (s + k + 1) x from n) ev (on_verbatim fair buf (s + k) (v + k) from n h more 1 e))
 
   pub on_letters : (fair : Fair reach at L len) (buf : List ℕ) (s v from n k : ℕ) → Going buf s v from n → v + k ≤ len
-      → ((j : ℕ) → j < k → at (s + j) (v + j) ≡ Verbatim 1) → Going buf (s + k) (v + k) from n
+      → ((j : ℕ) → j < k → at (s + j) (v + j) ≡ Some (Verbatim 1)) → Going buf (s + k) (v + k) from n
   on_letters fair buf s v from n zero h b all = no_letter buf s v from n h
   on_letters fair buf s v from n (suc k) h b all =
       one_letter fair buf s v from n k (on_letters fair buf s v from n k h (omega arith) (λ j l. all j (omega arith))) (omega arith) (all k (omega arith))

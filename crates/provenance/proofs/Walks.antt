@@ -6,13 +6,13 @@ use Prim.Native.Nat.{ℕ, ◌≤◌, ◌<◌}
 use native.Mathlib.Omega.{arith}
 use lib.ListN.{length}
 use borrow.Author.Tests.{le-leb, lt-leb}
+use Rattle.std.specs.Prelude.{None}
 use Rattle.provenance.specs.declared.step.Step.{Step}
-use Rattle.provenance.specs.declared.step.Step.TheVariants.{NoStep}
 use Rattle.provenance.specs.declared.walk.Walked.{Walked}
 use Rattle.provenance.specs.declared.walk.Walked.TheVariants.{Listed, NoRoom, NoList}
 use Rattle.provenance.specs.Escape.{EscapeReach}
 use Rattle.provenance.specs.EscapeLaws.{FairTable}
-use Rattle.provenance.specs.Grammar.{Rules, step_at}
+use Rattle.provenance.specs.Grammar.{Rules, FittingStep, step_at}
 use Rattle.provenance.specs.Reading.{IsReading, reading_of, Piece}
 use Rattle.provenance.specs.Layout.{room, zeros, answer_of, buffer_of, pieces_if}
 use Rattle.provenance.specs.Writing.{put_open, count_open, cleared_to, written_len}
@@ -22,7 +22,7 @@ use Rattle.provenance.proofs.PieceLaws.{laid, laid_is}
 use Rattle.provenance.proofs.Turn.{Kept, Going, on_none, at_end, end_count, end_kept, clear_all}
 
 module _ (r : Rules) {reach : EscapeReach} (fair : FairTable r.escapes reach) (src val : List ℕ) (base m : ℕ) where
-  abbrev at : ℕ → ℕ → Step
+  abbrev at : ℕ → ℕ → FittingStep
   at = step_at r src val
 
   abbrev result : Option (List Piece)
@@ -36,7 +36,7 @@ module _ (r : Rules) {reach : EscapeReach} (fair : FairTable r.escapes reach) (s
   walk_fair = grammar_fair r fair src val
 
   module _ (buf : List ℕ) (s v from n : ℕ) (h : Going reach at (length src) (length val) base m buf s v from n) where
-    pub ends_stuck : v < length val → at s v ≡ NoStep → (k : ℕ) (buf' : List ℕ) → k ≡ written_len n m → buf' ≡ cleared_to k buf → Ends NoList buf'
+    pub ends_stuck : v < length val → at s v ≡ None → (k : ℕ) (buf' : List ℕ) → k ≡ written_len n m → buf' ≡ cleared_to k buf → Ends NoList buf'
     unfolding pieces_if answer_of buffer_of
     ends_stuck more e k buf' ek eb =
         let none_found : reading_of r src val ≡ none = no_reading_found r fair src val (on_none reach at (length src) (length val) base m walk_fair buf s v from n h more e) in

@@ -2,10 +2,9 @@
 -- (row 8), the walk's answer, and the pieces that it leaves. The rules of the style are a parameter, and so is how far their escapes
 -- reach. `DemandLaws` proves it of the walk; of the public calls it is proved in `parser`.
 use Prim.{Unit}
-use Rattle.std.specs.Prelude.{ℕ, ◌+◌, ◌≤◌, ◌<◌, ◌≡◌, ◌⊎◌, List, [], ◌∷◌, length, take, drop}
+use Rattle.std.specs.Prelude.{ℕ, ◌+◌, ◌≤◌, ◌<◌, ◌≡◌, ◌⊎◌, Some, None, List, [], ◌∷◌, length, take, drop}
 use Rattle.utf8.specs.Boundary.{Boundary}
 use Rattle.provenance.specs.declared.step.Step.{Step}
-use Rattle.provenance.specs.declared.step.Step.TheVariants.{NoStep}
 use Rattle.provenance.specs.declared.walk.Walked.{Walked}
 use Rattle.provenance.specs.declared.walk.Walked.TheVariants.{Listed, NoRoom, NoList}
 use Rattle.provenance.specs.Escape.{EscapeReach}
@@ -53,7 +52,7 @@ contents (p ∷ ps) = p.content + contents ps
 -- the last of the steps from s and v on is an escape: step 1 does not fit where it stands, and step 2 gives it
 unfoldable pub EscapeLast : Rules → List ℕ → List ℕ → ℕ → ℕ → List Step → Type 0
 EscapeLast r src val s v [] = ⊥
-EscapeLast r src val s v (t ∷ []) = (break_step r (drop s src) (drop v val) ≡ NoStep) × (escape_step r (drop s src) ≡ t)
+EscapeLast r src val s v (t ∷ []) = (break_step r (drop s src) (drop v val) ≡ None) × (escape_step r (drop s src) ≡ Some t)
 EscapeLast r src val s v (t ∷ u ∷ ts) = EscapeLast r src val (s + source_len t) (v + content_len t) (u ∷ ts)
 
 -- a reading of the value in the file bytes from `first` on, and all that holds of its pieces ps

@@ -1,7 +1,7 @@
 -- The laws of escapes: today's tables are fair, and what `\u` counts where its bytes end inside a character (P7).
-use Rattle.std.specs.Prelude.{◌≡◌, refl, Bool, true, false, ◌&&◌, ◌||◌, cond, List, [], ◌∷◌, ℕ, zero, suc, ◌+◌, ◌*◌, ◌≤◌, ◌<◌, leb, eqb, length, take, drop, get_or}
+use Rattle.std.specs.Prelude.{◌≡◌, refl, Bool, true, false, ◌&&◌, ◌||◌, cond, Option, Some, None, List, [], ◌∷◌, ℕ, zero, suc, ◌+◌, ◌*◌, ◌≤◌, ◌<◌, leb, eqb, length, take, drop, get_or}
 use Rattle.std.proofs.Common.{sym, ap, ◌∙◌, add-one, arith, length-take, length-drop, drop-cons, lt-ltb, le-ltb, le-leb, leb-true, eqb-true}
-use Rattle.std.proofs.Math.Option.{Option, none, some, none-ne-some}
+use Rattle.std.proofs.lemmas.Option.{none-some, same_Some}
 use Prim.{Unit, tt}
 use Rattle.std.proofs.lemmas.Bool.{lt-leb}
 use Rattle.utf8.specs.Class.{inside, is_hex_digit}
@@ -12,10 +12,9 @@ use Rattle.utf8.proofs.Utf8Laws.{first_char_ascii, boundary_is, char_at}
 use Rattle.utf8.specs.declared.utf8.Char.{Char}
 use Rattle.measure.specs.Scalar.{single_quoted, double_quoted}
 use Rattle.provenance.specs.declared.escape.Escape.{Escape}
-use Rattle.provenance.specs.declared.escape.Escape.TheVariants.{Takes, NoEscape}
 use Rattle.provenance.specs.Run.{white_run}
 use Rattle.utf8.specs.Ascii.{newline, carriage_return, single_quote, backslash}
-use Rattle.provenance.specs.Escape.{plus, EscapeTable, EscapeReach, hex_value, digits_from, digits, radix16, code_content, single_quote_escapes, is_one_of, one_byte_escapes, backslash_escape, double_quote_escapes, escapes_reach, escapes_of}
+use Rattle.provenance.specs.Escape.{plus, EscapeTable, takes, EscapeReach, hex_value, digits_from, digits, radix16, code_content, single_quote_escapes, is_one_of, one_byte_escapes, backslash_escape, double_quote_escapes, escapes_reach, escapes_of}
 use Rattle.utf8.specs.Tests.{clash, by_order, and_both}
 use Rattle.provenance.specs.Tests.{by_test, by_answer, cond_taken, by_cond, byte_past, byte_inside}
 use Rattle.provenance.specs.RunLaws.{run_within}
@@ -23,13 +22,13 @@ use Rattle.provenance.specs.RunLaws.{run_within}
 -- what demand 3 asks of a table
 pub record FairTable (escapes : EscapeTable) (reach : EscapeReach) : Type 0 where
   -- no escape stands at the source's end: only step 4 fits there
-  pub some_source : (src : List ℕ) (a b : ℕ) → escapes src ≡ Takes a b → 0 < length src
+  pub some_source : (src : List ℕ) (a b : ℕ) → escapes src ≡ takes a b → 0 < length src
   -- an escape takes a byte: so every reading ends
-  pub some_taken : (src : List ℕ) (a b : ℕ) → escapes src ≡ Takes a b → 0 < a
+  pub some_taken : (src : List ℕ) (a b : ℕ) → escapes src ≡ takes a b → 0 < a
   -- so far past the text may a piece end
-  pub few_past : (src : List ℕ) (a b : ℕ) → escapes src ≡ Takes a b → a ≤ length src + reach.past
+  pub few_past : (src : List ℕ) (a b : ℕ) → escapes src ≡ takes a b → a ≤ length src + reach.past
   -- by less than this may the contents pass the value's length
-  pub few_content : (src : List ℕ) (a b : ℕ) → escapes src ≡ Takes a b → b ≤ reach.content
+  pub few_content : (src : List ℕ) (a b : ℕ) → escapes src ≡ takes a b → b ≤ reach.content
 
 -- ---- digits
 
@@ -87,15 +86,19 @@ sixteens_four (suc (suc (suc (suc (suc i))))) h = absurd (omega arith)
 
 -- ---- today's tables are fair
 
-no_takes : (a b : ℕ) → NoEscape ≡ Takes a b → ⊥
-no_takes a b h = let z : ◌≡◌ {A = ℕ} 0 1 = cc in omega arith
+no_takes : (a b : ℕ) → None ≡ takes a b → ⊥
+no_takes a b h = none-some _ h
+
+-- escapes are equal by their two numbers
+pub takes_parts : (a b x y : ℕ) → takes a b ≡ takes x y → (a ≡ x) × (b ≡ y)
+takes_parts a b x y h = let e = same_Some _ _ h in (ap (λ (z : Escape). z.source) e, ap (λ (z : Escape). z.content) e)
 
 -- what an escape of these numbers takes of a source of this length
 abbrev Modest : ℕ → ℕ → ℕ → Type 0
 Modest n a b = (0 < n) × (0 < a) × (a ≤ n + 4) × (b ≤ 3)
 
-modest_as : (n a b x y : ℕ) → Modest n a b → Takes a b ≡ Takes x y → Modest n x y
-modest_as n a b x y m e = let e₁ : a ≡ x = cc in let e₂ : b ≡ y = cc in omega arith
+modest_as : (n a b x y : ℕ) → Modest n a b → takes a b ≡ takes x y → Modest n x y
+modest_as n a b x y m e = let p = takes_parts a b x y e in omega arith
 
 -- four digits have a character of at most three bytes
 encode_three : (c : ℕ) → c < 0x1_0000 → length (encode c) ≤ 3
@@ -104,11 +107,11 @@ encode_three c h =
     by_order c 0x80 (λ p. rw (lt-ltb _ _ p) (omega arith))
     (λ p. by_order c 0x800 (λ q. rw (le-ltb _ _ p, lt-ltb _ _ q) (omega arith)) (λ q. rw (le-ltb _ _ p, le-ltb _ _ q, lt-ltb _ _ h) (omega arith)))
 
-content_three : (c : ℕ) → c < 0x1_0000 → code_content (some c) ≤ 3
+content_three : (c : ℕ) → c < 0x1_0000 → code_content (Some c) ≤ 3
 unfolding code_content
 content_three c h = by_test (λ (t : Bool). cond t 1 (length (encode c)) ≤ 3) (inside 0xd800 0xdfff c) (omega arith) (encode_three c h)
 
-none_three : code_content none ≤ 3
+none_three : code_content None ≤ 3
 unfolding code_content
 none_three = omega arith
 
@@ -135,46 +138,46 @@ radix_three (b ∷ bs) h =
 four_few : (l : List ℕ) → length (take 4 l) ≤ 4
 four_few l = let e = length-take 4 l in omega arith
 
-single_modest : (l : List ℕ) (a b : ℕ) → single_quote_escapes l ≡ Takes a b → Modest (length l) a b
+single_modest : (l : List ℕ) (a b : ℕ) → single_quote_escapes l ≡ takes a b → Modest (length l) a b
 unfolding single_quote_escapes
 single_modest l a b h =
-    let p = cond_taken (eqb (get_or l 0 0) single_quote && eqb (get_or l 1 0) single_quote) (Takes 2 1) NoEscape (Takes a b) (no_takes a b) h in
+    let p = cond_taken (eqb (get_or l 0 0) single_quote && eqb (get_or l 1 0) single_quote) (takes 2 1) None (takes a b) (no_takes a b) h in
     let q = and_both (eqb (get_or l 0 0) single_quote) (eqb (get_or l 1 0) single_quote) p.0 in
     let i : 0 < length l = byte_inside l 0 single_quote (eqb-true _ _ q.0) (omega arith) in
     modest_as (length l) 2 1 a b (omega arith, omega arith, omega arith, omega arith) p.1
 
-slash_modest : (c : ℕ) (l : List ℕ) (n a b : ℕ) → length l < n → backslash_escape c l ≡ Takes a b → (c ≡ 0 → ⊥) → 1 < n → Modest n a b
+slash_modest : (c : ℕ) (l : List ℕ) (n a b : ℕ) → length l < n → backslash_escape c l ≡ takes a b → (c ≡ 0 → ⊥) → 1 < n → Modest n a b
 unfolding backslash_escape
 slash_modest c l n a b k h z i =
     let w = run_within l in
     let u : code_content (radix16 (take 4 (drop 1 l))) ≤ 3 = radix_three (take 4 (drop 1 l)) (four_few (drop 1 l)) in
-    by_cond (is_one_of one_byte_escapes c) (Takes 2 1) _ (Takes a b) h (modest_as n 2 1 a b (omega arith, omega arith, omega arith, omega arith)) (λ h₁.
-    by_cond (eqb c 120) (Takes 4 1) _ (Takes a b) h₁ (modest_as n 4 1 a b (omega arith, omega arith, omega arith, omega arith)) (λ h₂.
-    by_cond (eqb c 117) (Takes 6 (code_content (radix16 (take 4 (drop 1 l))))) _ (Takes a b) h₂
+    by_cond (is_one_of one_byte_escapes c) (takes 2 1) _ (takes a b) h (modest_as n 2 1 a b (omega arith, omega arith, omega arith, omega arith)) (λ h₁.
+    by_cond (eqb c 120) (takes 4 1) _ (takes a b) h₁ (modest_as n 4 1 a b (omega arith, omega arith, omega arith, omega arith)) (λ h₂.
+    by_cond (eqb c 117) (takes 6 (code_content (radix16 (take 4 (drop 1 l))))) _ (takes a b) h₂
     (modest_as n 6 (code_content (radix16 (take 4 (drop 1 l)))) a b (omega arith, omega arith, omega arith, u)) (λ h₃.
-    by_cond (eqb c newline || eqb c carriage_return) (Takes (1 + length (white_run l)) 0) NoEscape (Takes a b) h₃
+    by_cond (eqb c newline || eqb c carriage_return) (takes (1 + length (white_run l)) 0) None (takes a b) h₃
     (modest_as n (1 + length (white_run l)) 0 a b (omega arith, omega arith, omega arith, omega arith)) (λ h₄. absurd (no_takes a b h₄)))))
 
 -- nothing stands behind a backslash at the end
-slash_end : (l : List ℕ) → backslash_escape 0 l ≡ NoEscape
+slash_end : (l : List ℕ) → backslash_escape 0 l ≡ None
 unfolding backslash_escape one_byte_escapes is_one_of
 slash_end l = refl
 
-double_modest : (l : List ℕ) (a b : ℕ) → double_quote_escapes l ≡ Takes a b → Modest (length l) a b
+double_modest : (l : List ℕ) (a b : ℕ) → double_quote_escapes l ≡ takes a b → Modest (length l) a b
 unfolding double_quote_escapes
 double_modest l a b h =
-    let p = cond_taken (eqb (get_or l 0 0) backslash) (backslash_escape (get_or l 1 0) (drop 1 l)) NoEscape (Takes a b) (no_takes a b) h in
+    let p = cond_taken (eqb (get_or l 0 0) backslash) (backslash_escape (get_or l 1 0) (drop 1 l)) None (takes a b) (no_takes a b) h in
     let i : 0 < length l = byte_inside l 0 backslash (eqb-true _ _ p.0) (omega arith) in
     let d = length-drop 1 l in
     let z : get_or l 1 0 ≡ 0 → ⊥ = (λ e. no_takes a b (sym (slash_end (drop 1 l)) ∙ ap (λ (c : ℕ). backslash_escape c (drop 1 l)) (sym e) ∙ p.1)) in
     let j : 1 < length l = by_order 1 (length l) (λ lt. lt) (λ le. absurd (z (byte_past l 1 le))) in
     slash_modest (get_or l 1 0) (drop 1 l) (length l) a b (omega arith) p.1 z j
 
-style_modest : (style : ℕ) (l : List ℕ) (a b : ℕ) → escapes_of style l ≡ Takes a b → Modest (length l) a b
+style_modest : (style : ℕ) (l : List ℕ) (a b : ℕ) → escapes_of style l ≡ takes a b → Modest (length l) a b
 unfolding escapes_of
 style_modest style l a b h =
-    by_cond (eqb style single_quoted) (single_quote_escapes l) _ (Takes a b) h (single_modest l a b) (λ h₂.
-    by_cond (eqb style double_quoted) (double_quote_escapes l) NoEscape (Takes a b) h₂ (double_modest l a b) (λ h₃. absurd (no_takes a b h₃)))
+    by_cond (eqb style single_quoted) (single_quote_escapes l) _ (takes a b) h (single_modest l a b) (λ h₂.
+    by_cond (eqb style double_quoted) (double_quote_escapes l) None (takes a b) h₂ (double_modest l a b) (λ h₃. absurd (no_takes a b h₃)))
 
 pub style_fair : (style : ℕ) → FairTable (escapes_of style) escapes_reach
 style_fair style =
@@ -186,12 +189,12 @@ style_fair style =
     }
 
 -- no escape where no source is
-pub escape_nowhere : (style : ℕ) → escapes_of style [] ≡ NoEscape
+pub escape_nowhere : (style : ℕ) → escapes_of style [] ≡ None
 escape_nowhere style = go (escapes_of style []) refl
   where
-    go : (e : Escape) → escapes_of style [] ≡ e → e ≡ NoEscape
-    go NoEscape h = refl
-    go (Takes a b) h = absurd (let m = style_modest style [] a b h in omega arith)
+    go : (e : Option Escape) → escapes_of style [] ≡ e → e ≡ None
+    go None h = refl
+    go (Some e) h = absurd (let m = style_modest style [] e.source e.content h in omega arith)
 
 -- ---- bytes of \u that end inside a character (a listed difference: the Rust panics)
 
@@ -199,21 +202,21 @@ unfoldable Ascii : List ℕ → Type 0
 Ascii [] = Unit {0}
 Ascii (b ∷ bs) = (b < 0x80) × Ascii bs
 
-from_ascii : (l : List ℕ) (n c : ℕ) → digits_from n l ≡ some c → Ascii l
+from_ascii : (l : List ℕ) (n c : ℕ) → digits_from n l ≡ Some c → Ascii l
 unfolding digits_from Ascii
 from_ascii [] n c h = tt
 from_ascii (b ∷ bs) n c h =
-    let p = cond_taken (is_hex_digit b) (digits_from (n * 16 + hex_value b) bs) none (some c) (none-ne-some c) h in
+    let p = cond_taken (is_hex_digit b) (digits_from (n * 16 + hex_value b) bs) None (Some c) (none-some c) h in
     let d : b ≤ 102 = (hex_digit b p.0).high in
     (omega arith, from_ascii bs (n * 16 + hex_value b) c p.1)
 
-digits_ascii : (l : List ℕ) (c : ℕ) → digits l ≡ some c → Ascii l
+digits_ascii : (l : List ℕ) (c : ℕ) → digits l ≡ Some c → Ascii l
 unfolding digits
-digits_ascii [] c h = absurd (none-ne-some c h)
+digits_ascii [] c h = absurd (none-some c h)
 digits_ascii (b ∷ bs) c h = from_ascii (b ∷ bs) 0 c h
 
 -- what can be read is ASCII
-readable_ascii : (l : List ℕ) (c : ℕ) → radix16 l ≡ some c → Ascii l
+readable_ascii : (l : List ℕ) (c : ℕ) → radix16 l ≡ Some c → Ascii l
 unfolding radix16 Ascii
 readable_ascii [] c h = tt
 readable_ascii (b ∷ bs) c h =
@@ -241,5 +244,5 @@ unfolding code_content
 inside_a_character text i u b h n = go (radix16 (take 4 (drop i text))) refl
   where
     go : (o : Option ℕ) → radix16 (take 4 (drop i text)) ≡ o → code_content o ≡ 1
-    go none e = refl
-    go (some c) e = absurd (clash (sym (boundary_is (ascii_boundary text u 4 i b h (readable_ascii (take 4 (drop i text)) c e))) ∙ n))
+    go None e = refl
+    go (Some c) e = absurd (clash (sym (boundary_is (ascii_boundary text u 4 i b h (readable_ascii (take 4 (drop i text)) c e))) ∙ n))

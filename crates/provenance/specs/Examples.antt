@@ -6,10 +6,9 @@ use Rattle.utf8.specs.Boundary.{is_boundary}
 use Rattle.utf8.specs.Utf8.{encode}
 use Rattle.measure.specs.Plain.{is_fold}
 use Rattle.measure.specs.Scalar.{plain, single_quoted, double_quoted, literal, folded}
-use Rattle.provenance.specs.declared.escape.Escape.TheVariants.{Takes}
 use Rattle.provenance.specs.declared.walk.Walked.TheVariants.{NoRoom}
 use Rattle.provenance.specs.Run.{white_run, newlines_in, through_last, cut, blank_run, only_newlines}
-use Rattle.provenance.specs.Escape.{digits_from, digits, radix16, code_content, single_quote_escapes, is_one_of, one_byte_escapes, backslash_escape, double_quote_escapes, escapes_of}
+use Rattle.provenance.specs.Escape.{takes, digits_from, digits, radix16, code_content, single_quote_escapes, is_one_of, one_byte_escapes, backslash_escape, double_quote_escapes, escapes_of}
 use Rattle.provenance.specs.Grammar.{break_pair, opens_break, break_step, equal_step, end_step, step}
 use Rattle.provenance.specs.Reading.{read_by, reading_of, piece, verbatim, replacement, step_pieces, joined, pieces_of}
 use Rattle.provenance.specs.Layout.{laid_by, answer_of, buffer_of, pieces_if}
@@ -43,7 +42,7 @@ pub record Worked : Type 0 where
   pub cut_after_count : scalar_list (bytes "\n\n  a") 0 0 (bytes "\n\n a") literal 1
       ≡ some (piece replacement 0 3 2 ∷ piece verbatim 3 5 2 ∷ [])
   -- `\u+041` has the code 41; digits that cannot be read count 1; a cut_off escape claims its six bytes
-  pub plus_sign : double_quote_escapes (0x5c ∷ bytes "u+041") ≡ Takes 6 1
+  pub plus_sign : double_quote_escapes (0x5c ∷ bytes "u+041") ≡ takes 6 1
   pub cut_off : scalar_list (0x22 ∷ 0x5c ∷ bytes "u") 0 3 (bytes "a") double_quoted 0 ≡ some (piece replacement 1 7 1 ∷ [])
   -- the pieces of K10 in a buffer with room for one, and with room for none
   pub k10_left : buffer_of 5 (some (piece replacement 1 7 3 ∷ [])) ≡ 2 ∷ 1 ∷ 7 ∷ 3 ∷ 0 ∷ []

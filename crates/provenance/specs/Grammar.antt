@@ -3,14 +3,14 @@
 -- on. Nothing is left of the source at its end and past it.
 --
 -- The escape table and the facts of the style are parameters.
-use Rattle.std.specs.Prelude.{ℕ, Bool, ◌&&◌, ◌||◌, cond, List, [], ◌∷◌, ltb, leb, eqb, length, take, drop, get_or}
+use Rattle.std.specs.Prelude.{ℕ, Bool, ◌&&◌, ◌||◌, cond, Option, Some, None, option_map, List, [], ◌∷◌, ltb, leb, eqb, length, take, drop, get_or}
+use Rattle.std.specs.Option.{option_or}
 use Rattle.utf8.specs.Ascii.{same_bytes, tab, newline, carriage_return}
 use Rattle.utf8.specs.Class.{is_white_space_byte}
 use Rattle.measure.specs.Scalar.{literal}
 use Rattle.provenance.specs.declared.escape.Escape.{Escape}
-use Rattle.provenance.specs.declared.escape.Escape.TheVariants.{Takes, NoEscape}
 use Rattle.provenance.specs.declared.step.Step.{Step}
-use Rattle.provenance.specs.declared.step.Step.TheVariants.{Verbatim, Replacement, NoStep}
+use Rattle.provenance.specs.declared.step.Step.TheVariants.{Verbatim, Replacement}
 use Rattle.provenance.specs.Run.{white_run, newlines_in, cut, blank_run, only_newlines}
 use Rattle.measure.specs.Plain.{is_fold}
 use Rattle.provenance.specs.Escape.{EscapeTable, escapes_of}
@@ -21,11 +21,9 @@ pub record Rules : Type 0 where
   pub block : Bool
   pub column : ℕ
 
--- the first that fits
-abbrev pub or_else : Step → Step → Step
-or_else (Verbatim n) t = Verbatim n
-or_else (Replacement a b) t = Replacement a b
-or_else NoStep t = t
+-- what fits at two places: a step, or none
+abbrev pub FittingStep : Type 0
+FittingStep = Option Step
 
 -- ---- step 1, a break
 
@@ -37,8 +35,8 @@ paired xs ys = cond (same_bytes xs ys) (Verbatim (length xs)) (Replacement (leng
 unfoldable pub break_pair : Bool → ℕ → List ℕ → List ℕ → Step
 break_pair block column run val = paired (cut block column run) (take (newlines_in run) (blank_run val))
 
-abbrev pub break_over : Bool → ℕ → List ℕ → List ℕ → Step
-break_over block column run val = cond (ltb 0 (newlines_in run)) (break_pair block column run val) NoStep
+abbrev pub break_over : Bool → ℕ → List ℕ → List ℕ → FittingStep
+break_over block column run val = cond (ltb 0 (newlines_in run)) (Some (break_pair block column run val)) None
 
 -- the source's byte: CR or newline in a block (W3), any white space elsewhere
 abbrev pub starts_break : Bool → ℕ → Bool
@@ -51,39 +49,38 @@ is_break_byte c = is_fold c || eqb c tab
 unfoldable pub opens_break : Bool → ℕ → ℕ → Bool
 opens_break block b c = is_break_byte c && starts_break block b
 
-unfoldable pub break_step : Rules → List ℕ → List ℕ → Step
+unfoldable pub break_step : Rules → List ℕ → List ℕ → FittingStep
 break_step r src val =
-    cond (opens_break r.block (get_or src 0 0) (get_or val 0 0)) (break_over r.block r.column (white_run src) val) NoStep
+    cond (opens_break r.block (get_or src 0 0) (get_or val 0 0)) (break_over r.block r.column (white_run src) val) None
 
 -- ---- step 2, an escape
 
 abbrev pub as_step : Escape → Step
-as_step (Takes a b) = Replacement a b
-as_step NoEscape = NoStep
+as_step e = Replacement e.source e.content
 
-abbrev pub escape_step : Rules → List ℕ → Step
-escape_step r src = as_step (r.escapes src)
+abbrev pub escape_step : Rules → List ℕ → FittingStep
+escape_step r src = option_map as_step (r.escapes src)
 
 -- ---- step 3, equal bytes
 
-unfoldable pub equal_step : List ℕ → List ℕ → Step
-equal_step [] val = NoStep
-equal_step (x ∷ xs) [] = NoStep
-equal_step (x ∷ xs) (y ∷ ys) = cond (eqb x y) (Verbatim 1) NoStep
+unfoldable pub equal_step : List ℕ → List ℕ → FittingStep
+equal_step [] val = None
+equal_step (x ∷ xs) [] = None
+equal_step (x ∷ xs) (y ∷ ys) = cond (eqb x y) (Some (Verbatim 1)) None
 
 -- ---- step 4, newlines that no source is left for
 
-unfoldable pub end_step : List ℕ → List ℕ → Step
-end_step [] val = cond (only_newlines val) (Replacement 0 (length val)) NoStep
-end_step (x ∷ xs) val = NoStep
+unfoldable pub end_step : List ℕ → List ℕ → FittingStep
+end_step [] val = cond (only_newlines val) (Some (Replacement 0 (length val))) None
+end_step (x ∷ xs) val = None
 
 -- ---- the four in turn
 
-unfoldable pub step : Rules → List ℕ → List ℕ → Step
-step r src val = or_else (break_step r src val) (or_else (escape_step r src) (or_else (equal_step src val) (end_step src val)))
+unfoldable pub step : Rules → List ℕ → List ℕ → FittingStep
+step r src val = option_or (break_step r src val) (option_or (escape_step r src) (option_or (equal_step src val) (end_step src val)))
 
 -- at a source place and a value place
-abbrev pub step_at : Rules → List ℕ → List ℕ → ℕ → ℕ → Step
+abbrev pub step_at : Rules → List ℕ → List ℕ → ℕ → ℕ → FittingStep
 step_at r src val s v = step r (drop s src) (drop v val)
 
 -- ---- the rules of a style, which is a number as in `measure`: the literal one and what comes after it is a block

@@ -1,15 +1,15 @@
 -- At a letter the grammar's step is one equal byte, whatever the style (S11).
-use Rattle.std.specs.Prelude.{◌≡◌, refl, Bool, true, false, ◌&&◌, ◌||◌, cond, List, [], ◌∷◌, ℕ, suc, ◌+◌, ◌<◌, leb, eqb, drop, get_or}
+use Rattle.std.specs.Prelude.{◌≡◌, refl, Bool, true, false, ◌&&◌, ◌||◌, cond, Option, Some, None, List, [], ◌∷◌, ℕ, suc, ◌+◌, ◌<◌, leb, eqb, drop, get_or}
 use Rattle.std.proofs.Common.{sym, ap, ◌∙◌, ⊎_elim, arith, eq-eqb, ne_eqb, drop-cons, drop-drop, get_or-drop}
 use Rattle.std.proofs.lemmas.Bool.{lt-leb}
 use Rattle.utf8.specs.Class.{is_white_space_byte}
 use Rattle.measure.specs.Plain.{is_fold}
 use Rattle.measure.specs.Scalar.{single_quoted, double_quoted}
-use Rattle.provenance.specs.declared.escape.Escape.TheVariants.{NoEscape}
-use Rattle.provenance.specs.declared.step.Step.TheVariants.{Verbatim, NoStep}
+use Rattle.provenance.specs.declared.step.Step.TheVariants.{Verbatim}
+use Rattle.provenance.specs.declared.escape.Escape.{Escape}
 use Rattle.provenance.specs.Run.{white_run, newlines_in}
 use Rattle.provenance.specs.Escape.{single_quote_escapes, double_quote_escapes, escapes_of}
-use Rattle.provenance.specs.Grammar.{Rules, opens_break, break_step, equal_step, step, step_at, rules_of}
+use Rattle.provenance.specs.Grammar.{Rules, FittingStep, opens_break, break_step, equal_step, step, step_at, rules_of}
 use Rattle.letters.specs.Letters.{WordByte, LetterByte, Letters}
 use Rattle.utf8.specs.Tests.{by_order}
 
@@ -42,7 +42,7 @@ no_opening : (block : Bool) (a : ℕ) → 32 < a → opens_break block a a ≡ f
 unfolding opens_break is_fold
 no_opening block a h = rw (ne_eqb a 32 (λ e. omega arith), ne_eqb a 10 (λ e. omega arith), ne_eqb a 9 (λ e. omega arith))
 
-no_break : (r : Rules) (a : ℕ) (src val : List ℕ) → LetterByte a (get_or src 0 0) (get_or src 1 0) → break_step r (a ∷ src) (a ∷ val) ≡ NoStep
+no_break : (r : Rules) (a : ℕ) (src val : List ℕ) → LetterByte a (get_or src 0 0) (get_or src 1 0) → break_step r (a ∷ src) (a ∷ val) ≡ None
 unfolding break_step
 no_break r a src val l =
     by_order 32 a
@@ -52,24 +52,24 @@ no_break r a src val l =
     let e : a ≡ 32 = omega arith in
     rw (no_newline a src e (⊎_elim (λ n. absurd (n e)) (λ w. w) l.blank)) (either_way (opens_break r.block a a)))
   where
-    either_way : (t : Bool) → cond t NoStep NoStep ≡ NoStep
+    either_way : (t : Bool) → ◌≡◌ {A = FittingStep} (cond t None None) None
     either_way true = refl
     either_way false = refl
 
 -- ---- no escape
 
-no_escape : (style a : ℕ) (src : List ℕ) → (a ≡ 39 → ⊥) → (a ≡ 92 → ⊥) → escapes_of style (a ∷ src) ≡ NoEscape
+no_escape : (style a : ℕ) (src : List ℕ) → (a ≡ 39 → ⊥) → (a ≡ 92 → ⊥) → escapes_of style (a ∷ src) ≡ None
 unfolding escapes_of single_quote_escapes double_quote_escapes
 no_escape style a src q b = rw (ne_eqb a 39 q, ne_eqb a 92 b) (any (eqb style single_quoted) (eqb style double_quoted))
   where
-    any : (s t : Bool) → cond s NoEscape (cond t NoEscape NoEscape) ≡ NoEscape
+    any : (s t : Bool) → ◌≡◌ {A = Option Escape} (cond s None (cond t None None)) None
     any true t = refl
     any false true = refl
     any false false = refl
 
 -- ---- the step
 
-letter_step : (style column a : ℕ) (src val : List ℕ) → LetterByte a (get_or src 0 0) (get_or src 1 0) → step (rules_of style column) (a ∷ src) (a ∷ val) ≡ Verbatim 1
+letter_step : (style column a : ℕ) (src val : List ℕ) → LetterByte a (get_or src 0 0) (get_or src 1 0) → step (rules_of style column) (a ∷ src) (a ∷ val) ≡ Some (Verbatim 1)
 unfolding step equal_step
 letter_step style column a src val l =
     rw (no_break (rules_of style column) a src val l, no_escape style a src l.no_quote l.no_backslash, eq-eqb a a refl)
@@ -77,7 +77,7 @@ letter_step style column a src val l =
 -- at each of the letters that source and value go on with
 pub letters-steps :
     (style column : ℕ) (src val : List ℕ) (s v n : ℕ) → Letters (drop s src) (drop v val) n →
-    (j : ℕ) → j < n → step_at (rules_of style column) src val (s + j) (v + j) ≡ Verbatim 1
+    (j : ℕ) → j < n → step_at (rules_of style column) src val (s + j) (v + j) ≡ Some (Verbatim 1)
 letters-steps style column src val s v n l j h =
     let p = l.run.each j h in
     let a = get_or (drop s src) j 0 in

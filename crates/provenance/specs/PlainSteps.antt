@@ -1,6 +1,7 @@
 -- How many source bytes the walk of a plain scalar takes, if it has a reading, from what is left of the source and of the value: over a
 -- break, over equal bytes, and where nothing fits.
-use Rattle.std.specs.Prelude.{◌≡◌, Bool, ◌&&◌, ◌⊎◌, ltb, leb, eqb, take, drop, get_or}
+use Rattle.std.specs.Prelude.{◌≡◌, Bool, ◌&&◌, ◌⊎◌, Some, None, ltb, leb, eqb, take, drop, get_or}
+use Rattle.std.specs.Option.{option_or}
 use Rattle.std.proofs.Math.Path.{refl, ap}
 use Rattle.std.proofs.Common.{sym, ◌∙◌, zero-add, add-zero, drop-drop}
 use Rattle.std.proofs.Math.Bool.{true, false, cond}
@@ -19,12 +20,12 @@ use Rattle.measure.specs.Run.{holds_newline}
 use Rattle.measure.specs.Plain.{is_fold}
 use Rattle.measure.specs.Scalar.{plain}
 use Rattle.provenance.specs.declared.step.Step.{Step}
-use Rattle.provenance.specs.declared.step.Step.TheVariants.{Verbatim, Replacement, NoStep}
+use Rattle.provenance.specs.declared.step.Step.TheVariants.{Verbatim, Replacement}
 use Rattle.provenance.specs.Run.{white_run, newlines_in, cut, blank_run, only_newlines}
 use Rattle.provenance.specs.Escape.{EscapeReach, escapes_of}
 use Rattle.provenance.specs.EscapeLaws.{FairTable, style_fair}
-use Rattle.provenance.specs.Grammar.{Rules, or_else, paired, break_pair, is_break_byte, opens_break, break_step, equal_step, end_step, step, step_at, rules_of}
-use Rattle.provenance.specs.Reading.{Fits, source_len, content_len, step_then, read_by, reading_of}
+use Rattle.provenance.specs.Grammar.{Rules, FittingStep, paired, break_pair, is_break_byte, opens_break, break_step, equal_step, end_step, step, step_at, rules_of}
+use Rattle.provenance.specs.Reading.{source_len, content_len, source_by, content_by, step_then, read_by, reading_of}
 use Rattle.provenance.specs.ReadingLaws.{read_from, from_start, reading_ends, reading_goes_on}
 use Rattle.provenance.specs.StepLaws.{same_true}
 use Rattle.provenance.specs.Tests.{by_test, by_answer, and_no}
@@ -48,9 +49,9 @@ module _ (r : Rules) (src val : List ℕ) (s v : ℕ) where
   read_there zero i j = rw (same_end j)
   read_there (suc most) i j =
       let t = step_at r (drop s src) (drop v val) i j in
-      let a : s + i + source_len t ≡ s + (i + source_len t) = omega arith in
-      let b : v + j + content_len t ≡ v + (j + content_len t) = omega arith in
-      rw (same_end j, same_step i j, a, b, read_there most (i + source_len t) (j + content_len t))
+      let a : s + i + source_by t ≡ s + (i + source_by t) = omega arith in
+      let b : v + j + content_by t ≡ v + (j + content_by t) = omega arith in
+      rw (same_end j, same_step i j, a, b, read_there most (i + source_by t) (j + content_by t))
 
   from_there : read_from r src val s v ≡ reading_of r (drop s src) (drop v val)
   unfolding read_from reading_of
@@ -63,11 +64,11 @@ module _ (r : Rules) (src val : List ℕ) (s v : ℕ) where
       ∙ read_there most 0 0
 
 reading_on : (r : Rules) {reach : EscapeReach} → FairTable r.escapes reach → (src val : List ℕ) → 0 < length val
-    → reading_of r src val ≡ step_then (step r src val) (reading_of r (drop (source_len (step r src val)) src) (drop (content_len (step r src val)) val))
+    → reading_of r src val ≡ step_then (step r src val) (reading_of r (drop (source_by (step r src val)) src) (drop (content_by (step r src val)) val))
 reading_on r fair src val h =
     let t = step r src val in
     from_start r fair src val ∙ reading_goes_on r fair src val 0 0 h
-    ∙ rw (zero-add (source_len t), zero-add (content_len t)) (ap (step_then t) (from_there r src val (source_len t) (content_len t)))
+    ∙ rw (zero-add (source_by t), zero-add (content_by t)) (ap (step_then t) (from_there r src val (source_by t) (content_by t)))
 
 -- ---- how many source bytes it takes
 
@@ -75,13 +76,10 @@ abbrev pub more_taken : ℕ → Option ℕ → Option ℕ
 more_taken n none = none
 more_taken n (some m) = some (n + m)
 
-then_taken : (t : Step) (o : Option (List Step)) → Fits t → source_taken (step_then t o) ≡ more_taken (source_len t) (source_taken o)
+then_taken : (t : Step) (o : Option (List Step)) → source_taken (step_then (Some t) o) ≡ more_taken (source_len t) (source_taken o)
 unfolding source_lens
-then_taken (Verbatim n) none f = refl
-then_taken (Verbatim n) (some ts) f = refl
-then_taken (Replacement a b) none f = refl
-then_taken (Replacement a b) (some ts) f = refl
-then_taken NoStep o f = absurd f
+then_taken t none = refl
+then_taken t (some ts) = refl
 
 -- ---- runs and bytes
 
@@ -96,11 +94,6 @@ unfolding white_run holds_newline
 run_begins [] h = absurd (clash (sym h))
 run_begins (b ∷ src) h = by_answer (is_white_space_byte b) (λ e. e) (λ e. absurd (clash (sym (rw e at h))))
 
-either_pair : (xs ys : List ℕ) (t : Step) → or_else (paired xs ys) t ≡ paired xs ys
-either_pair xs ys t =
-    by_test (λ (b : Bool). or_else (cond b (Verbatim (length xs)) (Replacement (length xs) (length ys))) t ≡ cond b (Verbatim (length xs)) (Replacement (length xs) (length ys)))
-    (same_bytes xs ys) refl refl
-
 -- bytes that begin no break
 abbrev pub Quiet : List ℕ → Type 0
 Quiet [] = Unit {0}
@@ -114,21 +107,21 @@ module _ (column : ℕ) where
   unfolding source_lens
   taken_end src = ap source_taken (from_start (rules_of plain column) (style_fair plain) src [] ∙ reading_ends (rules_of plain column) (style_fair plain) src [] 0 0 (omega arith))
 
-  taken_by : (src val : List ℕ) (t : Step) → 0 < length val → step (rules_of plain column) src val ≡ t → Fits t
+  taken_by : (src val : List ℕ) (t : Step) → 0 < length val → step (rules_of plain column) src val ≡ Some t
       → plain_taken src val ≡ more_taken (source_len t) (plain_taken (drop (source_len t) src) (drop (content_len t) val))
-  taken_by src val t h e f =
-      ap source_taken (reading_on (rules_of plain column) (style_fair plain) src val h) ∙ rw e (then_taken t _ f)
+  taken_by src val t h e =
+      ap source_taken (reading_on (rules_of plain column) (style_fair plain) src val h) ∙ rw e (then_taken t _)
 
-  taken_not : (src val : List ℕ) → 0 < length val → step (rules_of plain column) src val ≡ NoStep → plain_taken src val ≡ none
+  taken_not : (src val : List ℕ) → 0 < length val → step (rules_of plain column) src val ≡ None → plain_taken src val ≡ none
   taken_not src val h e = ap source_taken (reading_on (rules_of plain column) (style_fair plain) src val h) ∙ rw e
 
   -- ---- a break
 
   break_step_is : (src : List ℕ) (c : ℕ) (val : List ℕ) → is_break_byte c ≡ true → holds_newline (white_run src) ≡ true
-      → step (rules_of plain column) src (c ∷ val) ≡ paired (white_run src) (take (newlines_in (white_run src)) (blank_run (c ∷ val)))
+      → step (rules_of plain column) src (c ∷ val) ≡ Some (paired (white_run src) (take (newlines_in (white_run src)) (blank_run (c ∷ val))))
   unfolding step break_step break_pair opens_break cut
   break_step_is src c val e h =
-      rw (e, run_begins src h, newlines_held (white_run src), h) (either_pair (white_run src) (take (newlines_in (white_run src)) (blank_run (c ∷ val))) _)
+      rw (e, run_begins src h, newlines_held (white_run src), h)
 
   -- the run, and with it the blanks and newlines ys
   pub taken_break : (src : List ℕ) (c : ℕ) (val ys : List ℕ) → is_break_byte c ≡ true → holds_newline (white_run src) ≡ true
@@ -136,30 +129,30 @@ module _ (column : ℕ) where
       → plain_taken src (c ∷ val) ≡ more_taken (length (white_run src)) (plain_taken (drop (length (white_run src)) src) (drop (length ys) (c ∷ val)))
   taken_break src c val ys e h w =
       let xs = white_run src in
-      let p : step (rules_of plain column) src (c ∷ val) ≡ paired xs ys = break_step_is src c val e h ∙ ap (paired xs) w in
+      let p : step (rules_of plain column) src (c ∷ val) ≡ Some (paired xs ys) = break_step_is src c val e h ∙ ap (λ (zs : List ℕ). Some (paired xs zs)) w in
       by_answer (same_bytes xs ys)
       (λ s.
       let z : length xs ≡ length ys = ap length (same_true xs ys s) in
-      taken_by src (c ∷ val) (Verbatim (length xs)) (omega arith) (p ∙ rw s) tt
+      taken_by src (c ∷ val) (Verbatim (length xs)) (omega arith) (p ∙ rw s)
       ∙ ap (λ (k : ℕ). more_taken (length xs) (plain_taken (drop (length xs) src) (drop k (c ∷ val)))) z)
-      (λ s. taken_by src (c ∷ val) (Replacement (length xs) (length ys)) (omega arith) (p ∙ rw s) tt)
+      (λ s. taken_by src (c ∷ val) (Replacement (length xs) (length ys)) (omega arith) (p ∙ rw s))
 
   -- ---- no break
 
   step_unbroken : (src : List ℕ) (c : ℕ) (val : List ℕ) → is_break_byte c && holds_newline (white_run src) ≡ false
-      → step (rules_of plain column) src (c ∷ val) ≡ or_else (equal_step src (c ∷ val)) (end_step src (c ∷ val))
+      → step (rules_of plain column) src (c ∷ val) ≡ option_or (equal_step src (c ∷ val)) (end_step src (c ∷ val))
   unfolding step break_step opens_break escapes_of
   step_unbroken src c val e =
       rw (newlines_held (white_run src), not_taken (is_break_byte c) (is_white_space_byte (get_or src 0 0)) (holds_newline (white_run src)) _ e)
     where
-      not_taken : (a b n : Bool) (t : Step) → a && n ≡ false → cond (a && b) (cond n t NoStep) NoStep ≡ NoStep
+      not_taken : (a b n : Bool) (t : FittingStep) → a && n ≡ false → cond (a && b) (cond n t None) None ≡ None
       not_taken true true n t z = rw z
       not_taken true false n t z = refl
       not_taken false b n t z = refl
 
   pub taken_same : (x : ℕ) (src val : List ℕ) → is_break_byte x && holds_newline (white_run (x ∷ src)) ≡ false → plain_taken (x ∷ src) (x ∷ val) ≡ more_taken 1 (plain_taken src val)
   unfolding equal_step
-  taken_same x src val e = taken_by (x ∷ src) (x ∷ val) (Verbatim 1) (omega arith) (step_unbroken (x ∷ src) x val e ∙ rw (eq-eqb x x refl)) tt
+  taken_same x src val e = taken_by (x ∷ src) (x ∷ val) (Verbatim 1) (omega arith) (step_unbroken (x ∷ src) x val e ∙ rw (eq-eqb x x refl))
 
   pub taken_other : (x : ℕ) (src : List ℕ) (c : ℕ) (val : List ℕ) → is_break_byte c && holds_newline (white_run (x ∷ src)) ≡ false → (x ≡ c → ⊥) → plain_taken (x ∷ src) (c ∷ val) ≡ none
   unfolding equal_step end_step

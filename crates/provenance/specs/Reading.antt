@@ -2,33 +2,25 @@
 -- places if each is the step that stands where those before it end, and the value place is at or past the value's end after the last.
 -- `IsReading` says so; `reading_of` computes the reading, if there is one. Its number of steps is bounded only so that it ends: that it finds
 -- exactly the readings, and the equations a reader expects of it, are in `ReadingLaws`. Nothing else looks at the bound.
-use Prim.{Unit}
-use Rattle.std.specs.Prelude.{ℕ, zero, suc, ◌+◌, ◌≤◌, ◌<◌, ◌≡◌, Bool, ◌&&◌, cond, List, [], ◌∷◌, leb, eqb, length}
+use Rattle.std.specs.Prelude.{ℕ, zero, suc, ◌+◌, ◌≤◌, ◌<◌, ◌≡◌, Bool, ◌&&◌, cond, Some, None, List, [], ◌∷◌, leb, eqb, length}
 use Rattle.std.proofs.Math.Option.{Option, none, some}
 use Rattle.provenance.specs.declared.step.Step.{Step}
-use Rattle.provenance.specs.declared.step.Step.TheVariants.{Verbatim, Replacement, NoStep}
-use Rattle.provenance.specs.Grammar.{Rules, step_at}
+use Rattle.provenance.specs.declared.step.Step.TheVariants.{Verbatim, Replacement}
+use Rattle.provenance.specs.Grammar.{Rules, FittingStep, step_at}
 
 -- what a step takes of the source and of the value
 abbrev pub source_len : Step → ℕ
 source_len (Verbatim n) = n
 source_len (Replacement a b) = a
-source_len NoStep = 0
 
 abbrev pub content_len : Step → ℕ
 content_len (Verbatim n) = n
 content_len (Replacement a b) = b
-content_len NoStep = 0
-
-abbrev pub Fits : Step → Type 0
-Fits (Verbatim n) = Unit {0}
-Fits (Replacement a b) = Unit {0}
-Fits NoStep = ⊥
 
 -- the steps are a reading of a value of `len` bytes from the source place s and the value place v on
-unfoldable pub IsReading : (ℕ → ℕ → Step) → ℕ → ℕ → ℕ → List Step → Type 0
+unfoldable pub IsReading : (ℕ → ℕ → FittingStep) → ℕ → ℕ → ℕ → List Step → Type 0
 IsReading at len s v [] = len ≤ v
-IsReading at len s v (t ∷ ts) = (v < len) × (at s v ≡ t) × Fits t × IsReading at len (s + source_len t) (v + content_len t) ts
+IsReading at len s v (t ∷ ts) = (v < len) × (at s v ≡ Some t) × IsReading at len (s + source_len t) (v + content_len t) ts
 
 -- a reading of a value in its source, by the grammar
 abbrev pub Reading : Rules → List ℕ → List ℕ → List Step → Type 0
@@ -36,17 +28,24 @@ Reading r src val ts = IsReading (step_at r src val) (length val) 0 0 ts
 
 -- ---- the same as a function
 
-abbrev pub step_then : Step → Option (List Step) → Option (List Step)
-step_then (Verbatim n) none = none
-step_then (Verbatim n) (some ts) = some (Verbatim n ∷ ts)
-step_then (Replacement a b) none = none
-step_then (Replacement a b) (some ts) = some (Replacement a b ∷ ts)
-step_then NoStep rest = none
+-- where no step fits, nothing is taken
+abbrev pub source_by : FittingStep → ℕ
+source_by None = 0
+source_by (Some t) = source_len t
 
-unfoldable pub read_by : ℕ → (ℕ → ℕ → Step) → ℕ → ℕ → ℕ → Option (List Step)
+abbrev pub content_by : FittingStep → ℕ
+content_by None = 0
+content_by (Some t) = content_len t
+
+abbrev pub step_then : FittingStep → Option (List Step) → Option (List Step)
+step_then None rest = none
+step_then (Some t) none = none
+step_then (Some t) (some ts) = some (t ∷ ts)
+
+unfoldable pub read_by : ℕ → (ℕ → ℕ → FittingStep) → ℕ → ℕ → ℕ → Option (List Step)
 read_by zero at len s v = cond (leb len v) (some []) none
 read_by (suc most) at len s v =
-    cond (leb len v) (some []) (step_then (at s v) (read_by most at len (s + source_len (at s v)) (v + content_len (at s v))))
+    cond (leb len v) (some []) (step_then (at s v) (read_by most at len (s + source_by (at s v)) (v + content_by (at s v))))
 
 unfoldable pub reading_of : Rules → List ℕ → List ℕ → Option (List Step)
 reading_of r src val = read_by (length src + length val) (step_at r src val) (length val) 0 0
@@ -73,7 +72,6 @@ unfoldable pub step_pieces : ℕ → List Step → List Piece
 step_pieces s [] = []
 step_pieces s (Verbatim n ∷ ts) = piece verbatim s (s + n) n ∷ step_pieces (s + n) ts
 step_pieces s (Replacement a b ∷ ts) = piece replacement s (s + a) b ∷ step_pieces (s + a) ts
-step_pieces s (NoStep ∷ ts) = []
 
 abbrev pub both_verbatim : Piece → Piece → Bool
 both_verbatim p q = eqb p.kind verbatim && eqb q.kind verbatim

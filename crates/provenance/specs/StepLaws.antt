@@ -1,17 +1,18 @@
 -- What a step takes: at least a byte of the source or the rest of the value, and no more than there is, but for escapes. Over any table
 -- of escapes that is fair.
-use Rattle.std.specs.Prelude.{◌≡◌, true, ◌⊎◌, List, [], ◌∷◌, ℕ, ◌+◌, ◌-◌, ◌≤◌, ◌<◌, ltb, eqb, length, take, drop, get_or}
+use Rattle.std.specs.Prelude.{◌≡◌, true, ◌⊎◌, Option, Some, None, option_map, List, [], ◌∷◌, ℕ, ◌+◌, ◌-◌, ◌≤◌, ◌<◌, ltb, eqb, length, take, drop, get_or}
+use Rattle.std.specs.Option.{option_or}
 use Rattle.std.proofs.Math.Path.{refl}
+use Rattle.std.proofs.lemmas.Option.{none-some, same_Some}
 use Rattle.std.proofs.Common.{sym, ap, ◌∙◌, subst, inl, inr, ⊎_elim, arith, length-take, length-drop, ltb-true, eqb-true, eq-eqb}
 use Rattle.utf8.specs.Ascii.{same_bytes}
 use Rattle.provenance.specs.declared.escape.Escape.{Escape}
-use Rattle.provenance.specs.declared.escape.Escape.TheVariants.{Takes, NoEscape}
 use Rattle.provenance.specs.declared.step.Step.{Step}
-use Rattle.provenance.specs.declared.step.Step.TheVariants.{Verbatim, Replacement, NoStep}
+use Rattle.provenance.specs.declared.step.Step.TheVariants.{Verbatim, Replacement}
 use Rattle.provenance.specs.Run.{white_run, newlines_in, cut, blank_run, only_newlines}
 use Rattle.provenance.specs.Escape.{EscapeReach}
 use Rattle.provenance.specs.EscapeLaws.{FairTable}
-use Rattle.provenance.specs.Grammar.{Rules, or_else, paired, break_pair, opens_break, break_step, as_step, escape_step, equal_step, end_step, step, step_at}
+use Rattle.provenance.specs.Grammar.{Rules, FittingStep, paired, break_pair, opens_break, break_step, as_step, escape_step, equal_step, end_step, step, step_at}
 use Rattle.utf8.specs.Tests.{clash, and_both}
 use Rattle.provenance.specs.Tests.{cond_taken, cond_other}
 use Rattle.provenance.specs.RunLaws.{run_within, blanks_within, cut_within, cut_some, cut_is, blanks_are, front_of}
@@ -36,17 +37,11 @@ same_refl (x ∷ xs) = rw (eq-eqb x x refl) (same_refl xs)
 
 -- ---- steps of different kinds
 
-pub none_verbatim : (k : ℕ) → NoStep ≡ Verbatim k → ⊥
-none_verbatim k h = let z : ◌≡◌ {A = ℕ} 0 1 = cc in omega arith
-
-pub none_replacement : (a b : ℕ) → NoStep ≡ Replacement a b → ⊥
-none_replacement a b h = let z : ◌≡◌ {A = ℕ} 0 1 = cc in omega arith
-
 pub verbatim_replacement : (k a b : ℕ) → Verbatim k ≡ Replacement a b → ⊥
-verbatim_replacement k a b h = let z : ◌≡◌ {A = ℕ} 0 1 = cc in omega arith
+verbatim_replacement k a b h = cc
 
 pub replacement_verbatim : (k a b : ℕ) → Replacement a b ≡ Verbatim k → ⊥
-replacement_verbatim k a b h = let z : ◌≡◌ {A = ℕ} 0 1 = cc in omega arith
+replacement_verbatim k a b h = cc
 
 -- ---- what each step takes
 
@@ -66,12 +61,12 @@ module _ (r : Rules) (src val : List ℕ) where
   Y = take (newlines_in (white_run src)) (blank_run val)
 
   -- a break that fits
-  break_fits : (t : Step) → (NoStep ≡ t → ⊥) → break_step r src val ≡ t → (0 < newlines_in (white_run src)) × (paired X Y ≡ t)
+  break_fits : (t : Step) → break_step r src val ≡ Some t → (0 < newlines_in (white_run src)) × (paired X Y ≡ t)
   unfolding break_step break_pair
-  break_fits t n h =
-      let p = cond_taken (opens_break r.block (get_or src 0 0) (get_or val 0 0)) _ NoStep t n h in
-      let q = cond_taken (ltb 0 (newlines_in (white_run src))) (paired X Y) NoStep t n p.1 in
-      (ltb-true 0 _ q.0, q.1)
+  break_fits t h =
+      let p = cond_taken (opens_break r.block (get_or src 0 0) (get_or val 0 0)) _ None (Some t) (none-some t) h in
+      let q = cond_taken (ltb 0 (newlines_in (white_run src))) (Some (paired X Y)) None (Some t) (none-some t) p.1 in
+      (ltb-true 0 _ q.0, same_Some _ _ q.1)
 
   break_bounds : 0 < newlines_in (white_run src) → (0 < length X) × (length X ≤ length src) × (length Y ≤ length val)
   break_bounds h =
@@ -82,9 +77,9 @@ module _ (r : Rules) (src val : List ℕ) where
       let e₅ = blanks_within val in
       (e₁, omega arith, omega arith)
 
-  break_same : (k : ℕ) → break_step r src val ≡ Verbatim k → TakesSame src val k
+  break_same : (k : ℕ) → break_step r src val ≡ Some (Verbatim k) → TakesSame src val k
   break_same k h =
-      let p = break_fits (Verbatim k) (none_verbatim k) h in
+      let p = break_fits (Verbatim k) h in
       let q = cond_taken (same_bytes X Y) (Verbatim (length X)) (Replacement (length X) (length Y)) (Verbatim k) (replacement_verbatim k (length X) (length Y)) p.1 in
       let e : Verbatim (length X) ≡ Verbatim k = q.1 in
       let ek : length X ≡ k = cc in
@@ -95,9 +90,9 @@ module _ (r : Rules) (src val : List ℕ) where
       let ty : Y ≡ take k val = front_of (newlines_in (white_run src)) (blank_run val) val (blanks_are val) ∙ ap (λ (n : ℕ). take n val) ey in
       (omega arith, omega arith, omega arith, sym tx ∙ xy ∙ ty)
 
-  break_other : (a b : ℕ) → break_step r src val ≡ Replacement a b → (0 < a) × (a ≤ length src) × (b ≤ length val)
+  break_other : (a b : ℕ) → break_step r src val ≡ Some (Replacement a b) → (0 < a) × (a ≤ length src) × (b ≤ length val)
   break_other a b h =
-      let p = break_fits (Replacement a b) (none_replacement a b) h in
+      let p = break_fits (Replacement a b) h in
       let q = cond_other (same_bytes X Y) (Verbatim (length X)) (Replacement (length X) (length Y)) (Replacement a b) (verbatim_replacement (length X) a b) p.1 in
       let e : Replacement (length X) (length Y) ≡ Replacement a b = q.1 in
       let ea : length X ≡ a = cc in
@@ -105,77 +100,72 @@ module _ (r : Rules) (src val : List ℕ) where
       let m = break_bounds p.0 in
       (omega arith, omega arith, omega arith)
 
-equal_is : (src val : List ℕ) (t : Step) → (NoStep ≡ t → ⊥) → equal_step src val ≡ t → (Verbatim 1 ≡ t) × TakesSame src val 1
+equal_is : (src val : List ℕ) (t : Step) → equal_step src val ≡ Some t → (Verbatim 1 ≡ t) × TakesSame src val 1
 unfolding equal_step
-equal_is [] val t n h = absurd (n h)
-equal_is (x ∷ xs) [] t n h = absurd (n h)
-equal_is (x ∷ xs) (y ∷ ys) t n h =
-    let p = cond_taken (eqb x y) (Verbatim 1) NoStep t n h in
-    (p.1, (omega arith, omega arith, omega arith, ap (λ (z : ℕ). z ∷ []) (eqb-true x y p.0)))
+equal_is [] val t h = absurd (none-some t h)
+equal_is (x ∷ xs) [] t h = absurd (none-some t h)
+equal_is (x ∷ xs) (y ∷ ys) t h =
+    let p = cond_taken (eqb x y) (Some (Verbatim 1)) None (Some t) (none-some t) h in
+    (same_Some _ _ p.1, (omega arith, omega arith, omega arith, ap (λ (z : ℕ). z ∷ []) (eqb-true x y p.0)))
 
-end_is : (src val : List ℕ) (t : Step) → (NoStep ≡ t → ⊥) → end_step src val ≡ t → Replacement 0 (length val) ≡ t
+end_is : (src val : List ℕ) (t : Step) → end_step src val ≡ Some t → Replacement 0 (length val) ≡ t
 unfolding end_step
-end_is [] val t n h = (cond_taken (only_newlines val) (Replacement 0 (length val)) NoStep t n h).1
-end_is (x ∷ xs) val t n h = absurd (n h)
+end_is [] val t h = same_Some _ _ (cond_taken (only_newlines val) (Some (Replacement 0 (length val))) None (Some t) (none-some t) h).1
+end_is (x ∷ xs) val t h = absurd (none-some t h)
 
 -- ---- by what each of the four says
 module _ (r : Rules) {reach : EscapeReach} (fair : FairTable r.escapes reach) (src val : List ℕ) where
-  same_of : (k : ℕ) (B : Step) (E : Escape) (S : Step) → break_step r src val ≡ B → r.escapes src ≡ E → equal_step src val ≡ S
-      → or_else B (or_else (as_step E) (or_else S (end_step src val))) ≡ Verbatim k → TakesSame src val k
-  same_of k (Verbatim n) E S o p q h = break_same r src val k (o ∙ h)
-  same_of k (Replacement a b) E S o p q h = absurd (replacement_verbatim k a b h)
-  same_of k NoStep (Takes a b) S o p q h = absurd (replacement_verbatim k a b h)
-  same_of k NoStep NoEscape (Verbatim n) o p q h =
-      let w = equal_is src val (Verbatim k) (none_verbatim k) (q ∙ h) in
+  same_of : (k : ℕ) (B : FittingStep) (E : Option Escape) (S : FittingStep) → break_step r src val ≡ B → r.escapes src ≡ E → equal_step src val ≡ S
+      → option_or B (option_or (option_map as_step E) (option_or S (end_step src val))) ≡ Some (Verbatim k) → TakesSame src val k
+  same_of k (Some t) E S o p q h = break_same r src val k (o ∙ h)
+  same_of k None (Some e) S o p q h = absurd (replacement_verbatim k e.source e.content (same_Some _ _ h))
+  same_of k None None (Some t) o p q h =
+      let w = equal_is src val (Verbatim k) (q ∙ h) in
       let e : Verbatim 1 ≡ Verbatim k = w.0 in
       let e' : 1 ≡ k = cc in
       subst (λ (n : ℕ). TakesSame src val n) e' w.1
-  same_of k NoStep NoEscape (Replacement a b) o p q h = absurd (replacement_verbatim k a b h)
-  same_of k NoStep NoEscape NoStep o p q h = absurd (replacement_verbatim k 0 (length val) (end_is src val (Verbatim k) (none_verbatim k) h))
+  same_of k None None None o p q h = absurd (replacement_verbatim k 0 (length val) (end_is src val (Verbatim k) h))
 
-  other_of : (a b : ℕ) (B : Step) (E : Escape) (S : Step) → 0 < length val → break_step r src val ≡ B → r.escapes src ≡ E → equal_step src val ≡ S
-      → or_else B (or_else (as_step E) (or_else S (end_step src val))) ≡ Replacement a b
-      → TakesOther reach src val a b × (length val < b → (B ≡ NoStep) × (as_step E ≡ Replacement a b))
-  other_of a b (Verbatim n) E S m o p q h = absurd (verbatim_replacement n a b h)
-  other_of a b (Replacement x y) E S m o p q h =
+  other_of : (a b : ℕ) (B : FittingStep) (E : Option Escape) (S : FittingStep) → 0 < length val → break_step r src val ≡ B → r.escapes src ≡ E → equal_step src val ≡ S
+      → option_or B (option_or (option_map as_step E) (option_or S (end_step src val))) ≡ Some (Replacement a b)
+      → TakesOther reach src val a b × (length val < b → (B ≡ None) × (option_map as_step E ≡ Some (Replacement a b)))
+  other_of a b (Some t) E S m o p q h =
       let w = break_other r src val a b (o ∙ h) in
       ((omega arith, inl (w.0, omega arith, omega arith)), λ past. absurd (omega arith))
-  other_of a b NoStep (Takes x y) S m o p q h =
-      let ea : x ≡ a = cc in
-      let eb : y ≡ b = cc in
-      let f₁ = fair.some_source src x y p in
-      let f₂ = fair.some_taken src x y p in
-      let f₃ = fair.few_past src x y p in
-      let f₄ = fair.few_content src x y p in
+  other_of a b None (Some e) S m o p q h =
+      let ea : e.source ≡ a = cc in
+      let eb : e.content ≡ b = cc in
+      let f₁ = fair.some_source src e.source e.content p in
+      let f₂ = fair.some_taken src e.source e.content p in
+      let f₃ = fair.few_past src e.source e.content p in
+      let f₄ = fair.few_content src e.source e.content p in
       ((omega arith, inl (omega arith, f₁, omega arith)), λ past. (refl, h))
-  other_of a b NoStep NoEscape (Verbatim n) m o p q h = absurd (verbatim_replacement n a b h)
-  other_of a b NoStep NoEscape (Replacement x y) m o p q h =
-      let w = equal_is src val (Replacement x y) (none_replacement x y) q in absurd (verbatim_replacement 1 x y w.0)
-  other_of a b NoStep NoEscape NoStep m o p q h =
-      let e : Replacement 0 (length val) ≡ Replacement a b = end_is src val (Replacement a b) (none_replacement a b) h in
+  other_of a b None None (Some t) m o p q h = absurd (verbatim_replacement 1 a b (equal_is src val (Replacement a b) (q ∙ h)).0)
+  other_of a b None None None m o p q h =
+      let e : Replacement 0 (length val) ≡ Replacement a b = end_is src val (Replacement a b) h in
       let ea : 0 ≡ a = cc in
       let eb : length val ≡ b = cc in
       ((omega arith, inr (sym ea, sym eb)), λ past. absurd (omega arith))
 
-  pub step_same : (k : ℕ) → step r src val ≡ Verbatim k → TakesSame src val k
+  pub step_same : (k : ℕ) → step r src val ≡ Some (Verbatim k) → TakesSame src val k
   unfolding step
   step_same k h = same_of k (break_step r src val) (r.escapes src) (equal_step src val) refl refl refl h
 
-  pub step_other : (a b : ℕ) → 0 < length val → step r src val ≡ Replacement a b → TakesOther reach src val a b
+  pub step_other : (a b : ℕ) → 0 < length val → step r src val ≡ Some (Replacement a b) → TakesOther reach src val a b
   unfolding step
   step_other a b m h = (other_of a b (break_step r src val) (r.escapes src) (equal_step src val) m refl refl refl h).0
 
   -- past the value's end only by an escape
-  pub step_past : (a b : ℕ) → 0 < length val → step r src val ≡ Replacement a b → length val < b
-      → (break_step r src val ≡ NoStep) × (escape_step r src ≡ Replacement a b)
+  pub step_past : (a b : ℕ) → 0 < length val → step r src val ≡ Some (Replacement a b) → length val < b
+      → (break_step r src val ≡ None) × (escape_step r src ≡ Some (Replacement a b))
   unfolding step
   step_past a b m h past = (other_of a b (break_step r src val) (r.escapes src) (equal_step src val) m refl refl refl h).1 past
 
 -- ---- a step function of two places: what it takes of L source bytes and len value bytes
 
-pub record Fair (reach : EscapeReach) (at : ℕ → ℕ → Step) (L len : ℕ) : Type 0 where
-  pub same : (s v k : ℕ) → v < len → at s v ≡ Verbatim k → (0 < k) × (s + k ≤ L) × (v + k ≤ len)
-  pub other : (s v a b : ℕ) → v < len → at s v ≡ Replacement a b → (v + b ≤ len + (reach.content - 1)) × (((0 < a) × (s < L) × (s + a ≤ L + reach.past)) ⊎ ((a ≡ 0) × (v + b ≡ len)))
+pub record Fair (reach : EscapeReach) (at : ℕ → ℕ → FittingStep) (L len : ℕ) : Type 0 where
+  pub same : (s v k : ℕ) → v < len → at s v ≡ Some (Verbatim k) → (0 < k) × (s + k ≤ L) × (v + k ≤ len)
+  pub other : (s v a b : ℕ) → v < len → at s v ≡ Some (Replacement a b) → (v + b ≤ len + (reach.content - 1)) × (((0 < a) × (s < L) × (s + a ≤ L + reach.past)) ⊎ ((a ≡ 0) × (v + b ≡ len)))
 
 pub grammar_fair : (r : Rules) {reach : EscapeReach} → FairTable r.escapes reach → (src val : List ℕ) → Fair reach (step_at r src val) (length src) (length val)
 grammar_fair r fair src val =

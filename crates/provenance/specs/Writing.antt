@@ -1,15 +1,13 @@
 -- Pieces written into a buffer one after the other (E3). The walk writes as it reads: the verbatim bytes that it has passed since the
 -- last replacement are one piece, which is written when a replacement or the value's end comes. Past the room nothing is written.
-use Rattle.std.specs.Prelude.{cond, ℕ, ◌+◌, ◌-◌, ◌*◌, List, ◌++◌, ltb, length, drop, set}
+use Rattle.std.specs.Prelude.{cond, ℕ, ◌+◌, ◌-◌, ◌*◌, List, ◌++◌, ltb, length, drop}
+use Rattle.std.proofs.lemmas.List.Edits.{sets}
 use Rattle.provenance.specs.Reading.{Piece, piece, verbatim, replacement}
-use Rattle.provenance.specs.Layout.{piece_width, room, zeros}
-
-abbrev pub four_at : List ℕ → ℕ → Piece → List ℕ
-four_at buf i p = set (set (set (set buf i p.kind) (i + 1) p.start) (i + 2) p.end) (i + 3) p.content
+use Rattle.provenance.specs.Layout.{piece_width, piece_numbers, room, zeros}
 
 -- piece number n, where there is room for it
 unfoldable pub put_piece : List ℕ → ℕ → Piece → List ℕ
-put_piece buf n p = cond (ltb n (room (length buf))) (four_at buf (piece_width * n) p) buf
+put_piece buf n p = cond (ltb n (room (length buf))) (sets buf (piece_width * n) (piece_numbers p)) buf
 
 -- the verbatim bytes from..s of the source, if there are any
 unfoldable pub put_open : List ℕ → ℕ → ℕ → ℕ → ℕ → List ℕ

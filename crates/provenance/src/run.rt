@@ -16,96 +16,69 @@ const BLANK: u8 = 32;
 
 // The white-space bytes that a source begins with: how many they are, how many newlines are among them, and how many go up to the
 // last newline, it counted in.
-#[derive(Clone, Copy)]
+#[derive(Clone, Copy, Debug, PartialEq, Eq)]
 pub struct Run {
     pub len: usize,
     pub newlines: usize,
     pub last: usize,
 }
 
+// No white space.
+pub const NO_RUN: Run = Run {
+    len: 0,
+    newlines: 0,
+    last: 0,
+};
+
+// The run that a source begins with.
 pub fn white_run(tail: &[u8]) -> Run
     ensures { result ≡ counted_run tail.now }
 {
-    let mut len = 0;
-    let mut newlines = 0;
-    let mut last = 0;
-    while len < tail.len() {
-        let b = tail[len];
+    let mut run = NO_RUN;
+    for &b in tail {
         if !is_white_space_byte(b) {
-            return Run {
-                len,
-                newlines,
-                last,
-            };
+            break;
         }
-        len += 1;
+        run.len += 1;
         if b == NEWLINE {
-            newlines += 1;
-            last = len;
+            run.newlines += 1;
+            run.last = run.len;
         }
     }
-    Run {
-        len,
-        newlines,
-        last,
-    }
+    run
 }
 
 // How many bytes of a run a scalar takes: a block with a column above 0 ends it at most so many after its last newline.
+#[tactic(auto, unfolding(crate::specs::Counted::cut_len))]
 pub fn cut_len(run: Run, block: bool, column: usize) -> usize
     requires { (run.last < 2 ^ 32) × (column < 2 ^ 32) }
     ensures { result ≡ cut_len block column run }
 {
-    let len = run.len;
-    if !block {
-        return len;
+    if block && 0 < column {
+        let end = run.last + column;
+        end.min(run.len)
+    } else {
+        run.len
     }
-    if column == 0 {
-        return len;
-    }
-    let end = run.last + column;
-    if end < len {
-        return end;
-    }
-    len
 }
 
+#[tactic(auto, unfolding(measure::specs::Plain::is_fold))]
 pub fn is_blank(b: u8) -> bool
     ensures { result ≡ is_fold b }
 {
-    if b == BLANK {
-        return true;
-    }
-    b == NEWLINE
+    b == BLANK || b == NEWLINE
 }
 
 // How many blanks and newlines a value begins with, at most `most`.
 pub fn blanks(tail: &[u8], most: usize) -> usize
     ensures { result ≡ min most (length (blank_run tail.now)) }
 {
-    let mut n = 0;
-    while n < tail.len() {
-        if n == most {
-            return n;
-        }
-        if !is_blank(tail[n]) {
-            return n;
-        }
-        n += 1;
-    }
-    n
+    tail.iter().take_while(|&&b| is_blank(b)).take(most).count()
 }
 
 // Whether a value is newlines and nothing else. An empty one is.
 pub fn only_newlines(tail: &[u8]) -> bool
     ensures { result ≡ only_newlines tail.now }
 {
-    let mut i = 0;
-    while i < tail.len() {
-        if tail[i] != NEWLINE {
-            return false;
-        }
-        i += 1;
-    }
-    true
+    tail.iter().all(|&b| b == NEWLINE)
 }

@@ -8,53 +8,39 @@ use crate::step::is_block;
 use measure::scalar::{DOUBLE_QUOTED, SINGLE_QUOTED};
 use utf8::utf8::byte_at;
 
-const LITERAL_HEADER: u8 = 124;
+const LITERAL_HEADER: u8 = b'|';
 
-const FOLDED_HEADER: u8 = 62;
+const FOLDED_HEADER: u8 = b'>';
 
 fn is_quoted(style: u8) -> bool
     ensures { result ≡ is_quoted style }
 {
-    if style == SINGLE_QUOTED {
-        return true;
-    }
-    style == DOUBLE_QUOTED
+    style == SINGLE_QUOTED || style == DOUBLE_QUOTED
 }
 
 fn is_header(b: u8) -> bool
     ensures { result ≡ is_header b }
 {
-    if b == LITERAL_HEADER {
-        return true;
-    }
-    b == FOLDED_HEADER
+    b == LITERAL_HEADER || b == FOLDED_HEADER
 }
 
 // Whether `rest` begins with the header of a block scalar whose value is only newlines.
+#[tactic(auto, unfolding(crate::specs::Start::at_empty_block_header))]
 pub fn at_empty_block_header(rest: &[u8], value: &[u8]) -> bool
     ensures { result ≡ at_empty_block_header rest.now value.now }
 {
-    if is_header(byte_at(rest, 0)) {
-        return only_newlines(value);
-    }
-    false
+    is_header(byte_at(rest, 0)) && only_newlines(value)
 }
 
 // Where the header line's newline stands, or `len` if there is none.
 fn header_end(rest: &[u8], len: usize) -> usize
     ensures { result ≡ header_end rest.now len }
 {
-    let mut i = 0;
-    while i < rest.len() {
-        if rest[i] == NEWLINE {
-            return i;
-        }
-        i += 1;
-    }
-    len
+    rest.iter().position(|&b| b == NEWLINE).unwrap_or(len)
 }
 
 // The first byte of the walk of a scalar that starts at `start` and spans `len` bytes. It may lie past the text or inside a character.
+#[tactic(auto, unfolding(crate::specs::Start::walk_start))]
 pub fn walk_start(text: &[u8], start: usize, len: usize, value: &[u8], style: u8) -> usize
     requires { (length text.now ≤ text_limit) × (start + len ≤ length text.now) }
     ensures { result ≡ walk_start text.now start len value.now style }
@@ -62,11 +48,10 @@ pub fn walk_start(text: &[u8], start: usize, len: usize, value: &[u8], style: u8
     if is_quoted(style) {
         return start + 1;
     }
-    if !is_block(style) {
-        return start;
+    let rest = &text[start..];
+    if is_block(style) && at_empty_block_header(rest, value) {
+        start + header_end(rest, len)
+    } else {
+        start
     }
-    if !at_empty_block_header(&text[start..], value) {
-        return start;
-    }
-    start + header_end(&text[start..], len)
 }

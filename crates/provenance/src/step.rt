@@ -6,29 +6,22 @@ ghost use Rattle.provenance.specs.Counted.{place_limit, no_run, counted_run};
 ghost use Rattle.provenance.specs.Grammar.{is_block, rules_of, is_break_byte, opens_break, break_pair, end_step, step_at};
 ghost use Rattle.provenance.specs.Looked.{break_run, Tells, known_after};
 
-use crate::escape::{Escape, escape_len};
+use crate::escape::escape_len;
 use crate::run::{
-    CARRIAGE_RETURN, NEWLINE, Run, TAB, blanks, cut_len, is_blank, only_newlines, white_run,
+    CARRIAGE_RETURN, NEWLINE, NO_RUN, Run, TAB, blanks, cut_len, is_blank, only_newlines, white_run,
 };
 use measure::scalar::LITERAL;
 use utf8::class::is_white_space_byte;
 use utf8::utf8::byte_at;
 
 // What stands at a source place and a value place.
-#[derive(Clone, Copy)]
+#[derive(Clone, Copy, Debug, PartialEq, Eq)]
 pub enum Step {
     // so many bytes, equal in both
     Verbatim(usize),
     // so many source bytes for so many content bytes
     Replacement(usize, usize),
-    NoStep,
 }
-
-const NO_RUN: Run = Run {
-    len: 0,
-    newlines: 0,
-    last: 0,
-};
 
 pub fn is_block(style: u8) -> bool
     ensures { result ≡ is_block style }
@@ -40,54 +33,45 @@ pub fn is_block(style: u8) -> bool
 fn is_break_byte(c: u8) -> bool
     ensures { result ≡ is_break_byte c }
 {
-    if is_blank(c) {
-        return true;
-    }
-    c == TAB
+    is_blank(c) || c == TAB
 }
 
 // Whether a break may begin with the source's byte `b` and the value's byte `c`.
+#[tactic(auto, unfolding(crate::specs::Grammar::opens_break))]
 fn opens_break(block: bool, b: u8, c: u8) -> bool
     ensures { result ≡ opens_break block b c }
 {
-    if !is_break_byte(c) {
-        return false;
-    }
-    if !block {
-        return is_white_space_byte(b);
-    }
-    if b == NEWLINE {
-        return true;
-    }
-    b == CARRIAGE_RETURN
+    is_break_byte(c)
+        && if block {
+            b == NEWLINE || b == CARRIAGE_RETURN
+        } else {
+            is_white_space_byte(b)
+        }
 }
 
 // The run that step 1 looks at. Before `known` no run holds a newline, and none is looked at.
+#[tactic(auto, unfolding(crate::specs::Looked::break_run))]
 pub fn break_run(src: &[u8], value: &[u8], s: usize, v: usize, style: u8, known: usize) -> Run
     ensures { result ≡ cond (ltb s known) no_run (break_run (is_block style) (drop s src.now) (drop v value.now)) }
 {
-    if s < known {
-        return NO_RUN;
+    if known <= s && opens_break(is_block(style), byte_at(src, s), byte_at(value, v)) {
+        white_run(&src[s..])
+    } else {
+        NO_RUN
     }
-    if !opens_break(is_block(style), byte_at(src, s), byte_at(value, v)) {
-        return NO_RUN;
-    }
-    white_run(&src[s..])
 }
 
 // How far it is known that no run holds a newline, after the run at `s` was looked at.
+#[tactic(auto, unfolding(crate::specs::Looked::known_after))]
 pub fn known_after(known: usize, s: usize, run: Run) -> usize
     requires { (s ≤ place_limit) × (run.len ≤ text_limit) }
     ensures { result ≡ known_after known s run }
 {
-    let len = run.len;
-    if 0 < run.newlines {
-        return known;
+    if 0 < run.newlines || run.len == 0 {
+        known
+    } else {
+        s + run.len
     }
-    if len == 0 {
-        return known;
-    }
-    s + len
 }
 
 // Step 1 over a run with a newline in it.
@@ -106,22 +90,19 @@ fn break_step(
 {
     let a = cut_len(run, block, column);
     let b = blanks(&value[v..], run.newlines);
-    let source_end = s + a;
-    let value_end = v + b;
-    if check::same(&src[s..source_end], &value[v..value_end]) {
-        return Step::Verbatim(a);
+    if src[s..s + a] == value[v..v + b] {
+        Step::Verbatim(a)
+    } else {
+        Step::Replacement(a, b)
     }
-    Step::Replacement(a, b)
 }
 
 // Step 4: no source is left.
-fn end_step(tail: &[u8]) -> Step
+#[tactic(auto, unfolding(crate::specs::Grammar::end_step))]
+fn end_step(tail: &[u8]) -> Option<Step>
     ensures { result ≡ end_step [] tail.now }
 {
-    if only_newlines(tail) {
-        return Step::Replacement(0, tail.len());
-    }
-    Step::NoStep
+    only_newlines(tail).then_some(Step::Replacement(0, tail.len()))
 }
 
 // The first step that fits. `run` is what step 1 looks at, or any run without a newline where that has none.
@@ -133,26 +114,19 @@ pub fn step_at(
     style: u8,
     column: usize,
     run: Run,
-) -> Step
+) -> Option<Step>
     requires src_len_bound { (length src.now ≤ text_limit) × (v < length value.now) × (column < 2 ^ 32) }
     requires tells { Tells run (is_block style) (drop s src.now) (drop v value.now) }
     ensures { result ≡ step_at (rules_of style column) src.now value.now s v }
 {
     if 0 < run.newlines {
-        return break_step(src, value, s, v, is_block(style), column, run);
+        return Some(break_step(src, value, s, v, is_block(style), column, run));
     }
     if src.len() <= s {
         return end_step(&value[v..]);
     }
-    let e = escape_len(&src[s..], style);
-    match e {
-        Escape::Takes(a, b) => {
-            return Step::Replacement(a, b);
-        }
-        Escape::NoEscape => {}
+    if let Some(e) = escape_len(&src[s..], style) {
+        return Some(Step::Replacement(e.source, e.content));
     }
-    if src[s] == value[v] {
-        return Step::Verbatim(1);
-    }
-    Step::NoStep
+    (src[s] == value[v]).then_some(Step::Verbatim(1))
 }

@@ -9,8 +9,9 @@ use crate::step::{Step, break_run, known_after, step_at};
 use crate::write::{clear_pieces, put_open, put_replacement, room};
 use letters::letter::letters;
 
-// A list of so many pieces; a list that there is no room for; no list.
-#[derive(Clone, Copy)]
+// A list of so many pieces; a list that there is no room for; no list. Three outcomes, and neither of the last two is an error of the other
+// kind: no `Option` and no `Result` says them more plainly.
+#[derive(Clone, Copy, Debug, PartialEq, Eq)]
 pub enum Walked {
     Listed(usize),
     NoRoom,
@@ -43,8 +44,11 @@ pub fn walk_scalar_provenance(
     while v < value.len() {
         let run = break_run(src, value, s, v, style, known);
         known = known_after(known, s, run);
-        let t = step_at(src, value, s, v, style, column, run);
-        match t {
+        let Some(step) = step_at(src, value, s, v, style, column, run) else {
+            clear_pieces(pieces, n);
+            return Walked::NoList;
+        };
+        match step {
             Step::Verbatim(k) => {
                 s += k;
                 v += k;
@@ -57,10 +61,6 @@ pub fn walk_scalar_provenance(
                 s += a;
                 v += b;
                 from = s;
-            }
-            Step::NoStep => {
-                clear_pieces(pieces, n);
-                return Walked::NoList;
             }
         }
     }

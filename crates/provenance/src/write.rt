@@ -21,11 +21,13 @@ pub fn room(size: usize) -> usize
 }
 
 // Writes piece number `n`, if there is room for it.
+#[tactic(auto, unfolding(crate::specs::Writing::put_piece))]
 fn put_piece(pieces: &mut [u32], n: usize, kind: u32, start: u32, end: u32, content: u32)
     ensures { pieces.new ≡ put_piece pieces.old n (piece kind start end content) }
 {
     if n < room(pieces.len()) {
         let at = PIECE_WIDTH * n;
+        // One by one: copied from an array they would be read as one again, just after they were written as four.
         pieces[at] = kind;
         pieces[at + 1] = start;
         pieces[at + 2] = end;
@@ -34,6 +36,7 @@ fn put_piece(pieces: &mut [u32], n: usize, kind: u32, start: u32, end: u32, cont
 }
 
 // Writes the verbatim bytes `from..s` as piece number `n`, if there are any, and answers the next number.
+#[tactic(auto, unfolding(crate::specs::Writing::put_open))]
 pub fn put_open(pieces: &mut [u32], n: usize, base: usize, from: usize, s: usize) -> usize
     requires { (base ≤ text_limit) × (s ≤ place_limit) × (n ≤ s + 1) }
     ensures value { result ≡ count_open n from s }
@@ -54,6 +57,7 @@ pub fn put_open(pieces: &mut [u32], n: usize, base: usize, from: usize, s: usize
 }
 
 // Writes the verbatim bytes `from..s`, if there are any, then a replacement of `a` source bytes from `s` on by `b` content bytes.
+#[tactic(auto, unfolding(crate::specs::Writing::put_replacement))]
 pub fn put_replacement(
     pieces: &mut [u32],
     n: usize,
@@ -80,25 +84,18 @@ pub fn put_replacement(
 }
 
 // How many numbers `n` pieces took of a buffer of `size`.
+#[tactic(auto, unfolding(crate::specs::Writing::written_len))]
 fn written_len(n: usize, size: usize) -> usize
     ensures { result ≡ written_len n size }
 {
-    let most = room(size);
-    if n < most {
-        return PIECE_WIDTH * n;
-    }
-    PIECE_WIDTH * most
+    PIECE_WIDTH * n.min(room(size))
 }
 
 // All numbers are set to zero.
 pub fn clear(buffer: &mut [u32])
     ensures { buffer.new ≡ Layout.zeros (length buffer.old) }
 {
-    let mut i = 0;
-    while i < buffer.len() {
-        buffer[i] = 0;
-        i += 1;
-    }
+    buffer.fill(0);
 }
 
 // Clears what `n` pieces took.
@@ -106,5 +103,5 @@ pub fn clear_pieces(pieces: &mut [u32], n: usize)
     ensures { pieces.new ≡ cleared_to (written_len n (length pieces.old)) pieces.old }
 {
     let end = written_len(n, pieces.len());
-    clear(&mut pieces[0..end]);
+    clear(&mut pieces[..end]);
 }

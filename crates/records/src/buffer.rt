@@ -10,10 +10,7 @@ const PIECES_LIMIT: usize = 17_179_869_176;
 pub fn usable(size: usize) -> usize
     ensures { result ≡ min size pieces_limit }
 {
-    if PIECES_LIMIT < size {
-        return PIECES_LIMIT;
-    }
-    size
+    size.min(PIECES_LIMIT)
 }
 
 // The numbers are written from `at` on.
@@ -21,9 +18,8 @@ pub fn put(buffer: &mut [u32], at: usize, numbers: &[u32])
     requires { at + length numbers.now ≤ length buffer.old }
     ensures { buffer.new ≡ sets buffer.old at numbers.now }
 {
-    let mut i = 0;
-    while i < numbers.len() {
-        buffer[at + i] = numbers[i];
-        i += 1;
+    // Not by `copy_from_slice`: it reads several at once, and waits where each was only just written by itself.
+    for (i, &number) in numbers.iter().enumerate() {
+        buffer[at + i] = number;
     }
 }

@@ -6,7 +6,8 @@ ghost use Rattle.records.specs.Layout.{stored};
 use crate::buffer::put;
 use schema::record::Payload;
 
-// What stands where there is none: no tag, no piece list.
+// What stands where there is none: no tag, no piece list. A number, as in the layout: a lent buffer may hold any numbers, and `read_record`
+// hands them back as they are.
 pub const ABSENT: u32 = 0xffff_ffff;
 
 // How many numbers a record has.
@@ -20,14 +21,14 @@ pub const ARRAY: u32 = 7;
 pub const HASH: u32 = 8;
 
 // The bytes from `start` to `end`, `end` not counted in.
-#[derive(Clone, Copy)]
+#[derive(Clone, Copy, Debug, PartialEq, Eq)]
 pub struct Extent {
     pub start: u32,
     pub end: u32,
 }
 
 // A tag: its span in the text, the place of its suffix in the event bytes, and the suffix's length; all four ABSENT for none.
-#[derive(Clone, Copy)]
+#[derive(Clone, Copy, Debug, PartialEq, Eq)]
 pub struct TagInfo {
     pub start: u32,
     pub end: u32,
@@ -36,7 +37,7 @@ pub struct TagInfo {
 }
 
 // A scalar's pieces: the number of the first and how many; ABSENT and 0 for no list.
-#[derive(Clone, Copy)]
+#[derive(Clone, Copy, Debug, PartialEq, Eq)]
 pub struct PieceList {
     pub first: u32,
     pub count: u32,
@@ -69,20 +70,14 @@ pub const NO_LIST: PieceList = PieceList {
 pub fn with_list(x: Node, first: u32, count: u32) -> Node
     ensures { result ≡ with_list x first count }
 {
-    let extent = x.extent;
-    let tag = x.tag;
-    let payload = x.payload;
     Node {
-        kind: x.kind,
-        extent,
-        tag,
-        subtree: x.subtree,
         list: PieceList { first, count },
-        payload,
+        ..x
     }
 }
 
 // The numbers of a record in their order.
+#[tactic(auto, unfolding(crate::specs::Record::node_numbers))]
 pub fn record_numbers(x: Node) -> [u32; RECORD_WIDTH]
     ensures { result ≡ node_numbers x }
 {
@@ -103,6 +98,7 @@ pub fn record_numbers(x: Node) -> [u32; RECORD_WIDTH]
 }
 
 // The node whose numbers come first.
+#[tactic(auto, unfolding(crate::specs::Record::node_of))]
 pub fn read_record(numbers: &[u32]) -> Node
     requires { record_width ≤ length numbers.now }
     ensures { result ≡ node_of numbers.now }
@@ -132,10 +128,10 @@ pub fn read_record(numbers: &[u32]) -> Node
 }
 
 // The record of `x` is written as number `n`.
+#[tactic(auto, unfolding(crate::specs::Layout::stored))]
 pub fn put_record(records: &mut [u32], n: usize, x: Node)
     requires { n < length records.old / record_width }
     ensures { records.new ≡ stored records.old n x }
 {
-    let numbers = record_numbers(x);
-    put(records, RECORD_WIDTH * n, &numbers);
+    put(records, RECORD_WIDTH * n, &record_numbers(x));
 }

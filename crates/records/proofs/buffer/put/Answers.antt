@@ -1,27 +1,23 @@
-use mathlib.Core.Path.{refl, ap, ◌∙◌}
-use Prim.Native.Nat.{ℕ, ◌+◌, ◌<◌, zero-le}
-use native.Mathlib.Omega.{arith}
-use mathlib.Core.List.{List}
-use lib.ListN.{length, get_or, set, length-set}
-use lib.Seq.{sets, take_all}
-use Rattle.records.proofs.Stores.{sets_more}
+use Rattle.std.proofs.Common.{◌≡◌, ◌<◌, ◌∙◌, sym, ap, refl, ℕ, ◌+◌, List, set, get_or, length, take, drop, arith, append_assoc}
+use Rattle.std.proofs.lemmas.List.Edits.{sets-eq, paste_more, paste_all}
+use lib.Seq.{paste}
 use Rattle.records.proofs.buffer.put.Goals as goal
-
-pub loop-i-init : goal.loop-i-init
-loop-i-init c = (zero-le, refl, refl)
-
-pub offset_bounds-buffer-at : goal.offset_bounds-buffer-at
-offset_bounds-buffer-at c = let l = c.loop-i.invariant.2 in omega (arith, c.well_formed)
 
 pub loop-i-preserved : goal.loop-i-preserved
 loop-i-preserved c =
+    let b = c.args.buffer.now in
+    let at = c.args.at in
     let i = c.loop-i.i in
-    let a = c.args in
-    let l : i < length a.numbers.now = omega arith in
-    (omega arith, ap (λ (x : List ℕ). set x (a.at + i) (get_or a.numbers.now i 0)) c.loop-i.invariant.1 ∙ sets_more a.numbers.now a.buffer.now a.at i l, simp length-set c.loop-i.invariant.2)
-
-pub shape_of-buffer : goal.shape_of-buffer
-shape_of-buffer c = c.loop-i.invariant.2
+    let inside : at + i < length b = omega arith in
+    ap (λ (l : List ℕ). set l (at + i) (get_or c.args.numbers.now i 0)) c.loop-i.invariant ∙ paste_more b at c.args.numbers.now i 0 inside c.loop-i-test.true
 
 pub returns : goal.returns
-returns c = c.loop-i.invariant.1 ∙ ap (sets c.args.buffer.now c.args.at) (take_all c.loop-i.i c.args.numbers.now c.loop-i-test.false)
+returns c =
+    let b = c.args.buffer.now in
+    let at = c.args.at in
+    let ns = c.args.numbers.now in
+    let all : c.loop-i.i ≡ length ns = omega arith in
+    c.loop-i.invariant
+    ∙ ap (λ (n : ℕ). paste b at ns n) all
+    ∙ paste_all b at ns (length ns) refl
+    ∙ sym (sets-eq ns b at (omega arith) ∙ append_assoc (take at b) ns (drop (at + length ns) b))

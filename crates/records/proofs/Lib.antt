@@ -1,3 +1,0 @@
--- Lemmas that serve several functions, by subject.
--- a run of stores
-mod Stores
