@@ -1,7 +1,8 @@
 -- Where spans start and end: at boundaries, within the text. And a scalar's pieces are those of the walk from document 01's first byte.
-use Rattle.std.specs.Prelude.{◌≡◌, refl, Bool, true, false, ◌&&◌, not, cond, List, ℕ, ◌+◌, ◌-◌, ◌≤◌, ◌<◌, eqb, ltb, length, get_or, drop, take}
-use Rattle.std.proofs.Common.{sym, ◌∙◌, subst, arith, lt-ltb, eqb-true, length-drop, length-take, drop-cons, take_all, get_or-drop}
+use Rattle.std.specs.Prelude.{◌≡◌, refl, Bool, true, false, ◌&&◌, not, cond, List, ℕ, ◌+◌, ◌-◌, ◌≤◌, ◌<◌, eqb, ltb, length, get_or, drop, take, Option, None, Some}
+use Rattle.std.proofs.Common.{sym, ◌∙◌, subst, arith, lt-ltb, eqb-true, length-drop, length-take, drop-cons, get_or-drop}
 use Rattle.std.proofs.Math.Path.{ap}
+use Rattle.std.proofs.lemmas.List.{take_rest}
 use Rattle.std.proofs.Math.Option.{some}
 use Rattle.std.proofs.Math.Decide.{dec_lt}
 use Rattle.std.proofs.Math.ListN.{get_or-eq_default}
@@ -23,7 +24,6 @@ use Rattle.event.specs.Read.{events_limit, part_of}
 use Rattle.event.specs.Proved.{TextPart, TextParts}
 use Rattle.event.specs.declared.string.Part.{Part}
 use Rattle.event.specs.declared.tag.YamlTag.{YamlTag}
-use Rattle.event.specs.declared.tag.YamlTag.TheVariants.{Absent, Present}
 use Rattle.provenance.specs.Grammar.{rules_of}
 use Rattle.provenance.specs.Reading.{Piece}
 use Rattle.provenance.specs.Start.{list_from, scalar_list}
@@ -95,11 +95,8 @@ span_within text x h = go (is_boundary text x.start)
 
 -- ---- the rest of a text from a boundary on
 
-pub rest_is : (text : List ℕ) (i : ℕ) → take (length text - i) (drop i text) ≡ drop i text
-rest_is text i = take_all (length text - i) (drop i text) (simp length-drop (omega arith))
-
 pub rest_utf8 : (text : List ℕ) (i : ℕ) → Utf8 text → Boundary text i → Utf8 (take (length text - i) (drop i text))
-rest_utf8 text i u b = rw (rest_is text i) (boundary_splits u b).back
+rest_utf8 text i u b = rw (take_rest text i) (boundary_splits u b).back
 
 pub end_within : (text : List ℕ) (mapping : Bool) (i : ℕ) → i ≤ length text → collection_end text mapping i ≤ length text
 unfolding collection_end
@@ -112,20 +109,16 @@ pub collection_node_boundary : (text : List ℕ) (o : Open) (i n : ℕ) → Boun
 unfolding collection_node collection_over
 collection_node_boundary text o i n a b = collection_start_boundary text o a b
 
-pub event_node_boundary : (text events : List ℕ) (x : ScalarAt) (tag : YamlTag) → Boundary text x.start → Boundary text (event_node text events x tag).extent.start
+pub event_node_boundary : (text events : List ℕ) (x : ScalarAt) (tag : Option YamlTag) → Boundary text x.start → Boundary text (event_node text events x tag).extent.start
 unfolding event_node scalar_over
 event_node_boundary text events x tag on = on
 
 -- ---- parts of the event bytes
 
 -- the suffix of a tag within the event bytes
-pub tag_fits : (events : List ℕ) (t : YamlTag) → TextParts events t → length events ≤ events_limit → TagFits t
-tag_fits events Absent p h = tt
-tag_fits events (Present a x) p h = let i = p.1.inside in (omega arith, omega arith)
-
--- a part, as a range of the event bytes
-pub range_is : (events : List ℕ) (v : Part) → take (v.at + v.len - v.at) (drop v.at events) ≡ part_of events v
-range_is events v = let e : v.at + v.len - v.at ≡ v.len = omega arith in rw e
+pub tag_fits : (events : List ℕ) (t : Option YamlTag) → TextParts events t → length events ≤ events_limit → TagFits t
+tag_fits events None p h = tt
+tag_fits events (Some t) p h = let i = p.1.inside in (omega arith, omega arith)
 
 pub part_few : (events : List ℕ) (v : Part) (n : ℕ) → v.len ≤ n → length (part_of events v) ≤ n
 part_few events v n h = rw (length-take v.len (drop v.at events)) (omega arith)

@@ -1,5 +1,5 @@
 -- Worked starts, tags and collections, by computation.
-use Rattle.std.specs.Prelude.{ℕ, ◌≡◌, refl, Bool, true, false, [], ◌∷◌}
+use Rattle.std.specs.Prelude.{ℕ, ◌≡◌, refl, Bool, true, false, [], ◌∷◌, Some, None}
 use Rattle.text.specs.Offset.{byte_offset}
 use Rattle.utf8.specs.Utf8.{encode, encode_all}
 use Rattle.utf8.specs.Characters.{codes, chars_after, first_char, char_of, multi_byte, two_bytes}
@@ -14,11 +14,10 @@ use Rattle.records.specs.declared.record.Node.{Node}
 use Rattle.spans.specs.Scalar.{mark, step_past, scalar_start, start_at, tag_info}
 use Rattle.spans.specs.Collection.{closes, array, hash, collection_end, collection_start, members, collection_over, collection_node}
 use Rattle.spans.specs.declared.open.Open.{Open}
-use Rattle.spans.specs.declared.open.Suffix.TheVariants.{Absent, At}
 
 -- a collection with its start's marker at byte i, after n children, of which the first starts at byte f
 abbrev opened : Bool → ℕ → ℕ → ℕ → Open
-opened mapping i n f = record { mapping = mapping; start = i; suffix = Absent; children = n; first = f; before = 0 }
+opened mapping i n f = record { mapping = mapping; start = i; suffix = None; children = n; first = f; before = 0 }
 
 -- the record of one that ends after two children
 abbrev of_two : ℕ → ℕ → ℕ → ℕ → Node
@@ -64,8 +63,8 @@ pub record Starts : Type 0 where
   -- `é: a`: index 3 is byte 4
   pub marker : start_at (0xc3 ∷ 0xa9 ∷ bytes ": a") false (mark 3 3 plain false) (bytes "a") ≡ 4
   -- a tag that is found, and one that is guessed (K12)
-  pub found : tag_info (bytes "[!tag a]") 6 (At 27 3) ≡ record { start = 1; end = 5; suffix = 27; len = 3 }
-  pub guessed : tag_info (bytes "[a,!t b]") 6 (At 42 1) ≡ record { start = 6; end = 8; suffix = 42; len = 1 }
+  pub found : tag_info (bytes "[!tag a]") 6 (Some (record { place = 27; len = 3 })) ≡ record { start = 1; end = 5; suffix = 27; len = 3 }
+  pub guessed : tag_info (bytes "[a,!t b]") 6 (Some (record { place = 42; len = 1 })) ≡ record { start = 6; end = 8; suffix = 42; len = 1 }
 
 pub starts : Starts
 unfolding scalar_start step_past tag_info byte_offset codes chars_after first_char char_of multi_byte two_bytes encode encode_all

@@ -1,10 +1,9 @@
 -- What inner calls ask of their callers, and what those on a scalar hand back.
-use Rattle.std.specs.Prelude.{ℕ, ◌≤◌, ◌<◌, List, length, Bool}
+use Rattle.std.specs.Prelude.{ℕ, ◌≤◌, ◌<◌, List, length, Bool, Option, Some, None}
 use Rattle.text.specs.Admission.{text_limit}
 use Rattle.event.specs.Read.{events_limit}
 use Rattle.event.specs.Proved.{TextPart, TextParts}
 use Rattle.event.specs.declared.tag.YamlTag.{YamlTag}
-use Rattle.event.specs.declared.tag.YamlTag.TheVariants as tag
 use Rattle.schema.specs.declared.plain.Resolved.{Resolved}
 use Rattle.provenance.specs.Layout.{answer_of}
 use Rattle.records.specs.Record.{absent}
@@ -14,9 +13,9 @@ use Rattle.spans.specs.declared.scalar.Entry.{Entry}
 use Rattle.spans.specs.declared.scalar.ScalarEvent.{ScalarEvent}
 
 -- the numbers of its suffix fit a record, and none is the number that says there is none
-abbrev pub TagFits : YamlTag → Type 0
-TagFits tag.Absent = Unit {0}
-TagFits (tag.Present h x) = (x.at < absent) × (x.len < absent)
+abbrev pub TagFits : Option YamlTag → Type 0
+TagFits None = Unit {0}
+TagFits (Some t) = (t.suffix.at < absent) × (t.suffix.len < absent)
 
 -- tag and value are texts in event bytes that are within their limit, and the value is short
 pub record EventFits (events : List ℕ) (e : ScalarEvent) : Type 0 where

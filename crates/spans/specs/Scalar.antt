@@ -1,7 +1,7 @@
 -- A scalar: where it starts (S1), how far it reaches, its tag, its pieces, and its record without them (E2). Measures, walk, resolution and
 -- tag search are cited from the layers below.
-use Rattle.std.specs.Prelude.{ℕ, ◌+◌, Bool, true, false, ◌&&◌, cond, List, [], eqb, length, get_or, drop}
-use Rattle.std.proofs.Math.Option.{Option, none}
+use Rattle.std.specs.Prelude.{ℕ, ◌+◌, Bool, ◌&&◌, cond, List, eqb, length, get_or, drop, Option, Some, None, option_map}
+use Rattle.std.proofs.Math.Option as maybe
 use Rattle.utf8.specs.Boundary.{is_boundary}
 use Rattle.text.specs.Offset.{byte_offset}
 use Rattle.schema.specs.Tag.{resolve_scalar}
@@ -17,12 +17,10 @@ use Rattle.provenance.specs.Start.{walk_start, scalar_list}
 use Rattle.event.specs.Read.{part_of}
 use Rattle.event.specs.declared.string.Part.{Part}
 use Rattle.event.specs.declared.tag.YamlTag.{YamlTag}
-use Rattle.event.specs.declared.tag.YamlTag.TheVariants.{Absent, Present}
 use Rattle.records.specs.Record.{extent, no_tag, no_list}
 use Rattle.records.specs.declared.record.TagInfo.{TagInfo}
 use Rattle.records.specs.declared.record.Node.{Node}
 use Rattle.spans.specs.declared.open.Suffix.{Suffix}
-use Rattle.spans.specs.declared.open.Suffix.TheVariants as suffix
 use Rattle.spans.specs.declared.scalar.ScalarMark.{ScalarMark}
 use Rattle.spans.specs.declared.scalar.ScalarEvent.{ScalarEvent}
 
@@ -30,7 +28,7 @@ use Rattle.spans.specs.declared.scalar.ScalarEvent.{ScalarEvent}
 abbrev pub mark : ℕ → ℕ → ℕ → Bool → ScalarMark
 mark index column style empty_span = record { index = index; column = column; style = style; empty = empty_span }
 
-abbrev pub scalar_given : ScalarMark → YamlTag → Part → ScalarEvent
+abbrev pub scalar_given : ScalarMark → Option YamlTag → Part → ScalarEvent
 scalar_given m tag value = record { mark = m; tag = tag; value = value }
 
 -- a scalar as the reading rules take it: its first byte, what its event says, and the place of its value in the event bytes
@@ -77,9 +75,9 @@ abbrev pub span_len : List ℕ → ScalarAt → ℕ
 span_len text x = (span_measure text x).len
 
 -- its pieces, if its walk gives a list
-unfoldable pub list_at : List ℕ → ScalarAt → Option (List Piece)
+unfoldable pub list_at : List ℕ → ScalarAt → maybe.Option (List Piece)
 list_at text x =
-    cond (is_boundary text x.start) (scalar_list text x.start (span_len text x) x.value x.style x.column) none
+    cond (is_boundary text x.start) (scalar_list text x.start (span_len text x) x.value x.style x.column) maybe.none
 
 -- the first byte of its walk, from the marker index on (P1, S1, S14); the span decides only where a block header has no newline
 unfoldable pub walk_first : List ℕ → Bool → ScalarMark → List ℕ → ℕ
@@ -89,23 +87,22 @@ walk_first text awaited m value =
 
 -- ---- tag
 
-abbrev pub suffix_of : YamlTag → Suffix
-suffix_of Absent = suffix.Absent
-suffix_of (Present h x) = suffix.At x.at x.len
+abbrev pub suffix_of : Option YamlTag → Option Suffix
+suffix_of None = None
+suffix_of (Some t) = Some (record { place = t.suffix.at; len = t.suffix.len })
 
 abbrev pub with_span : TagSpan → ℕ → ℕ → TagInfo
 with_span p i n = record { start = p.start; end = p.end; suffix = i; len = n }
 
 -- the tag of a node that starts at byte i: its span is searched from there
-unfoldable pub tag_info : List ℕ → ℕ → Suffix → TagInfo
-tag_info text i suffix.Absent = no_tag
-tag_info text i (suffix.At p n) = with_span (tag_span text i n) p n
+unfoldable pub tag_info : List ℕ → ℕ → Option Suffix → TagInfo
+tag_info text i None = no_tag
+tag_info text i (Some x) = with_span (tag_span text i x.len) x.place x.len
 
 -- ---- record
 
-unfoldable pub resolved_by : List ℕ → List ℕ → ℕ → YamlTag → Resolved
-resolved_by events value style Absent = resolve_scalar value style false [] []
-resolved_by events value style (Present h x) = resolve_scalar value style true (part_of events h) (part_of events x)
+unfoldable pub resolved_by : List ℕ → List ℕ → ℕ → Option YamlTag → Resolved
+resolved_by events value style tag = resolve_scalar value style (option_map (λ t. (part_of events t.handle, part_of events t.suffix)) tag)
 
 -- the record of a scalar with no list: its bytes go from `start` to `end`, and its value, at `place`, has `len`
 unfoldable pub scalar_over : ℕ → ℕ → ℕ → ℕ → TagInfo → Resolved → Node
@@ -122,5 +119,5 @@ event_scalar text events i awaited e =
     scalar_from (scalar_start text i value e.mark.style awaited) e.mark value e.value.at
 
 -- its record, by its tag
-unfoldable pub event_node : List ℕ → List ℕ → ScalarAt → YamlTag → Node
+unfoldable pub event_node : List ℕ → List ℕ → ScalarAt → Option YamlTag → Node
 event_node text events x tag = scalar_node text x (tag_info text x.start (suffix_of tag)) (resolved_by events x.value x.style tag)

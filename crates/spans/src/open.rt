@@ -1,19 +1,19 @@
 // A collection that is open. (01: S2, S3, N2.)
 
 // The suffix of a tag: its place in the event bytes and its length.
-#[derive(Clone, Copy)]
-pub enum Suffix {
-    Absent,
-    At { place: u32, len: u32 },
+#[derive(Clone, Copy, Debug, PartialEq, Eq)]
+pub struct Suffix {
+    pub place: u32,
+    pub len: u32,
 }
 
 // An open collection.
-#[derive(Clone, Copy)]
+#[derive(Clone, Copy, Debug, PartialEq, Eq)]
 pub struct Open {
     pub mapping: bool,
     // The offset of its start's marker.
     pub start: u32,
-    pub suffix: Suffix,
+    pub suffix: Option<Suffix>,
     // Nodes completed directly under it.
     pub children: u32,
     // Where the first of them starts.

@@ -1,43 +1,31 @@
--- `event_scalar` meets its contract: the start is a boundary, as the tag's search and the walk ask; start, tag and resolution are those of the
--- definitions.
-use mathlib.Core.Path.{◌≡◌, ap, ◌∙◌}
-use Rattle.utf8.specs.Boundary.{Boundary}
-use Rattle.spans.specs.Scalar.{suffix_of, tag_info, event_node}
-use Rattle.spans.proofs.SpanLaws.{tag_fits, offset_start, range_is, value_sound}
+-- `event_scalar` meets its contract: the value is admitted, and the start is a boundary, as the tag's search and the walk ask; start, tag and
+-- resolution are those of the definitions.
+use Rattle.std.proofs.Common.{refl, ◌∙◌}
+use Rattle.utf8.proofs.Utf8Laws.{utf8_sound, utf8_complete}
+use Rattle.text.specs.Admission.{text_limit}
+use Rattle.spans.specs.Scalar.{event_node}
+use Rattle.spans.proofs.SpanLaws.{offset_start, part_few}
 use Rattle.spans.proofs.scalar.event_scalar.Goals as goal
 
-pub suffix_of-requires : goal.suffix_of-requires
-suffix_of-requires c =
+pub invariant_of-value : goal.invariant_of-value
+invariant_of-value c =
     let fits = c.requires.event_fits in
-    tag_fits c.args.events.now c.args.e.tag fits.parts fits.short
+    record {
+      within = rw c.bytes_in.ensures (part_few c.args.events.now c.args.e.value text_limit fits.few);
+      utf8 = rw c.bytes_in.ensures (utf8_complete fits.value.utf8);
+    }
 
-pub tag_info-info-requires : goal.tag_info-info-requires
-tag_info-info-requires c =
+pub tag_info-tag-requires : goal.tag_info-tag-requires
+tag_info-tag-requires c =
     let a = c.args in
-    let begins = c.scalar_start-start in
-    let on : Boundary a.text.now begins.result =
-    rw begins.ensures (offset_start a.text.now c.requires.admitted_text.utf8 _ a.e.mark.style a.awaited a.at c.requires.boundary) in
-    record { admitted_text = c.requires.admitted_text; boundary = on }
+    rw c.scalar_start-start.ensures (offset_start a.text.bytes.now (utf8_sound _ a.text.utf8) _ a.e.mark.style a.awaited a.at c.requires.boundary)
 
-pub walk_scalar-requires : goal.walk_scalar-requires
-walk_scalar-requires c =
+pub walk_scalar-requires-clause-boundary : goal.walk_scalar-requires-clause-boundary
+walk_scalar-requires-clause-boundary c =
     let a = c.args in
-    let fits = c.requires.event_fits in
-    let begins = c.scalar_start-start in
-    let on : Boundary a.text.now begins.result =
-    rw begins.ensures (offset_start a.text.now c.requires.admitted_text.utf8 _ a.e.mark.style a.awaited a.at c.requires.boundary) in
-    record { admitted_text = (c.requires.admitted_text, rw (range_is a.events.now a.e.value) (value_sound a.events.now a.e.value fits.value fits.few)); boundary = on; pieces_zero = c.requires.pieces_zero }
+    rw c.scalar_start-start.ensures (offset_start a.text.bytes.now (utf8_sound _ a.text.utf8) _ a.e.mark.style a.awaited a.at c.requires.boundary)
 
-pub returns : goal.returns
+pub returns-clause-value : goal.returns-clause-value
 unfolding event_node
-returns c =
-    let a = c.args in
-    let begins = c.scalar_start-start in
-    let info = c.tag_info-info in
-    let is = range_is a.events.now a.e.value in
-    let from = rw is at begins.ensures in
-    let tag : info.result ≡ tag_info a.text.now begins.result (suffix_of a.e.tag) =
-    info.ensures ∙ ap (tag_info a.text.now begins.result) c.suffix_of.ensures in
-    let what = rw is at c.resolve-resolved.ensures in
-    let walked = rw is at c.walk_scalar.ensures in
-    record { value = rw (← from, ← tag, ← what) walked.value; pieces_after = rw (← from) walked.pieces_after }
+returns-clause-value c =
+    c.walk_scalar.ensures.value ∙ rw (c.resolve-resolved.ensures, c.tag_info-tag.ensures, c.suffix_of.ensures, c.scalar_start-start.ensures, c.bytes_in.ensures) refl
