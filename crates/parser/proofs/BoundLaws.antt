@@ -1,12 +1,13 @@
 -- What a call comes to is in bounds: the nodes and the place by the number of event bytes, since each node has an event and each event that
 -- leads on takes at least a byte; the pieces by their room; the number by the table's last. Of the events it is asked that they are bytes.
-use Rattle.std.specs.Prelude.{◌≡◌, Bool, cond, ltb, leb}
+use Rattle.std.specs.Prelude.{◌≡◌, Bool, cond, ltb, leb, Result, Ok, Err, Option, None}
 use Rattle.std.proofs.Math.Path.{refl}
 use Rattle.std.proofs.Common.{sym, ap, ◌∙◌, ltb-false}
 use Prim.Native.Nat.{ℕ, zero, suc, ◌+◌, ◌≤◌, ◌<◌}
 use Rattle.std.proofs.Math.Bool.{true, false}
 use mathlib.Core.List.{List, [], ◌∷◌, ◌++◌}
-use Rattle.std.proofs.Math.Option.{Option, none, some}
+use Rattle.std.proofs.Math.Option as maybe
+use Rattle.std.proofs.Math.Option.{none, some}
 use native.Mathlib.Omega.{arith}
 use Rattle.std.proofs.Math.ListN.{length, length-append}
 use Rattle.provenance.specs.Reading.{Piece}
@@ -14,12 +15,12 @@ use Rattle.utf8.specs.Ascii.{Bytes}
 use Rattle.event.specs.Read.{read_event, events_limit}
 use Rattle.event.proofs.ReadLaws.{answer_within}
 use Rattle.event.specs.declared.tag.YamlTag.{YamlTag}
-use Rattle.event.specs.declared.tag.YamlTag.TheVariants.{Absent}
 use Rattle.event.specs.declared.read.Event.{Event}
-use Rattle.event.specs.declared.read.Event.TheVariants.{SequenceStart, SequenceEnd, MappingStart, MappingEnd, Scalar, Alias, Malformed}
+use Rattle.event.specs.declared.malformed.Malformed.{Malformed}
+use Rattle.event.specs.declared.read.Event.TheVariants.{SequenceStart, SequenceEnd, MappingStart, MappingEnd, Scalar, Alias}
 use Rattle.text.specs.Admission.{admission, admission_of_both}
-use Rattle.text.specs.declared.admission.Admission.{Admission}
-use Rattle.text.specs.declared.admission.Admission.TheVariants.{Admitted, TooLong, NotUtf8}
+use Rattle.text.specs.declared.admission.TextError.{TextError}
+use Rattle.text.specs.declared.admission.TextError.TheVariants.{TooLong, NotUtf8}
 use Rattle.measure.specs.Scalar.{folded}
 use Rattle.records.specs.Record.{with_list}
 use Rattle.spans.specs.Scalar.{ScalarAt}
@@ -71,7 +72,7 @@ abbrev with_pieces : List Piece → State → State
 with_pieces ps st = record { nodes = st.nodes; opens = st.opens; pieces = st.pieces ++ ps }
 
 module _ (text events : List ℕ) (room r k : ℕ) where
-  start_stepped : (mapping : Bool) (index : ℕ) (tag : YamlTag) (st : State) → Holding k r st → Stepped (k + 1) r (on_start text mapping index tag st)
+  start_stepped : (mapping : Bool) (index : ℕ) (tag : Option YamlTag) (st : State) → Holding k r st → Stepped (k + 1) r (on_start text mapping index tag st)
   unfolding on_start
   start_stepped mapping index tag st h = before_root_lem (k + 1) r st _ (within_depth_lem (k + 1) r st _ (omega arith, h.1))
 
@@ -92,24 +93,24 @@ module _ (text events : List ℕ) (room r k : ℕ) where
       let fit = ltb-false r (length st.pieces + length ps) e in
       completes k r _ (with_pieces ps st) (h.0, simp length-append (omega arith))
 
-  keep_stepped : (x : Node) (l : Option (List Piece)) (st : State) → Holding k r st → Stepped (k + 1) r (keeping r x l st)
+  keep_stepped : (x : Node) (l : maybe.Option (List Piece)) (st : State) → Holding k r st → Stepped (k + 1) r (keeping r x l st)
   unfolding keeping
   keep_stepped x none st h = completes k r x st h
   keep_stepped x (some ps) st h = kept_in_room x ps st (ltb r (length st.pieces + length ps)) refl h
 
-  scalar_stepped : (x : ScalarAt) (tag : YamlTag) (st : State) → Holding k r st → Stepped (k + 1) r (scalar_kept text events r x tag st)
+  scalar_stepped : (x : ScalarAt) (tag : Option YamlTag) (st : State) → Holding k r st → Stepped (k + 1) r (scalar_kept text events r x tag st)
   unfolding scalar_kept
   scalar_stepped x tag st h = keep_stepped _ _ st h
 
-  pub stepped : (e : Event) (st : State) → Holding k r st → Stepped (k + 1) r (on_event text events room r e st)
+  pub stepped : (e : Result Event Malformed) (st : State) → Holding k r st → Stepped (k + 1) r (on_event text events room r e st)
   unfolding on_scalar
-  stepped (SequenceStart index tag n) st h = start_stepped false index tag st h
-  stepped (SequenceEnd index n) st h = end_stepped false index st.opens st h
-  stepped (MappingStart index tag n) st h = start_stepped true index tag st h
-  stepped (MappingEnd index n) st h = end_stepped true index st.opens st h
-  stepped (Scalar index column style empty_span tag value n) st h = before_root_lem (k + 1) r st _ (within_room_lem (k + 1) r room st _ (scalar_stepped _ tag st h))
-  stepped (Alias index n) st h = alias_stepped index st h
-  stepped Malformed st h = omega arith
+  stepped (Ok (SequenceStart index tag n)) st h = start_stepped false index tag st h
+  stepped (Ok (SequenceEnd index n)) st h = end_stepped false index st.opens st h
+  stepped (Ok (MappingStart index tag n)) st h = start_stepped true index tag st h
+  stepped (Ok (MappingEnd index n)) st h = end_stepped true index st.opens st h
+  stepped (Ok (Scalar index column style empty_span tag value n)) st h = before_root_lem (k + 1) r st _ (within_room_lem (k + 1) r room st _ (scalar_stepped _ tag st h))
+  stepped (Ok (Alias index n)) st h = alias_stepped index st h
+  stepped (Err e) st h = omega arith
 
 -- ---- the run
 
@@ -127,7 +128,7 @@ module _ (text events : List ℕ) (bytes : Bytes events) (room r : ℕ) where
       → (i < next_place (read_event events i)) × (next_place (read_event events i) ≤ length events)
   led_on i st n e =
       onward events i (read_event events i) (answer_within events i bytes)
-      (λ bad. stop_not_go 3 n (sym (ap (λ (x : Event). on_event text events room r x st) bad) ∙ e))
+      (λ bad. stop_not_go 3 n (sym (ap (λ (x : Result Event Malformed). on_event text events room r x st) bad) ∙ e))
 
   -- event number k stands at i, and at most k nodes are complete before it
   pub run_bounded : (f i k : ℕ) (st : State) → Holding k r st → k ≤ i → i ≤ length events → Bounded (length events) r (run text events room r f i k st)
@@ -150,10 +151,10 @@ bounded_wider : (m n r s : ℕ) (o : Outcome) → m ≤ n → r ≤ s → Bounde
 bounded_wider m n r s (built xs ps) l h b = (omega arith, omega arith)
 bounded_wider m n r s (refused number place) l h b = (b.0, omega arith)
 
-admitted_bounded : (n r : ℕ) (a : Admission) (o : Outcome) → Bounded n r o → Bounded n r (admitted a o)
-admitted_bounded n r (Admitted ascii) o h = h
-admitted_bounded n r TooLong o h = (omega arith, omega arith)
-admitted_bounded n r NotUtf8 o h = (omega arith, omega arith)
+admitted_bounded : (n r : ℕ) (a : Result Bool TextError) (o : Outcome) → Bounded n r o → Bounded n r (admitted a o)
+admitted_bounded n r (Ok ascii) o h = h
+admitted_bounded n r (Err TooLong) o h = (omega arith, omega arith)
+admitted_bounded n r (Err NotUtf8) o h = (omega arith, omega arith)
 
 room_limited : (size : ℕ) → piece_room size ≤ piece_limit
 room_limited size = omega arith
@@ -187,4 +188,4 @@ scalar_bounded text m value pieces_size =
     let r = piece_room pieces_size in
     admitted_bounded 1 piece_limit (admission_of_both text value) o
     (bounded_wider 1 1 r piece_limit o (omega arith) (room_limited pieces_size)
-    (one_bounded r (ltb folded m.style) (scalar_kept text [] r x Absent empty) (scalar_stepped text [] 0 r 0 x Absent empty (omega arith, omega arith))))
+    (one_bounded r (ltb folded m.style) (scalar_kept text [] r x None empty) (scalar_stepped text [] 0 r 0 x None empty (omega arith, omega arith))))

@@ -4,7 +4,9 @@ use mathlib.Core.Path.{◌≡◌, refl, sym, ap, ◌∙◌, subst}
 use mathlib.Core.Bool.{Bool, true, false, cond}
 use mathlib.Core.Logic.{◌⊎◌, inl, inr}
 use mathlib.Core.List.{List, [], ◌∷◌, ◌++◌, append-nil, append_assoc}
-use mathlib.Core.Option.{Option, none, some}
+use mathlib.Core.Option as maybe
+use mathlib.Core.Option.{none, some}
+use Rattle.std.specs.Prelude.{Some, None, Option, Result, Ok, Err}
 use Prim.Native.Nat.{ℕ, ◌+◌, ◌-◌, ◌*◌, ◌≤◌, ◌<◌}
 use native.Mathlib.Omega.{arith}
 use borrow.Author.Tests.{lt-ltb, le-ltb, lt-leb, le-leb, ltb-true, ltb-false, leb-false, ne_eqb}
@@ -16,8 +18,8 @@ use Rattle.utf8.specs.Tests.{clash, by_order}
 use Rattle.text.specs.Admitted.{AdmittedText}
 use Rattle.text.proofs.AdmissionLaws.{admitted_text}
 use Rattle.text.specs.Admission.{text_limit, admission, admission_of_both}
-use Rattle.text.specs.declared.admission.Admission.{Admission}
-use Rattle.text.specs.declared.admission.Admission.TheVariants.{Admitted, TooLong, NotUtf8}
+use Rattle.text.specs.declared.admission.TextError.{TextError}
+use Rattle.text.specs.declared.admission.TextError.TheVariants.{TooLong, NotUtf8}
 use Rattle.utf8.specs.Boundary.{Boundary}
 use Rattle.utf8.proofs.Utf8Laws.{utf8_complete}
 use Rattle.schema.specs.Tag.{resolve_scalar}
@@ -29,11 +31,12 @@ use Rattle.measure.specs.declared.length.Measure.{Measure}
 use Rattle.utf8.specs.Ascii.{Bytes}
 use Rattle.event.specs.Read.{events_limit, part, part_of, read_event}
 use Rattle.event.specs.Encode.{Tag, untagged, tagged, YamlEvent, sequence_start, sequence_end, mapping_start, mapping_end, scalar, alias, encode_tag, encode_event}
-use Rattle.event.specs.Meaning.{StandsAt, placed_tag, placed, says, said_tag, said}
+use Rattle.event.specs.Meaning.{StandsAt, placed_tag, placed, said_tag, said}
 use Rattle.event.specs.EventList.{encode_events, AllSound, Front}
 use Rattle.event.proofs.EventListLaws.{Stand, event_takes, encode_events_append, all_stand, front_of, sound_split, one_stands}
 use Rattle.event.proofs.EncodeLaws.{stands_inside}
 use Rattle.event.proofs.ReadLaws.{sound_is_read, parts_are}
+use Rattle.event.specs.declared.malformed.Malformed.{Malformed}
 use Rattle.event.specs.declared.read.Event.{Event}
 use Rattle.event.specs.declared.tag.YamlTag.{YamlTag}
 use Rattle.provenance.specs.Escape.{escapes_reach}
@@ -73,7 +76,7 @@ use Rattle.parser.proofs.Growths.{gate, past_root, past_room, Grown, run_grown}
 -- ---- the walk of a scalar starts where document 01 says
 
 module _ (text : List ℕ) (sound : AdmittedText text) (awaited : Bool) (m : ScalarMark) (value : List ℕ) where
-  abbrev found : Option (List Piece)
+  abbrev found : maybe.Option (List Piece)
   found = list_from (rules_of m.style m.column) text (walk_first text awaited m value) value
 
   pub walk_demand3 : (most : ℕ)
@@ -132,7 +135,7 @@ none_found b l e = ap (λ (n : ℕ). read_pieces n (drop (4 * l.first) b)) e
 -- ---- what is kept of a scalar whose walk gives the list o, where `used` pieces are kept and at most `most` are let in
 
 -- of the record and the pieces that are added
-record Keeps (most : ℕ) (x : Node) (o : Option (List Piece)) (st : State) (st' : State) : Type 0 where
+record Keeps (most : ℕ) (x : Node) (o : maybe.Option (List Piece)) (st : State) (st' : State) : Type 0 where
   node : Node
   nodes : st'.nodes ≡ st.nodes ++ (node ∷ [])
   same : with_list node absent 0 ≡ with_list x absent 0
@@ -168,7 +171,7 @@ module _ (most : ℕ) (small : most < absent) (x : Node) (un : x.list ≡ no_lis
         finds = λ size rest. rw le (list_found size st.pieces ps rest);
       }
 
-  keeps : (o : Option (List Piece)) (st' : State) → keeping most x o st ≡ go st' → Keeps most x o st st'
+  keeps : (o : maybe.Option (List Piece)) (st' : State) → keeping most x o st ≡ go st' → Keeps most x o st st'
   unfolding keeping
   keeps none st' e = subst (λ (s : State). Keeps most x none st s) (go_is _ st' e) keeps_none
   keeps (some ps) st' e =
@@ -178,10 +181,10 @@ module _ (most : ℕ) (small : most < absent) (x : Node) (un : x.list ≡ no_lis
 -- ---- the call on one scalar
 
 -- what a call comes to whose scalar has the record x, without a list, and whose walk gives the list o
-abbrev kept_alone : ℕ → Node → Option (List Piece) → Outcome
+abbrev kept_alone : ℕ → Node → maybe.Option (List Piece) → Outcome
 kept_alone size x o = follow (keeping (piece_room size) x o empty) (λ (st : State). built st.nodes st.pieces) 0
 
-record KeptAlone (size : ℕ) (o : Option (List Piece)) (out : Outcome) : Type 0 where
+record KeptAlone (size : ℕ) (o : maybe.Option (List Piece)) (out : Outcome) : Type 0 where
   number : number_of out ≡ walked_number (walked_in out)
   answer : walked_in out ≡ answer_of (piece_room size) o
   finds : list_in (call.pieces_after size out) (record_of out).list ≡ left_of (piece_room size) o
@@ -201,7 +204,7 @@ module _ (size : ℕ) (x : Node) (un : x.list ≡ no_list) where
       let same : ([] ++ ps) ++ [] ≡ ps = append-nil ps in
       record { number = refl; answer = rw fit refl; finds = rw fit (rw same at (list_found size [] ps [])); all_numbers = rw fit refl }
 
-  alone : (o : Option (List Piece)) → KeptAlone size o (kept_alone size x o)
+  alone : (o : maybe.Option (List Piece)) → KeptAlone size o (kept_alone size x o)
   unfolding keeping completed answer_of left_of
   alone none =
       record {
@@ -216,7 +219,7 @@ module _ (size : ℕ) (x : Node) (un : x.list ≡ no_list) where
       (λ le. let e : ltb (piece_room size) (0 + length ps) ≡ false = le-ltb (piece_room size) (0 + length ps) (omega arith) in rw e (alone_listed ps le))
 
 -- a record has a list just if its walk gave one, which its pieces are
-record Answered (l : PieceList) (most : ℕ) (o : Option (List Piece)) : Type 0 where
+record Answered (l : PieceList) (most : ℕ) (o : maybe.Option (List Piece)) : Type 0 where
   list : has_list l ≡ is_some o
   found : has_list l ≡ true → o ≡ some (left_of most o)
 
@@ -226,7 +229,7 @@ told NoList = 0
 told (Listed n) = 1
 told NoRoom = 2
 
-answered : (l : PieceList) (most : ℕ) (o : Option (List Piece)) → walked_by l ≡ answer_of most o → Answered l most o
+answered : (l : PieceList) (most : ℕ) (o : maybe.Option (List Piece)) → walked_by l ≡ answer_of most o → Answered l most o
 unfolding answer_of left_of
 answered l most none e = by (eqb l.first absent) refl e
   where
@@ -242,14 +245,14 @@ answered l most (some ps) e = by (eqb l.first absent) refl (leb (length ps) most
     by false f true g e = record { list = rw f refl; found = λ h. rw g refl }
     by false f false g e = absurd (let z : ◌≡◌ {A = ℕ} 1 2 = ap told e in omega arith)
 
-both_admitted : (text value : List ℕ) → AdmittedText text → AdmittedText value → admission_of_both text value ≡ Admitted (is_ascii text)
+both_admitted : (text value : List ℕ) → AdmittedText text → AdmittedText value → admission_of_both text value ≡ Ok (is_ascii text)
 unfolding admission_of_both
 both_admitted text value s v =
     rw (le-ltb text_limit (length text) s.within, le-ltb text_limit (length value) v.within, utf8_complete s.utf8, utf8_complete v.utf8) refl
 
 module _ (text : List ℕ) (sound : AdmittedText text) (m : ScalarMark) (value : List ℕ) (value_sound : AdmittedText value) (known : m.style ≤ folded) (size : ℕ) where
   abbrev alone_node : Node
-  alone_node = scalar_node text (scalar_at text false m value 0) no_tag (resolve_scalar value m.style false [] [])
+  alone_node = scalar_node text (scalar_at text false m value 0) no_tag (resolve_scalar value m.style None)
 
   scalar_is : scalar_call text m value size ≡ kept_alone size alone_node (found text sound false m value)
   unfolding scalar_call one_scalar scalar_kept event_node tag_info resolved_by
@@ -277,7 +280,7 @@ module _ (text : List ℕ) (sound : AdmittedText text) (m : ScalarMark) (value :
             all_numbers = k.all_numbers ∙ ap (laid_pieces size) (sym k.finds);
           }
 
-  alone_same : (o : Option (List Piece)) (xs : List Node) (ps : List Piece) → kept_alone size alone_node o ≡ built xs ps → with_list (record_of (kept_alone size alone_node o)) absent 0 ≡ with_list alone_node absent 0
+  alone_same : (o : maybe.Option (List Piece)) (xs : List Node) (ps : List Piece) → kept_alone size alone_node o ≡ built xs ps → with_list (record_of (kept_alone size alone_node o)) absent 0 ≡ with_list alone_node absent 0
   unfolding keeping completed
   alone_same none xs ps e = refl
   alone_same (some qs) xs ps e = by (ltb (piece_room size) (0 + length qs)) e
@@ -291,7 +294,7 @@ module _ (text : List ℕ) (sound : AdmittedText text) (m : ScalarMark) (value :
   pub scalar_record : ScalarRecord text m value (scalar_call text m value size)
   scalar_record =
       record {
-        entry = λ xs ps e. entry_says text sound false m value 0 no_tag (resolve_scalar value m.style false [] []) _
+        entry = λ xs ps e. entry_says text sound false m value 0 no_tag (resolve_scalar value m.style None) _
             (ap (λ (o : Outcome). with_list (record_of o) absent 0) scalar_is ∙ alone_same _ xs ps (sym scalar_is ∙ e));
         zero = λ number place e. ap record_of e;
       }
@@ -351,11 +354,11 @@ module _ (text events : List ℕ) (size pieces_size : ℕ) where
   unfolding building
   admitted_or o e = by (ltb events_limit (length events)) refl (admission text) refl e
     where
-      by : (t : Bool) → ltb events_limit (length events) ≡ t → (a : Admission) → admission text ≡ a → cond t (refused 1 0) (admitted a all) ≡ o → (o ≡ refused 1 0) ⊎ (o ≡ refused 2 0) ⊎ Passed o
+      by : (t : Bool) → ltb events_limit (length events) ≡ t → (a : Result Bool TextError) → admission text ≡ a → cond t (refused 1 0) (admitted a all) ≡ o → (o ≡ refused 1 0) ⊎ (o ≡ refused 2 0) ⊎ Passed o
       by true l a ad f = inl (sym f)
-      by false l TooLong ad f = inl (sym f)
-      by false l NotUtf8 ad f = inr (inl (sym f))
-      by false l (Admitted x) ad f = inr (inr (record { events_short = ltb-false events_limit (length events) l; text_sound = admitted_text text x ad; runs = f }))
+      by false l (Err TooLong) ad f = inl (sym f)
+      by false l (Err NotUtf8) ad f = inr (inl (sym f))
+      by false l (Ok x) ad f = inr (inr (record { events_short = ltb-false events_limit (length events) l; text_sound = admitted_text text x ad; runs = f }))
 
   building_runs : length events ≤ events_limit → AdmittedText text → building text events size pieces_size ≡ all
   unfolding building admission
@@ -371,7 +374,7 @@ gate_stop : (t : Bool) (m k : ℕ) (n : Next) → (m ≡ k → ⊥) → cond t (
 gate_stop true m k n ne e = absurd (ne (stop_is m k e))
 gate_stop false m k n ne e = (refl, e)
 
-start_no_8 : (text : List ℕ) (mapping : Bool) (index : ℕ) (tag : YamlTag) (st : State) → on_start text mapping index tag st ≡ stop 8 → ⊥
+start_no_8 : (text : List ℕ) (mapping : Bool) (index : ℕ) (tag : Option YamlTag) (st : State) → on_start text mapping index tag st ≡ stop 8 → ⊥
 unfolding on_start before_root within_depth
 start_no_8 text mapping index tag st h =
     let a = gate_stop (root_done st) 5 8 _ (λ z. omega arith) h in
@@ -413,16 +416,16 @@ value_found : (events : List ℕ) (i : ℕ) (m : ScalarMark) (tag : Tag) (value 
     → part_of events (part (value_place i tag) (length value)) ≡ value
 unfolding placed said
 value_found events i m tag value p =
-    let e : says (scalar_of m (said_tag events (placed_tag (tag_place i) tag)) (part_of events (part (value_place i tag) (length value))))
-    ≡ says (scalar_of m tag value) = parts_are events i (scalar_of m tag value) p in
+    let e : ◌≡◌ {A = Option YamlEvent} (Some (scalar_of m (said_tag events (placed_tag (tag_place i) tag)) (part_of events (part (value_place i tag) (length value)))))
+    (Some (scalar_of m tag value)) = parts_are events i (scalar_of m tag value) p in
     cc
 
 tag_found : (events : List ℕ) (i : ℕ) (m : ScalarMark) (tag : Tag) (value : List ℕ) → StandsAt events i (scalar_of m tag value)
     → said_tag events (placed_tag (tag_place i) tag) ≡ tag
 unfolding placed said
 tag_found events i m tag value p =
-    let e : says (scalar_of m (said_tag events (placed_tag (tag_place i) tag)) (part_of events (part (value_place i tag) (length value))))
-    ≡ says (scalar_of m tag value) = parts_are events i (scalar_of m tag value) p in
+    let e : ◌≡◌ {A = Option YamlEvent} (Some (scalar_of m (said_tag events (placed_tag (tag_place i) tag)) (part_of events (part (value_place i tag) (length value)))))
+    (Some (scalar_of m tag value)) = parts_are events i (scalar_of m tag value) p in
     cc
 
 -- a scalar is what its event's handle and suffix make of it
@@ -449,7 +452,7 @@ module _ (text events : List ℕ) (sound : AdmittedText text) (room most : ℕ) 
   abbrev value_at : ℕ
   value_at = value_place i tag
 
-  abbrev tag_at : YamlTag
+  abbrev tag_at : Option YamlTag
   tag_at = placed_tag (tag_place i) tag
 
   -- its record without a list
@@ -462,17 +465,17 @@ module _ (text events : List ℕ) (sound : AdmittedText text) (room most : ℕ) 
   unfolding scalar_over
   no_list_yet = refl
 
-  abbrev found_here : Option (List Piece)
+  abbrev found_here : maybe.Option (List Piece)
   found_here = found text sound awaited m value
 
   kept_is : scalar_kept text events most (scalar_at text awaited m (part_of events (part value_at (length value))) value_at) tag_at st ≡ keeping most node_here found_here st
   unfolding scalar_kept event_node
   kept_is =
       ap (λ (v : List ℕ). scalar_kept text events most (scalar_at text awaited m v value_at) tag_at st) (value_found events i m tag value stands)
-      ∙ ap (λ (o : Option (List Piece)). keeping most node_here o st) (pieces_are text sound.utf8 awaited m value value_at)
+      ∙ ap (λ (o : maybe.Option (List Piece)). keeping most node_here o st) (pieces_are text sound.utf8 awaited m value value_at)
 
   abbrev step_here : Next
-  step_here = on_event text events room most (placed i (scalar_of m tag value)) st
+  step_here = on_event text events room most (Ok (placed i (scalar_of m tag value))) st
 
   -- it leads on: what is kept
   leads : (st' : State) → step_here ≡ go st' → Keeps most node_here found_here st st'
@@ -505,10 +508,10 @@ module _ (text events : List ℕ) (sound : AdmittedText text) (room most : ℕ) 
       let a = gate_stop (root_done st) 5 8 _ (λ z. omega arith) e in
       let b = gate_stop (leb room (length st.nodes)) 7 8 _ (λ z. omega arith) a.1 in
       listed_only (rules_of m.style m.column) (style_fair m.style) text (walk_first text awaited m value) value
-      (λ none_here. absurd (no_list_goes_on (sym (ap (λ (o : Option (List Piece)). keeping most node_here o st) none_here) ∙ sym kept_is ∙ b.1)))
+      (λ none_here. absurd (no_list_goes_on (sym (ap (λ (o : maybe.Option (List Piece)). keeping most node_here o st) none_here) ∙ sym kept_is ∙ b.1)))
       (λ can ts reads is.
       let over : most < length st.pieces + length (pieces_of (walk_first text awaited m value) ts) =
-      no_fit (pieces_of (walk_first text awaited m value) ts) (sym (ap (λ (o : Option (List Piece)). keeping most node_here o st) is) ∙ sym kept_is ∙ b.1) in
+      no_fit (pieces_of (walk_first text awaited m value) ts) (sym (ap (λ (o : maybe.Option (List Piece)). keeping most node_here o st) is) ∙ sym kept_is ∙ b.1) in
       record { before_root_lem = a.0; record_room_is = leb-false room (length st.nodes) b.0; can_start = can; steps = ts; reading = reads; too_many = over })
     where
       no_list_goes_on : keeping most node_here none st ≡ stop 8 → ⊥
@@ -529,10 +532,10 @@ module _ (text events : List ℕ) (sound : AdmittedText text) (room most : ℕ) 
       listed_if (rules_of m.style m.column) (style_fair m.style) text (walk_first text awaited m value) value t.can_start t.steps t.reading in
       let r : leb room (length st.nodes) ≡ false = lt-leb room (length st.nodes) t.record_room_is in
       let over = lt-ltb most (length st.pieces + length (pieces_of (walk_first text awaited m value) t.steps)) t.too_many in
-      rw (t.before_root_lem, r) (kept_is ∙ ap (λ (o : Option (List Piece)). keeping most node_here o st) is ∙ rw over refl)
+      rw (t.before_root_lem, r) (kept_is ∙ ap (λ (o : maybe.Option (List Piece)). keeping most node_here o st) is ∙ rw over refl)
 
 -- only a scalar is refused by row 8
-other_number : (text events : List ℕ) (room most i : ℕ) (e : YamlEvent) (st : State) → on_event text events room most (placed i e) st ≡ stop 8
+other_number : (text events : List ℕ) (room most i : ℕ) (e : YamlEvent) (st : State) → on_event text events room most (Ok (placed i e)) st ≡ stop 8
     → (m : ScalarMark) × (tag : Tag) × (value : List ℕ) × (e ≡ scalar_of m tag value)
 unfolding placed on_start ended on_alias before_root within_depth within_room
 other_number text events room most i (sequence_start m t) st h = absurd (start_no_8 text false m (placed_tag (start_tag_place i) t) st h)
@@ -562,7 +565,7 @@ module _ (text events : List ℕ) (size pieces_size : ℕ) where
         (found text sound (awaits_value here.opens) m value) here next → Grown most next (record { nodes = xs; opens = []; pieces = ps })
         → ScalarListed text events records_in most before m tag value xs (laid_pieces pieces_size ps)
     listed before m tag value here next to_here stands k g =
-        let o : Option (List Piece) = found text sound (awaits_value here.opens) m value in
+        let o : maybe.Option (List Piece) = found text sound (awaits_value here.opens) m value in
         let room : ℕ = most - length here.pieces in
         let left : List Piece = left_of room o in
         let i : ℕ = length (encode_events before) in
@@ -595,8 +598,8 @@ module _ (text events : List ℕ) (size pieces_size : ℕ) where
         let ok' : AllSound (before ++ (e ∷ after)) = subst AllSound split ok in
         let z : 0 + length (encode_events before) ≡ length (encode_events before) = omega arith in
         let stands : StandsAt events (length (encode_events before)) e = one_stands events before e after [] ok' (bytes ∙ ap encode_events split ∙ sym (append-nil (encode_events (before ++ (e ∷ after))))) in
-        let on : on_event text events records_in most (placed (length (encode_events before)) e) p.here ≡ go p.next =
-        ap (λ (j : ℕ). on_event text events records_in most (placed j e) p.here) (sym z) ∙ p.on in
+        let on : on_event text events records_in most (Ok (placed (length (encode_events before)) e)) p.here ≡ go p.next =
+        ap (λ (j : ℕ). on_event text events records_in most (Ok (placed j e)) p.here) (sym z) ∙ p.on in
         let k = leads text events sound records_in most (room_small pieces_size) (length (encode_events before)) m tag value stands p.here p.next on in
         let g = run_grown text events records_in most (room_small pieces_size) p.place p.number after p.next xs ps p.rest in
         listed before m tag value p.here p.next p.to_here stands k g
@@ -612,7 +615,7 @@ module _ (text events : List ℕ) (size pieces_size : ℕ) where
   never_built : (i k : ℕ) (es : List YamlEvent) (st : State) (xs : List Node) (ps : List Piece) → run_events text events records_in most malformed i k es st ≡ built xs ps → ⊥
   unfolding run_events
   never_built i k [] st xs ps e = refused_not_built 3 k xs ps e
-  never_built i k (x ∷ es) st xs ps e = by (on_event text events records_in most (placed i x) st) e (λ s f. never_built (i + length (encode_event x)) (k + 1) es s xs ps f)
+  never_built i k (x ∷ es) st xs ps e = by (on_event text events records_in most (Ok (placed i x)) st) e (λ s f. never_built (i + length (encode_event x)) (k + 1) es s xs ps f)
     where
       by : (n : Next) → follow n (λ (s : State). run_events text events records_in most malformed (i + length (encode_event x)) (k + 1) es s) k ≡ built xs ps
           → ((s : State) → run_events text events records_in most malformed (i + length (encode_event x)) (k + 1) es s ≡ built xs ps → ⊥) → ⊥
@@ -667,8 +670,8 @@ module _ (text events : List ℕ) (size pieces_size : ℕ) where
             let whole : events ≡ encode_events (s.before ++ (x ∷ s.after)) ++ front.rest = front.bytes ∙ ap (λ (l : List YamlEvent). encode_events l ++ front.rest) split in
             let stands : StandsAt events (length (encode_events s.before)) x = one_stands events s.before x s.after front.rest ok whole in
             let z : 0 + length (encode_events s.before) ≡ length (encode_events s.before) = omega arith in
-            let stops : on_event text events records_in most (placed (length (encode_events s.before)) x) s.here ≡ stop 8 =
-            ap (λ (j : ℕ). on_event text events records_in most (placed j x) s.here) (sym z) ∙ ap (λ (y : YamlEvent). on_event text events records_in most (placed (0 + length (encode_events s.before)) y) s.here) (sym is) ∙ s.stops in
+            let stops : on_event text events records_in most (Ok (placed (length (encode_events s.before)) x)) s.here ≡ stop 8 =
+            ap (λ (j : ℕ). on_event text events records_in most (Ok (placed j x)) s.here) (sym z) ∙ ap (λ (y : YamlEvent). on_event text events records_in most (Ok (placed (0 + length (encode_events s.before)) y)) s.here) (sym is) ∙ s.stops in
             let t = too_many_only text events p.text_sound records_in most (room_small pieces_size) (length (encode_events s.before)) m tag value stands s.here stops in
             let num = s.number in
             record {
@@ -720,7 +723,7 @@ module _ (text events : List ℕ) (size pieces_size : ℕ) where
           too_many = subst (λ (m : ℕ). most < length n.st.pieces + length (pieces_of m n.steps)) n.first_is n.too_many;
         } in
         let stops = too_many_if text events n.text_sound records_in most (room_small pieces_size) i n.mark n.tag n.value n.stands n.st t in
-        let read : read_event events i ≡ placed i x = sound_is_read events i x n.stands in
+        let read : read_event events i ≡ Ok (placed i x) = sound_is_read events i x n.stands in
         let takes = event_takes x in
         let inside : i + length (encode_event x) ≤ length events = stands_inside events i (encode_event x) n.stands.rest n.stands.starts (omega arith) in
         let num = n.number in
@@ -728,7 +731,7 @@ module _ (text events : List ℕ) (size pieces_size : ℕ) where
         building_runs text events size pieces_size n.events_short n.text_sound
         ∙ in_order_lem text events records_in most last i (λ f m st h. run_enough text events bytes records_in most f (length events) i m st h (omega arith)) (length events) 0 0 n.before empty stand (omega arith)
         ∙ over_through text events records_in most last 0 0 n.before empty n.st n.let_through
-        ∙ run_stopped text events records_in most (length events) i (0 + length n.before) 8 n.st (omega arith) (omega arith) (ap (λ (e : Event). on_event text events records_in most e n.st) read ∙ stops)
+        ∙ run_stopped text events records_in most (length events) i (0 + length n.before) 8 n.st (omega arith) (omega arith) (ap (λ (e : Result Event Malformed). on_event text events records_in most e n.st) read ∙ stops)
         ∙ ap (refused 8) numbered
 
     -- demand 3 of every scalar event of a document

@@ -7,6 +7,7 @@ use mathlib.Core.Logic.{◌⊎◌, inl, inr, ⊎_elim}
 use mathlib.Core.List.{List, [], ◌∷◌, ◌++◌, append-nil}
 use Prim.Native.Nat.{ℕ, ◌+◌, ◌-◌, ◌≤◌, ◌<◌}
 use native.Mathlib.Omega.{arith}
+use Rattle.std.specs.Prelude.{Result, Ok, Err}
 use lib.Dec.{ltb}
 use lib.ListN.{length, length-append}
 use Rattle.provenance.specs.Reading.{Piece}
@@ -15,14 +16,15 @@ use Rattle.event.specs.Encode.{YamlEvent, encode_event}
 use Rattle.event.specs.Meaning.{StandsAt, placed, event_number}
 use Rattle.event.specs.Read.{events_limit, read_event}
 use Rattle.text.specs.Admission.{admission}
-use Rattle.text.specs.declared.admission.Admission.{Admission}
-use Rattle.text.specs.declared.admission.Admission.TheVariants.{Admitted, TooLong, NotUtf8}
+use Rattle.text.specs.declared.admission.TextError.{TextError}
+use Rattle.text.specs.declared.admission.TextError.TheVariants.{TooLong, NotUtf8}
 use Rattle.event.specs.EventList.{encode_events, AllSound}
 use Rattle.event.proofs.EventListLaws.{Stand, event_takes, all_stand}
 use Rattle.event.proofs.EncodeLaws.{stands_inside}
 use Rattle.event.proofs.ReadLaws.{sound_is_read, none_stands_malformed}
 use Rattle.event.specs.declared.read.Event.{Event}
-use Rattle.event.specs.declared.read.Event.TheVariants.{Malformed}
+use Rattle.event.specs.declared.malformed.Malformed.{Malformed}
+use Rattle.event.specs.Read as read
 use Rattle.parser.specs.Machine.{State, empty, Next, go, stop, Outcome, built, refused, on_event, next_place, ending, follow, run, run_all}
 use Rattle.parser.proofs.RunLaws.{run_ended, run_on, run_stopped, stop_not_go}
 use Rattle.records.specs.declared.record.Node.{Node}
@@ -41,7 +43,7 @@ pub stop_is : (m n : ℕ) → stop m ≡ stop n → m ≡ n
 stop_is m n e = cc
 
 module _ (text events : List ℕ) (room piece_room : ℕ) where
-  abbrev step_of : Event → State → Next
+  abbrev step_of : Result Event Malformed → State → Next
   step_of = on_event text events room piece_room
 
   abbrev run_from : ℕ → ℕ → ℕ → State → Outcome
@@ -62,21 +64,21 @@ module _ (text events : List ℕ) (room piece_room : ℕ) where
     pub in_order_lem : (f i k : ℕ) (es : List YamlEvent) (st : State) → Stand events i es n → length events ≤ i + f → run_from f i k st ≡ over last i k es st
     unfolding Stand run_events
     in_order_lem f i k [] st stand h = subst (λ (j : ℕ). run_from f j k st ≡ last k st) (sym stand) (after f k st (omega arith))
-    in_order_lem f i k (e ∷ es) st stand h = by (step_of (placed i e) st) refl (λ st'. in_order_lem (f - 1) (i + length (encode_event e)) (k + 1) es st' stand.1 (let t = event_takes e in omega arith))
+    in_order_lem f i k (e ∷ es) st stand h = by (step_of (Ok (placed i e)) st) refl (λ st'. in_order_lem (f - 1) (i + length (encode_event e)) (k + 1) es st' stand.1 (let t = event_takes e in omega arith))
       where
-        by : (x : Next) → step_of (placed i e) st ≡ x → ((st' : State) → run_from (f - 1) (i + length (encode_event e)) (k + 1) st' ≡ over last (i + length (encode_event e)) (k + 1) es st')
+        by : (x : Next) → step_of (Ok (placed i e)) st ≡ x → ((st' : State) → run_from (f - 1) (i + length (encode_event e)) (k + 1) st' ≡ over last (i + length (encode_event e)) (k + 1) es st')
             → run_from f i k st ≡ follow x (λ (st' : State). over last (i + length (encode_event e)) (k + 1) es st') k
         by x is rest =
             let short = stands_short i e stand.0 in
             let t = event_takes e in
-            let read : read_event events i ≡ placed i e = sound_is_read events i e stand.0 in
+            let read : read_event events i ≡ Ok (placed i e) = sound_is_read events i e stand.0 in
             with_read x is rest read (omega arith) (omega arith)
           where
-            with_read : (x : Next) → step_of (placed i e) st ≡ x → ((st' : State) → run_from (f - 1) (i + length (encode_event e)) (k + 1) st' ≡ over last (i + length (encode_event e)) (k + 1) es st')
-                → read_event events i ≡ placed i e → i < length events → 0 < f → run_from f i k st ≡ follow x (λ (st' : State). over last (i + length (encode_event e)) (k + 1) es st') k
-            with_read (stop m) is rest read l o = run_stopped text events room piece_room f i k m st o l (ap (λ (z : Event). step_of z st) read ∙ is)
+            with_read : (x : Next) → step_of (Ok (placed i e)) st ≡ x → ((st' : State) → run_from (f - 1) (i + length (encode_event e)) (k + 1) st' ≡ over last (i + length (encode_event e)) (k + 1) es st')
+                → read_event events i ≡ Ok (placed i e) → i < length events → 0 < f → run_from f i k st ≡ follow x (λ (st' : State). over last (i + length (encode_event e)) (k + 1) es st') k
+            with_read (stop m) is rest read l o = run_stopped text events room piece_room f i k m st o l (ap (λ (z : Result Event Malformed). step_of z st) read ∙ is)
             with_read (go st') is rest read l o =
-                run_on text events room piece_room f i k st st' o l (ap (λ (z : Event). step_of z st) read ∙ is)
+                run_on text events room piece_room f i k st st' o l (ap (λ (z : Result Event Malformed). step_of z st) read ∙ is)
                 ∙ ap (λ (j : ℕ). run_from (f - 1) j (k + 1) st') (ap next_place read ∙ next_placed i e)
                 ∙ rest st'
 
@@ -89,9 +91,9 @@ module _ (text events : List ℕ) (room piece_room : ℕ) where
             in_order_lem ending (length (encode_events es)) (λ f k st h. run_ended text events room piece_room f (length (encode_events es)) k st (omega arith)) (length events) 0 0 es empty stand (omega arith);
         faulty = λ some bad.
             let size : length events ≡ length (encode_events es) + length rest = ap length is ∙ length-append (encode_events es) rest in
-            let read : read_event events (length (encode_events es)) ≡ Malformed = none_stands_malformed events bytes (length (encode_events es)) bad in
+            let faulty : read_event events (length (encode_events es)) ≡ Err read.malformed = none_stands_malformed events bytes (length (encode_events es)) bad in
             in_order_lem malformed (length (encode_events es))
-            (λ f k st h. run_stopped text events room piece_room f (length (encode_events es)) k (event_number Malformed) st (omega arith) (omega arith) (ap (λ (z : Event). step_of z st) read))
+            (λ f k st h. run_stopped text events room piece_room f (length (encode_events es)) k (event_number (Err read.malformed)) st (omega arith) (omega arith) (ap (λ (z : Result Event Malformed). step_of z st) faulty))
             (length events) 0 0 es empty stand (omega arith);
       }
     where
@@ -104,7 +106,7 @@ module _ (text events : List ℕ) (room piece_room : ℕ) where
   pub over_through : (last : ℕ → State → Outcome) (i k : ℕ) (es : List YamlEvent) (st st' : State) → through i es st ≡ go st' → over last i k es st ≡ last (k + length es) st'
   unfolding reached run_events
   over_through last i k [] st st' e = let z : k ≡ k + 0 = omega arith in ap (last k) (go_is st st' e) ∙ ap (λ (n : ℕ). last n st') z
-  over_through last i k (x ∷ es) st st' e = by (step_of (placed i x) st) e (λ s h. over_through last (i + length (encode_event x)) (k + 1) es s st' h)
+  over_through last i k (x ∷ es) st st' e = by (step_of (Ok (placed i x)) st) e (λ s h. over_through last (i + length (encode_event x)) (k + 1) es s st' h)
     where
       by : (n : Next) → go_on n (λ (s : State). through (i + length (encode_event x)) es s) ≡ go st'
           → ((s : State) → through (i + length (encode_event x)) es s ≡ go st' → over last (i + length (encode_event x)) (k + 1) es s ≡ last (k + 1 + length es) st')
@@ -117,7 +119,7 @@ module _ (text events : List ℕ) (room piece_room : ℕ) where
     pub here : State
     pub next : State
     pub to_here : through i before st ≡ go here
-    pub on : step_of (placed (i + length (encode_events before)) e) here ≡ go next
+    pub on : step_of (Ok (placed (i + length (encode_events before)) e)) here ≡ go next
     pub place : ℕ
     pub number : ℕ
     pub rest : over last place number after next ≡ o
@@ -125,17 +127,17 @@ module _ (text events : List ℕ) (room piece_room : ℕ) where
   pub passing : (last : ℕ → State → Outcome) (i k : ℕ) (before : List YamlEvent) (e : YamlEvent) (after : List YamlEvent) (st : State) (xs : List Node) (ps : List Piece)
       → over last i k (before ++ (e ∷ after)) st ≡ built xs ps → Passing last i before e after st (built xs ps)
   unfolding reached run_events encode_events
-  passing last i k [] e after st xs ps h = by (step_of (placed i e) st) refl h
+  passing last i k [] e after st xs ps h = by (step_of (Ok (placed i e)) st) refl h
     where
-      by : (n : Next) → step_of (placed i e) st ≡ n → follow n (λ (s : State). over last (i + length (encode_event e)) (k + 1) after s) k ≡ built xs ps → Passing last i [] e after st (built xs ps)
+      by : (n : Next) → step_of (Ok (placed i e)) st ≡ n → follow n (λ (s : State). over last (i + length (encode_event e)) (k + 1) after s) k ≡ built xs ps → Passing last i [] e after st (built xs ps)
       by (stop m) is f = absurd (refused_not_built m k xs ps f)
       by (go s) is f =
           let z : i ≡ i + 0 = omega arith in
-          record { here = st; next = s; to_here = refl; on = ap (λ (j : ℕ). step_of (placed j e) st) (sym z) ∙ is; place = i + length (encode_event e); number = k + 1; rest = f }
+          record { here = st; next = s; to_here = refl; on = ap (λ (j : ℕ). step_of (Ok (placed j e)) st) (sym z) ∙ is; place = i + length (encode_event e); number = k + 1; rest = f }
   passing last i k (x ∷ before) e after st xs ps h =
-      by (step_of (placed i x) st) refl h (λ s f. passing last (i + length (encode_event x)) (k + 1) before e after s xs ps f)
+      by (step_of (Ok (placed i x)) st) refl h (λ s f. passing last (i + length (encode_event x)) (k + 1) before e after s xs ps f)
     where
-      by : (n : Next) → step_of (placed i x) st ≡ n → follow n (λ (s : State). over last (i + length (encode_event x)) (k + 1) (before ++ (e ∷ after)) s) k ≡ built xs ps
+      by : (n : Next) → step_of (Ok (placed i x)) st ≡ n → follow n (λ (s : State). over last (i + length (encode_event x)) (k + 1) (before ++ (e ∷ after)) s) k ≡ built xs ps
           → ((s : State) → over last (i + length (encode_event x)) (k + 1) (before ++ (e ∷ after)) s ≡ built xs ps → Passing last (i + length (encode_event x)) before e after s (built xs ps))
           → Passing last i (x ∷ before) e after st (built xs ps)
       by (stop m) is f more = absurd (refused_not_built m k xs ps f)
@@ -146,7 +148,7 @@ module _ (text events : List ℕ) (room piece_room : ℕ) where
             here = p.here;
             next = p.next;
             to_here = ap (λ (n : Next). go_on n (λ (t : State). through (i + length (encode_event x)) before t)) is ∙ p.to_here;
-            on = ap (λ (j : ℕ). step_of (placed j e) p.here) (sym z) ∙ p.on;
+            on = ap (λ (j : ℕ). step_of (Ok (placed j e)) p.here) (sym z) ∙ p.on;
             place = p.place;
             number = p.number;
             rest = p.rest;
@@ -161,21 +163,21 @@ module _ (text events : List ℕ) (room piece_room : ℕ) where
     pub number : n ≡ k + length before
     pub here : State
     pub to_here : through i before st ≡ go here
-    pub stops : step_of (placed (i + length (encode_events before)) event) here ≡ stop m
+    pub stops : step_of (Ok (placed (i + length (encode_events before)) event)) here ≡ stop m
 
   pub stopped_at : (last : ℕ → State → Outcome) (m : ℕ) → ((k n : ℕ) (st : State) → last k st ≡ refused m n → ⊥) → (i k : ℕ) (es : List YamlEvent) (st : State) (n : ℕ)
       → over last i k es st ≡ refused m n → StoppedAt i k es st m n
   unfolding reached run_events encode_events
   stopped_at last m never i k [] st n h = absurd (never k n st h)
-  stopped_at last m never i k (x ∷ es) st n h = by (step_of (placed i x) st) refl h (λ s f. stopped_at last m never (i + length (encode_event x)) (k + 1) es s n f)
+  stopped_at last m never i k (x ∷ es) st n h = by (step_of (Ok (placed i x)) st) refl h (λ s f. stopped_at last m never (i + length (encode_event x)) (k + 1) es s n f)
     where
-      by : (t : Next) → step_of (placed i x) st ≡ t → follow t (λ (s : State). over last (i + length (encode_event x)) (k + 1) es s) k ≡ refused m n
+      by : (t : Next) → step_of (Ok (placed i x)) st ≡ t → follow t (λ (s : State). over last (i + length (encode_event x)) (k + 1) es s) k ≡ refused m n
           → ((s : State) → over last (i + length (encode_event x)) (k + 1) es s ≡ refused m n → StoppedAt (i + length (encode_event x)) (k + 1) es s m n) → StoppedAt i k (x ∷ es) st m n
       by (stop j) is f more =
           let a : j ≡ m = cc in
           let b : k ≡ n = cc in
           let z : i + 0 ≡ i = omega arith in
-          record { before = []; event = x; after = es; split = refl; number = omega arith; here = st; to_here = refl; stops = ap (λ (p : ℕ). step_of (placed p x) st) z ∙ is ∙ ap stop a }
+          record { before = []; event = x; after = es; split = refl; number = omega arith; here = st; to_here = refl; stops = ap (λ (p : ℕ). step_of (Ok (placed p x)) st) z ∙ is ∙ ap stop a }
       by (go s) is f more =
           let p = more s f in
           let b = p.before in
@@ -189,18 +191,18 @@ module _ (text events : List ℕ) (room piece_room : ℕ) where
             number = omega arith;
             here = p.here;
             to_here = ap (λ (t : Next). go_on t (λ (u : State). through (i + length (encode_event x)) p.before u)) is ∙ p.to_here;
-            stops = ap (λ (j : ℕ). step_of (placed j p.event) p.here) z ∙ p.stops;
+            stops = ap (λ (j : ℕ). step_of (Ok (placed j p.event)) p.here) z ∙ p.stops;
           }
 
   -- ---- bytes that are no list of events
 
   abbrev Ends : ℕ → ℕ → Outcome → Type 0
-  Ends k n o = (m : ℕ) × (p : ℕ) × (o ≡ refused m p) × (((m ≡ event_number Malformed) × (p ≡ k + n)) ⊎ (p < k + n))
+  Ends k n o = (m : ℕ) × (p : ℕ) × (o ≡ refused m p) × (((m ≡ event_number (Err read.malformed)) × (p ≡ k + n)) ⊎ (p < k + n))
 
   faulty_ends : (i k : ℕ) (es : List YamlEvent) (st : State) → Ends k (length es) (over malformed i k es st)
   unfolding run_events
-  faulty_ends i k [] st = (event_number Malformed, k, refl, inl (refl, omega arith))
-  faulty_ends i k (x ∷ es) st = by (step_of (placed i x) st) (λ s. faulty_ends (i + length (encode_event x)) (k + 1) es s)
+  faulty_ends i k [] st = (event_number (Err read.malformed), k, refl, inl (refl, omega arith))
+  faulty_ends i k (x ∷ es) st = by (step_of (Ok (placed i x)) st) (λ s. faulty_ends (i + length (encode_event x)) (k + 1) es s)
     where
       by : (n : Next) → ((s : State) → Ends (k + 1) (length es) (over malformed (i + length (encode_event x)) (k + 1) es s)) → Ends k (length (x ∷ es)) (follow n (λ (s : State). over malformed (i + length (encode_event x)) (k + 1) es s) k)
       by (stop m) more = (m, k, refl, inr (omega arith))
@@ -214,11 +216,11 @@ faulty_bytes text events size pieces_size bytes es rest ok is some bad = by (ltb
     runs : run_all text events (record_room size) (piece_room pieces_size) ≡ run_events text events (record_room size) (piece_room pieces_size) malformed 0 0 es empty
     runs = (events_as_list text events (record_room size) (piece_room pieces_size) bytes es rest ok is).faulty some bad
 
-    by : (t : Bool) → ltb events_limit (length events) ≡ t → (a : Admission) → admission text ≡ a → FaultyBytes text events size pieces_size (length es)
+    by : (t : Bool) → ltb events_limit (length events) ≡ t → (a : Result Bool TextError) → admission text ≡ a → FaultyBytes text events size pieces_size (length es)
     by true l a ad = record { number = 1; place = 0; refuses = rw l refl; rows = inl (refl, refl) }
-    by false l TooLong ad = record { number = 1; place = 0; refuses = rw (l, ad) refl; rows = inl (refl, refl) }
-    by false l NotUtf8 ad = record { number = 2; place = 0; refuses = rw (l, ad) refl; rows = inr (inl (refl, refl)) }
-    by false l (Admitted x) ad =
+    by false l (Err TooLong) ad = record { number = 1; place = 0; refuses = rw (l, ad) refl; rows = inl (refl, refl) }
+    by false l (Err NotUtf8) ad = record { number = 2; place = 0; refuses = rw (l, ad) refl; rows = inr (inl (refl, refl)) }
+    by false l (Ok x) ad =
         let r = faulty_ends text events (record_room size) (piece_room pieces_size) 0 0 es empty in
         record {
           number = r.0;

@@ -1,10 +1,12 @@
 -- What a step of the machine adds: nodes behind those there are, pieces behind those there are, and the lists of the new nodes take the new
 -- pieces one after the other. So what stands in the buffers stays where it is, up to the end of the run (`run_grown`).
+use Rattle.std.specs.Prelude.{Option, Result, Ok, Err}
 use mathlib.Core.Path.{◌≡◌, refl, sym, ap, ◌∙◌, subst}
 use mathlib.Core.Bool.{Bool, true, false, cond}
 use mathlib.Core.Logic.{inl, inr}
 use mathlib.Core.List.{List, [], ◌∷◌, ◌++◌, append-nil, append_assoc}
-use mathlib.Core.Option.{Option, none, some}
+use mathlib.Core.Option as maybe
+use mathlib.Core.Option.{none, some}
 use Prim.Native.Nat.{ℕ, ◌+◌, ◌≤◌, ◌<◌}
 use native.Mathlib.Omega.{arith}
 use borrow.Author.Tests.{ltb-false}
@@ -15,7 +17,8 @@ use Rattle.event.specs.Encode.{YamlEvent, encode_event}
 use Rattle.event.specs.Meaning.{placed}
 use Rattle.event.specs.declared.tag.YamlTag.{YamlTag}
 use Rattle.event.specs.declared.read.Event.{Event}
-use Rattle.event.specs.declared.read.Event.TheVariants.{SequenceStart, SequenceEnd, MappingStart, MappingEnd, Scalar, Alias, Malformed}
+use Rattle.event.specs.declared.malformed.Malformed.{Malformed}
+use Rattle.event.specs.declared.read.Event.TheVariants.{SequenceStart, SequenceEnd, MappingStart, MappingEnd, Scalar, Alias}
 use Rattle.records.specs.Record.{absent, no_list, with_list}
 use Rattle.spans.specs.Scalar.{ScalarAt, scalar_over, event_node}
 use Rattle.spans.specs.Collection.{closes, collection_over, collection_node}
@@ -118,7 +121,7 @@ grown_listed most x st ps small fits =
     }
 
 -- a scalar is complete, with the list that its walk gave
-pub grown_kept : (most : ℕ) (x : Node) (o : Option (List Piece)) (st st' : State) → most < absent → x.list ≡ no_list → keeping most x o st ≡ go st' → Grown most st st'
+pub grown_kept : (most : ℕ) (x : Node) (o : maybe.Option (List Piece)) (st st' : State) → most < absent → x.list ≡ no_list → keeping most x o st ≡ go st' → Grown most st st'
 unfolding keeping
 grown_kept most x none st st' small un e = subst (λ (s : State). Grown most st s) (go_is (completed x st) st' e) (grown_node most x st st un refl refl)
 grown_kept most x (some ps) st st' small un e =
@@ -133,7 +136,7 @@ unfolding collection_node collection_over
 collection_no_list text o i n = refl
 
 module _ (text events : List ℕ) (room most : ℕ) (small : most < absent) where
-  start_grown : (mapping : Bool) (index : ℕ) (tag : YamlTag) (st st' : State) → on_start text mapping index tag st ≡ go st' → Grown most st st'
+  start_grown : (mapping : Bool) (index : ℕ) (tag : Option YamlTag) (st st' : State) → on_start text mapping index tag st ≡ go st' → Grown most st st'
   unfolding on_start
   start_grown mapping index tag st st' e =
       subst (λ (s : State). Grown most st s) (go_is _ st' (past_depth st _ st' (past_root st _ st' e).1)) (grown_same most st _ refl refl)
@@ -154,31 +157,31 @@ module _ (text events : List ℕ) (room most : ℕ) (small : most < absent) wher
   unfolding on_alias
   alias_grown index st st' e = subst (λ (s : State). Grown most st s) (go_is _ st' (past_room room st _ st' (past_root st _ st' e).1).1) (grown_node most _ st _ refl refl refl)
 
-  scalar_grown : (x : ScalarAt) (tag : YamlTag) (st st' : State) → scalar_kept text events most x tag st ≡ go st' → Grown most st st'
+  scalar_grown : (x : ScalarAt) (tag : Option YamlTag) (st st' : State) → scalar_kept text events most x tag st ≡ go st' → Grown most st st'
   unfolding scalar_kept event_node scalar_over
   scalar_grown x tag st st' e = grown_kept most _ _ st st' small refl e
 
-  pub step_grown : (e : Event) (st st' : State) → on_event text events room most e st ≡ go st' → Grown most st st'
+  pub step_grown : (e : Result Event Malformed) (st st' : State) → on_event text events room most e st ≡ go st' → Grown most st st'
   unfolding on_scalar
-  step_grown (SequenceStart index tag n) st st' h = start_grown false index tag st st' h
-  step_grown (SequenceEnd index n) st st' h = end_grown false index st.opens st st' h
-  step_grown (MappingStart index tag n) st st' h = start_grown true index tag st st' h
-  step_grown (MappingEnd index n) st st' h = end_grown true index st.opens st st' h
-  step_grown (Scalar index column style empty_span tag value n) st st' h = scalar_grown _ tag st st' (past_room room st _ st' (past_root st _ st' h).1).1
-  step_grown (Alias index n) st st' h = alias_grown index st st' h
-  step_grown Malformed st st' h = absurd (stop_not_go 3 st' h)
+  step_grown (Ok (SequenceStart index tag n)) st st' h = start_grown false index tag st st' h
+  step_grown (Ok (SequenceEnd index n)) st st' h = end_grown false index st.opens st st' h
+  step_grown (Ok (MappingStart index tag n)) st st' h = start_grown true index tag st st' h
+  step_grown (Ok (MappingEnd index n)) st st' h = end_grown true index st.opens st st' h
+  step_grown (Ok (Scalar index column style empty_span tag value n)) st st' h = scalar_grown _ tag st st' (past_room room st _ st' (past_root st _ st' h).1).1
+  step_grown (Ok (Alias index n)) st st' h = alias_grown index st st' h
+  step_grown (Err e) st st' h = absurd (stop_not_go 3 st' h)
 
   -- ---- the run
 
   pub reached_grown : (i : ℕ) (es : List YamlEvent) (st st' : State) → reached text events room most i es st ≡ go st' → Grown most st st'
   unfolding reached
   reached_grown i [] st st' e = subst (λ (s : State). Grown most st s) (go_is st st' e) (grown_same most st st refl refl)
-  reached_grown i (x ∷ es) st st' e = by (on_event text events room most (placed i x) st) refl e (λ s h. reached_grown (i + length (encode_event x)) es s st' h)
+  reached_grown i (x ∷ es) st st' e = by (on_event text events room most (Ok (placed i x)) st) refl e (λ s h. reached_grown (i + length (encode_event x)) es s st' h)
     where
-      by : (n : Next) → on_event text events room most (placed i x) st ≡ n → go_on n (λ (s : State). reached text events room most (i + length (encode_event x)) es s) ≡ go st'
+      by : (n : Next) → on_event text events room most (Ok (placed i x)) st ≡ n → go_on n (λ (s : State). reached text events room most (i + length (encode_event x)) es s) ≡ go st'
           → ((s : State) → reached text events room most (i + length (encode_event x)) es s ≡ go st' → Grown most s st') → Grown most st st'
       by (stop m) is f rest = absurd (stop_not_go m st' f)
-      by (go s) is f rest = grown_on most st s st' (step_grown (placed i x) st s is) (rest s f)
+      by (go s) is f rest = grown_on most st s st' (step_grown (Ok (placed i x)) st s is) (rest s f)
 
   -- a document that is built, as a state
   abbrev pub final : List Node → List Piece → State
@@ -195,9 +198,9 @@ module _ (text events : List ℕ) (room most : ℕ) (small : most < absent) wher
   pub run_grown : (i k : ℕ) (es : List YamlEvent) (st : State) (xs : List Node) (ps : List Piece) → run_events text events room most ending i k es st ≡ built xs ps → Grown most st (final xs ps)
   unfolding run_events
   run_grown i k [] st xs ps e = ending_grown k st xs ps e
-  run_grown i k (x ∷ es) st xs ps e = by (on_event text events room most (placed i x) st) refl e (λ s h. run_grown (i + length (encode_event x)) (k + 1) es s xs ps h)
+  run_grown i k (x ∷ es) st xs ps e = by (on_event text events room most (Ok (placed i x)) st) refl e (λ s h. run_grown (i + length (encode_event x)) (k + 1) es s xs ps h)
     where
-      by : (n : Next) → on_event text events room most (placed i x) st ≡ n → follow n (λ (s : State). run_events text events room most ending (i + length (encode_event x)) (k + 1) es s) k ≡ built xs ps
+      by : (n : Next) → on_event text events room most (Ok (placed i x)) st ≡ n → follow n (λ (s : State). run_events text events room most ending (i + length (encode_event x)) (k + 1) es s) k ≡ built xs ps
           → ((s : State) → run_events text events room most ending (i + length (encode_event x)) (k + 1) es s ≡ built xs ps → Grown most s (final xs ps)) → Grown most st (final xs ps)
       by (stop m) is f rest = absurd (refused_not_built m k xs ps f)
-      by (go s) is f rest = grown_on most st s (final xs ps) (step_grown (placed i x) st s is) (rest s f)
+      by (go s) is f rest = grown_on most st s (final xs ps) (step_grown (Ok (placed i x)) st s is) (rest s f)

@@ -1,11 +1,11 @@
 -- The head of the loop over events: the run from the state held, at this place and number, is the whole run.
 use mathlib.Core.Path.{◌≡◌, refl, sym, ap, ◌∙◌}
-use mathlib.Core.Bool.{true, false, ◌&&◌}
+use mathlib.Core.Bool.{true, false}
 use mathlib.Core.Logic.{◌⊎◌, inl, inr}
-use mathlib.Core.List.{List}
+use mathlib.Core.List.{List, []}
 use Prim.Native.Nat.{ℕ, ◌+◌, ◌-◌, ◌/◌, ◌≤◌, ◌<◌, zero-le}
 use native.Mathlib.Omega.{arith}
-use lib.Dec.{eqb, ltb}
+use Rattle.std.specs.Prelude.{Result, Ok, Err}
 use lib.ListN.{length, replicate}
 use Rattle.text.proofs.OffsetLaws.{stands_start}
 use Rattle.utf8.specs.Ascii.{Bytes}
@@ -15,19 +15,19 @@ use Rattle.event.specs.Meaning.{Answers, placed}
 use Rattle.event.specs.Read.{events_limit, read_event}
 use Rattle.event.proofs.ReadLaws.{malformed_or_answers, answer_within}
 use Rattle.event.specs.declared.read.Event.{Event}
-use Rattle.event.specs.declared.read.Event.TheVariants.{Malformed}
+use Rattle.event.specs.Read as read
 use Rattle.parser.specs.Machine.{State, empty, Next, go, stop, refused, on_event, next_place, ending, run, run_all}
 use Rattle.parser.proofs.RunLaws.{run_ended, run_on, run_stopped, onward, stop_not_go}
-use Rattle.parser.specs.Held.{stack_size, ValueShort, Read, Held, Ready, Moved, Follows, Filled}
-use Rattle.parser.specs.declared.answer.Answer.TheVariants.{Built, Refused}
-use Rattle.parser.specs.declared.answer.Move.{Move}
-use Rattle.parser.specs.declared.answer.Move.TheVariants.{Go, Stop}
-use Rattle.parser.specs.declared.answer.Counts.{Counts}
+use Rattle.parser.specs.Held.{is_root_done, ValueShort, Read, Held, Ready, Moved, Follows, Filled}
+use Rattle.parser.specs.declared.answer.Refusal.{Refusal}
+use Rattle.parser.specs.declared.answer.Refusal.TheVariants as row
+use Rattle.parser.specs.declared.on_event.Builder.{Builder}
+use Rattle.parser.specs.Call.{row_number}
 use Rattle.records.specs.Layout.{pieces_limit, record_room}
 use Rattle.provenance.specs.Layout.{piece_width}
 use Rattle.records.specs.LayoutLaws.{nodes_none}
 use Rattle.parser.proofs.Pieces.{filled_none}
-use Rattle.parser.proofs.Turns.{root_is, counts}
+use Rattle.parser.proofs.Turns.{root_is, builder}
 
 -- ---- what was read
 
@@ -44,34 +44,34 @@ placed_short i (scalar m c y f t v) s =
     omega arith
 placed_short i (alias m) s = tt
 
-value_short : (s : List ℕ) → Bytes s → (i : ℕ) → ValueShort (read_event s i)
-value_short s b i = by (malformed_or_answers s b i)
+value_short : (s : List ℕ) → Bytes s → (i : ℕ) (e : Event) → read_event s i ≡ Ok e → ValueShort e
+value_short s b i e is = by (malformed_or_answers s b i)
   where
-    by : (read_event s i ≡ Malformed) ⊎ Answers s i (read_event s i) → ValueShort (read_event s i)
-    by (inl e) = rw e tt
-    by (inr x) = rw x.answered (placed_short i x.event x.stands.sound)
+    by : (read_event s i ≡ Err read.malformed) ⊎ Answers s i (read_event s i) → ValueShort e
+    by (inl bad) = cc
+    by (inr x) = let same : e ≡ placed i x.event = let p = sym is ∙ x.answered in cc in rw same (placed_short i x.event x.stands.sound)
 
-pub read_of : (s : List ℕ) → Bytes s → length s ≤ events_limit → (i : ℕ) (e : Event) → e ≡ read_event s i → Read s e
-read_of s b h i e is = rw is (record { place = i; within = answer_within s i b; value_short = value_short s b i; short = h })
+pub read_of : (s : List ℕ) → Bytes s → length s ≤ events_limit → (i : ℕ) (e : Event) → read_event s i ≡ Ok e → Read s e
+read_of s b h i e is = record { place = i; within = rw is at (answer_within s i b); value_short = value_short s b i e is; short = h }
 
 -- ---- the head
 
-pub record Head (text events : List ℕ) (size pieces_size : ℕ) (s b p : List ℕ) (c : Counts) (i k : ℕ) : Type 0 where
+pub record Head (text events : List ℕ) (size pieces_size : ℕ) (c : Builder) (b p : List ℕ) (i k : ℕ) : Type 0 where
   pub st : State
-  pub held : Held text size pieces_size st c s b p
+  pub held : Held text size pieces_size st c b p
   pub same : run text events (record_room size) (pieces_size / piece_width) (length events - k) i k st ≡ run_all text events (record_room size) (pieces_size / piece_width)
   pub numbered : k ≤ i
   pub within : i ≤ length events
   pub few : c.nodes ≤ k
 
-pub first_head : (text events b p s : List ℕ) → b ≡ replicate (length b) 0 → p ≡ replicate (length p) 0 → length p ≤ pieces_limit → length s ≡ stack_size
-    → Head text events (length b) (length p) s b p (counts 0 0 0 (record { chars = 0; offset = 0 })) 0 0
+pub first_head : (text events b p : List ℕ) (c : Builder) → c ≡ builder 0 0 (record { chars = 0; offset = 0 }) [] → b ≡ replicate (length b) 0 → p ≡ replicate (length p) 0 → length p ≤ pieces_limit
+    → Head text events (length b) (length p) c b p 0 0
 unfolding run_all
-first_head text events b p s zb zp l n =
-    record {
+first_head text events b p c new zb zp l =
+    rw new
+    (record {
       st = empty;
       held = record {
-        stack_size_is = n;
         size_is = refl;
         pieces_size_is = refl;
         nodes_are = refl;
@@ -82,7 +82,6 @@ first_head text events b p s zb zp l n =
         records_fit = zero-le;
         pieces_fit = zero-le;
         pieces_few = l;
-        deep = zero-le;
         below = tt;
         on_boundaries = tt;
         cursor_stands = stands_start text;
@@ -91,37 +90,36 @@ first_head text events b p s zb zp l n =
       numbered = zero-le;
       within = zero-le;
       few = zero-le;
-    }
+    })
 
-moved_go : (text : List ℕ) (size pieces_size k : ℕ) (n : Next) (d : Counts) (s b p : List ℕ) → Moved text size pieces_size k n (Go d) s b p
-    → (st : State) × (n ≡ go st) × Held text size pieces_size st d s b p × (d.nodes ≤ k + 1)
-moved_go text size pieces_size k (go st) d s b p h = (st, refl, h.0, h.1)
-moved_go text size pieces_size k (stop n) d s b p h = absurd h
+moved_go : (text : List ℕ) (size pieces_size k : ℕ) (n : Next) (x : ℕ) (d : Builder) (b p : List ℕ) → Moved text size pieces_size k n (Ok x) d b p
+    → (st : State) × (n ≡ go st) × Held text size pieces_size st d b p × (d.nodes ≤ k + 1)
+moved_go text size pieces_size k (go st) x d b p h = (st, refl, h.0, h.1)
+moved_go text size pieces_size k (stop n) x d b p h = absurd h
 
-moved_stop : (text : List ℕ) (size pieces_size k : ℕ) (n : Next) (m : ℕ) (s b p : List ℕ) → Moved text size pieces_size k n (Stop m) s b p → n ≡ stop m
-moved_stop text size pieces_size k (go st) m s b p h = absurd h
-moved_stop text size pieces_size k (stop n) m s b p h = ap stop h
+moved_stop : (text : List ℕ) (size pieces_size k : ℕ) (n : Next) (e : Refusal) (d : Builder) (b p : List ℕ) → Moved {A = ℕ} text size pieces_size k n (Err e) d b p → n ≡ stop (row_number e)
+moved_stop text size pieces_size k (go st) e d b p h = absurd h
+moved_stop text size pieces_size k (stop n) e d b p h = ap stop h
 
-module _ (text events : List ℕ) (size pieces_size : ℕ) (s b p : List ℕ) (c : Counts) (i k : ℕ) (h : Head text events size pieces_size s b p c i k) where
-  pub ready : length events ≤ events_limit → i < length events → Ready text c s b p
+module _ (text events : List ℕ) (size pieces_size : ℕ) (c : Builder) (b p : List ℕ) (i k : ℕ) (h : Head text events size pieces_size c b p i k) where
+  pub ready : length events ≤ events_limit → i < length events → Ready text c b p
   ready l m = let f = h.few in let n = h.numbered in record { size = size; pieces_size = pieces_size; st = h.st; held = h.held; few = omega arith }
 
-  module _ (bytes : Bytes events) (more : i < length events) (e : Event) (is : e ≡ read_event events i) (m : Move) (s' b' p' : List ℕ)
-      (follows : Follows text c s b p (λ (room piece_room : ℕ) (st : State). on_event text events room piece_room e st) m s' b' p') where
-    stepped : Moved text size pieces_size c.nodes (on_event text events (record_room size) (pieces_size / piece_width) (read_event events i) h.st) m s' b' p'
-    stepped = rw is at (follows size pieces_size h.st h.held)
+  module _ (bytes : Bytes events) (more : i < length events) (r : Result ℕ Refusal) (c' : Builder) (b' p' : List ℕ)
+      (follows : Follows text c b p (λ (room piece_room : ℕ) (st : State). on_event text events room piece_room (read_event events i) st) r c' b' p') where
+    stepped : Moved text size pieces_size c.nodes (on_event text events (record_room size) (pieces_size / piece_width) (read_event events i) h.st) r c' b' p'
+    stepped = follows size pieces_size h.st h.held
 
-    pub record NextHead (d : Counts) (j : ℕ) : Type 0 where
-      pub head : Head text events size pieces_size s' b' p' d j (k + 1)
+    pub record NextHead (j : ℕ) : Type 0 where
+      pub head : Head text events size pieces_size c' b' p' j (k + 1)
       pub onward : i < j
 
-    pub next_head : (d : Counts) (j : ℕ) → m ≡ Go d → j ≡ next_place e → NextHead d j
-    next_head d j em ej =
-        let g = moved_go text size pieces_size c.nodes _ d s' b' p' (rw em at stepped) in
+    pub next_head : (x j : ℕ) → r ≡ Ok x → j ≡ next_place (read_event events i) → NextHead j
+    next_head x j er place =
+        let g = moved_go text size pieces_size c.nodes _ x c' b' p' (rw er at stepped) in
         let sound = onward events i (read_event events i) (answer_within events i bytes) (λ bad. stop_not_go 3 g.0 (sym (ap (λ x. on_event text events (record_room size) (pieces_size / piece_width) x h.st) bad) ∙ g.1)) in
         let on : i < next_place (read_event events i) = sound.0 in
         let inside : next_place (read_event events i) ≤ length events = sound.1 in
-        let place : j ≡ next_place (read_event events i) = ej ∙ ap next_place is in
         let numbered = h.numbered in
         let few = h.few in
         let more-nodes = g.3 in
@@ -142,22 +140,22 @@ module _ (text events : List ℕ) (size pieces_size : ℕ) (s b p : List ℕ) (c
           onward = on;
         })
 
-    pub refused_here : (n : ℕ) → m ≡ Stop n → Filled size pieces_size (run_all text events (record_room size) (pieces_size / piece_width)) (Refused n k) b' p'
-    refused_here n em =
-        let g = moved_stop text size pieces_size c.nodes _ n s' b' p' (rw em at stepped) in
+    pub refused_here : (e : Refusal) → r ≡ Err e → Filled size pieces_size (run_all text events (record_room size) (pieces_size / piece_width)) (Err (record { refusal = e; place = k })) b' p'
+    refused_here e er =
+        let g = moved_stop text size pieces_size c.nodes _ e c' b' p' (rw er at stepped) in
         let numbered = h.numbered in
-        let all : run_all text events (record_room size) (pieces_size / piece_width) ≡ refused n k =
-        sym h.same ∙ run_stopped text events (record_room size) (pieces_size / piece_width) (length events - k) i k n h.st (omega arith) more g in
+        let all : run_all text events (record_room size) (pieces_size / piece_width) ≡ refused (row_number e) k =
+        sym h.same ∙ run_stopped text events (record_room size) (pieces_size / piece_width) (length events - k) i k (row_number e) h.st (omega arith) more g in
         rw all refl
 
   module _ (over : length events ≤ i) where
     ended : run_all text events (record_room size) (pieces_size / piece_width) ≡ ending k h.st
     ended = sym h.same ∙ run_ended text events (record_room size) (pieces_size / piece_width) (length events - k) i k h.st over
 
-    pub built_now : (eqb c.depth 0 && ltb 0 c.nodes) ≡ true → Filled size pieces_size (run_all text events (record_room size) (pieces_size / piece_width)) (Built c.nodes c.used) b p
+    pub built_now : is_root_done c ≡ true → Filled size pieces_size (run_all text events (record_room size) (pieces_size / piece_width)) (Ok (record { nodes = c.nodes; pieces = c.used })) b p
     unfolding ending
-    built_now e = rw (ended, root_is text size pieces_size h.st c s b p h.held, e) (rw (h.held.nodes_are, h.held.pieces_are) refl, h.held.records_hold, h.held.pieces_hold)
+    built_now e = rw (ended, root_is h.held, e) (rw (h.held.nodes_are, h.held.pieces_are) refl, h.held.records_hold, h.held.pieces_hold)
 
-    pub not_built : (eqb c.depth 0 && ltb 0 c.nodes) ≡ false → Filled size pieces_size (run_all text events (record_room size) (pieces_size / piece_width)) (Refused 9 k) b p
+    pub not_built : is_root_done c ≡ false → Filled size pieces_size (run_all text events (record_room size) (pieces_size / piece_width)) (Err (record { refusal = row.Unfinished; place = k })) b p
     unfolding ending
-    not_built e = rw (ended, root_is text size pieces_size h.st c s b p h.held, e) refl
+    not_built e = rw (ended, root_is h.held, e) refl

@@ -1,9 +1,11 @@
 -- Lemmas that serve several functions, by subject.
 -- pieces laid out, a part lent and back
 mod Pieces
--- the frames of the stack
-mod Frames
--- cursors, suffixes, parts of the event bytes
+-- what holds of every open collection
+mod Opens
+-- what a gate answers
+mod Gates
+-- cursors
 mod Starts
 -- the rows, and what holds after each event
 mod Turns

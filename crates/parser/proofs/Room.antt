@@ -1,12 +1,13 @@
 -- Room for records (R7): every event takes at least seven bytes and completes at most one node. So with room for a record to each seven
 -- event bytes row 7 refuses nothing. Of the events it is asked that they are bytes.
-use Rattle.std.specs.Prelude.{◌≡◌, refl, Bool, cond, ◌⊎◌, ltb, leb}
+use Rattle.std.specs.Prelude.{◌≡◌, refl, Bool, cond, ◌⊎◌, ltb, leb, Result, Ok, Err, Option}
 use Rattle.std.proofs.Common.{ap, ◌∙◌, inl, inr}
 use Prim.{Unit}
 use Prim.Native.Nat.{ℕ, zero, suc, ◌+◌, ◌*◌, ◌/◌, ◌≤◌, ◌<◌}
 use Rattle.std.proofs.Math.Bool.{true, false}
 use mathlib.Core.List.{List, [], ◌∷◌}
-use Rattle.std.proofs.Math.Option.{Option, none, some}
+use Rattle.std.proofs.Math.Option as maybe
+use Rattle.std.proofs.Math.Option.{none, some}
 use native.Mathlib.Omega.{arith}
 use Rattle.std.proofs.lemmas.Bool.{lt-leb}
 use Rattle.std.proofs.Math.ListN.{length}
@@ -20,10 +21,12 @@ use Rattle.event.specs.Meaning.{placed, Answers}
 use Rattle.event.proofs.ReadLaws.{malformed_or_answers}
 use Rattle.event.specs.declared.tag.YamlTag.{YamlTag}
 use Rattle.event.specs.declared.read.Event.{Event}
-use Rattle.event.specs.declared.read.Event.TheVariants.{SequenceStart, SequenceEnd, MappingStart, MappingEnd, Scalar, Alias, Malformed}
+use Rattle.event.specs.declared.malformed.Malformed.{Malformed}
+use Rattle.event.specs.Read as read
+use Rattle.event.specs.declared.read.Event.TheVariants.{SequenceStart, SequenceEnd, MappingStart, MappingEnd, Scalar, Alias}
 use Rattle.text.specs.Admission.{admission}
-use Rattle.text.specs.declared.admission.Admission.{Admission}
-use Rattle.text.specs.declared.admission.Admission.TheVariants.{Admitted, TooLong, NotUtf8}
+use Rattle.text.specs.declared.admission.TextError.{TextError}
+use Rattle.text.specs.declared.admission.TextError.TheVariants.{TooLong, NotUtf8}
 use Rattle.spans.specs.Collection.{closes}
 use Rattle.parser.specs.Machine.{State, empty, Next, go, stop, Outcome, built, refused, depth_limit, root_done, before_root, within_depth, within_room}
 use Rattle.parser.specs.Machine.{on_start, ended, on_end, on_alias, keeping, scalar_kept, on_scalar, on_event, next_place, ending, follow, run, run_all}
@@ -61,7 +64,7 @@ module _ (room : ℕ) (st : State) (free : length st.nodes < room) where
   unfolding within_room
   within_room_lem n h = rw (lt-leb room (length st.nodes) free) h
 
-  start_passes : (text : List ℕ) (mapping : Bool) (index : ℕ) (tag : YamlTag) → Passes (on_start text mapping index tag st)
+  start_passes : (text : List ℕ) (mapping : Bool) (index : ℕ) (tag : Option YamlTag) → Passes (on_start text mapping index tag st)
   unfolding on_start within_depth
   start_passes text mapping index tag = before_root_lem st _ (pick_passes (leb depth_limit (length st.opens)) (stop 6) _ (λ e. omega arith) tt)
 
@@ -70,24 +73,24 @@ module _ (room : ℕ) (st : State) (free : length st.nodes < room) where
   end_passes text mapping index [] = λ e. omega arith
   end_passes text mapping index (o ∷ os) = pick_passes (closes mapping o) (ended text room index o os st) (stop 4) (within_room_lem _ tt) (λ e. omega arith)
 
-  keep_passes : (r : ℕ) (x : Node) (l : Option (List Piece)) → Passes (keeping r x l st)
+  keep_passes : (r : ℕ) (x : Node) (l : maybe.Option (List Piece)) → Passes (keeping r x l st)
   unfolding keeping
   keep_passes r x none = tt
   keep_passes r x (some ps) = pick_passes (ltb r (length st.pieces + length ps)) (stop 8) _ (λ e. omega arith) tt
 
-  step_passes : (text events : List ℕ) (r : ℕ) (e : Event) → Passes (on_event text events room r e st)
+  step_passes : (text events : List ℕ) (r : ℕ) (e : Result Event Malformed) → Passes (on_event text events room r e st)
   unfolding on_scalar scalar_kept on_alias
-  step_passes text events r (SequenceStart index tag n) = start_passes text false index tag
-  step_passes text events r (SequenceEnd index n) = end_passes text false index st.opens
-  step_passes text events r (MappingStart index tag n) = start_passes text true index tag
-  step_passes text events r (MappingEnd index n) = end_passes text true index st.opens
-  step_passes text events r (Scalar index column style empty_span tag value n) = before_root_lem st _ (within_room_lem _ (keep_passes r _ _))
-  step_passes text events r (Alias index n) = before_root_lem st _ (within_room_lem _ tt)
-  step_passes text events r Malformed = λ e. omega arith
+  step_passes text events r (Ok (SequenceStart index tag n)) = start_passes text false index tag
+  step_passes text events r (Ok (SequenceEnd index n)) = end_passes text false index st.opens
+  step_passes text events r (Ok (MappingStart index tag n)) = start_passes text true index tag
+  step_passes text events r (Ok (MappingEnd index n)) = end_passes text true index st.opens
+  step_passes text events r (Ok (Scalar index column style empty_span tag value n)) = before_root_lem st _ (within_room_lem _ (keep_passes r _ _))
+  step_passes text events r (Ok (Alias index n)) = before_root_lem st _ (within_room_lem _ tt)
+  step_passes text events r (Err e) = λ e. omega arith
 
 -- ---- an event's bytes
 
-pub next_placed : (i : ℕ) (e : YamlEvent) → next_place (placed i e) ≡ i + length (encode_event e)
+pub next_placed : (i : ℕ) (e : YamlEvent) → next_place (Ok (placed i e)) ≡ i + length (encode_event e)
 unfolding placed
 next_placed i (sequence_start m t) = refl
 next_placed i (sequence_end m) = refl
@@ -97,7 +100,7 @@ next_placed i (scalar m c y f t v) = refl
 next_placed i (alias m) = refl
 
 -- an event that is read at i takes at least seven bytes, all within s
-pub answer_takes : (s : List ℕ) (i : ℕ) (r : Event) → Answers s i r → (i + event_least ≤ next_place r) × (next_place r ≤ length s)
+pub answer_takes : (s : List ℕ) (i : ℕ) (r : Result Event Malformed) → Answers s i r → (i + event_least ≤ next_place r) × (next_place r ≤ length s)
 answer_takes s i r a =
     let e = a.event in
     let least = event_takes e in
@@ -130,7 +133,7 @@ module _ (text events : List ℕ) (bytes : Bytes events) (room r : ℕ) (enough 
   run_fits zero k i st h l = ended_fits k st
   run_fits (suc f) k i st h l = by (ltb i (length events)) (malformed_or_answers events bytes i) (run_fits f (k + 1))
     where
-      by : (t : Bool) → (read_event events i ≡ Malformed) ⊎ Answers events i (read_event events i) → Rest f (k + 1)
+      by : (t : Bool) → (read_event events i ≡ Err read.malformed) ⊎ Answers events i (read_event events i) → Rest f (k + 1)
           → Fits (cond t (follow (on_event text events room r (read_event events i) st) (λ (u : State). run text events room r f (next_place (read_event events i)) (k + 1) u) k) (ending k st))
       by false a rest = ended_fits k st
       by true (inl bad) rest = rw bad (λ e. omega arith)
@@ -140,10 +143,10 @@ module _ (text events : List ℕ) (bytes : Bytes events) (room r : ℕ) (enough 
           let free : length st.nodes < room = omega arith in
           followed f (next_place e) k (on_event text events room r e st) (step_passes room st free text events r e) (stepped text events room r k e st h) (omega arith) rest
 
-admitted_fits : (a : Admission) (o : Outcome) → Fits o → Fits (admitted a o)
-admitted_fits (Admitted ascii) o h = h
-admitted_fits TooLong o h = λ e. omega arith
-admitted_fits NotUtf8 o h = λ e. omega arith
+admitted_fits : (a : Result Bool TextError) (o : Outcome) → Fits o → Fits (admitted a o)
+admitted_fits (Ok ascii) o h = h
+admitted_fits (Err TooLong) o h = λ e. omega arith
+admitted_fits (Err NotUtf8) o h = λ e. omega arith
 
 -- ---- the call
 

@@ -1,6 +1,6 @@
 -- The equations of the run, by what its step says, and that the number it counts down does not matter where it is enough. Nothing else
 -- looks at that number. From `leads_on` on it is assumed that the events are bytes.
-use Rattle.std.specs.Prelude.{◌≡◌, List, length}
+use Rattle.std.specs.Prelude.{◌≡◌, List, length, Result, Ok, Err}
 use Rattle.std.proofs.Math.Path.{refl}
 use Rattle.std.proofs.Common.{sym, ap, ◌∙◌, lt-ltb, le-ltb}
 use Prim.Native.Nat.{ℕ, zero, suc, ◌+◌, ◌-◌, ◌≤◌, ◌<◌}
@@ -11,7 +11,9 @@ use Rattle.event.specs.Read.{read_event}
 use Rattle.event.specs.Proved.{EventWithin}
 use Rattle.event.proofs.ReadLaws.{answer_within}
 use Rattle.event.specs.declared.read.Event.{Event}
-use Rattle.event.specs.declared.read.Event.TheVariants.{SequenceStart, SequenceEnd, MappingStart, MappingEnd, Scalar, Alias, Malformed}
+use Rattle.event.specs.declared.malformed.Malformed.{Malformed}
+use Rattle.event.specs.Read as read
+use Rattle.event.specs.declared.read.Event.TheVariants.{SequenceStart, SequenceEnd, MappingStart, MappingEnd, Scalar, Alias}
 use Rattle.parser.specs.Machine.{State, Next, go, stop, refused, on_event, next_place, ending, run}
 
 module _ (text events : List ℕ) (room piece_room : ℕ) where
@@ -37,14 +39,14 @@ module _ (text events : List ℕ) (room piece_room : ℕ) where
 
 -- ---- every number that is enough gives the same run
 
-pub onward : (s : List ℕ) (i : ℕ) (e : Event) → EventWithin s i e → (e ≡ Malformed → ⊥) → (i < next_place e) × (next_place e ≤ length s)
-onward s i (SequenceStart m t n) w x = (w.0.onward, w.0.inside)
-onward s i (SequenceEnd m n) w x = (w.onward, w.inside)
-onward s i (MappingStart m t n) w x = (w.0.onward, w.0.inside)
-onward s i (MappingEnd m n) w x = (w.onward, w.inside)
-onward s i (Scalar m c y f t v n) w x = (w.passed.onward, w.passed.inside)
-onward s i (Alias m n) w x = (w.onward, w.inside)
-onward s i Malformed w x = absurd (x refl)
+pub onward : (s : List ℕ) (i : ℕ) (r : Result Event Malformed) → EventWithin s i r → (r ≡ Err read.malformed → ⊥) → (i < next_place r) × (next_place r ≤ length s)
+onward s i (Ok (SequenceStart m t n)) w x = (w.0.onward, w.0.inside)
+onward s i (Ok (SequenceEnd m n)) w x = (w.onward, w.inside)
+onward s i (Ok (MappingStart m t n)) w x = (w.0.onward, w.0.inside)
+onward s i (Ok (MappingEnd m n)) w x = (w.onward, w.inside)
+onward s i (Ok (Scalar m c y f t v n)) w x = (w.passed.onward, w.passed.inside)
+onward s i (Ok (Alias m n)) w x = (w.onward, w.inside)
+onward s i (Err e) w x = absurd (x refl)
 
 pub stop_not_go : (n : ℕ) (st : State) → stop n ≡ go st → ⊥
 stop_not_go n st e = let z : ◌≡◌ {A = ℕ} 0 1 = cc in omega arith
@@ -54,7 +56,7 @@ module _ (text events : List ℕ) (bytes : Bytes events) (room piece_room : ℕ)
   pub leads_on : (i : ℕ) (st n : State) → on_event text events room piece_room (read_event events i) st ≡ go n → i < next_place (read_event events i)
   leads_on i st n e =
       (onward events i (read_event events i) (answer_within events i bytes)
-      (λ bad. stop_not_go 3 n (sym (ap (λ (x : Event). on_event text events room piece_room x st) bad) ∙ e))).0
+      (λ bad. stop_not_go 3 n (sym (ap (λ (x : Result Event Malformed). on_event text events room piece_room x st) bad) ∙ e))).0
 
   -- from event number k on, wherever it stands, two numbers that are enough give the same
   abbrev pub Same : ℕ → ℕ → ℕ → Type 0

@@ -1,18 +1,18 @@
 -- What the code does to its stack and buffers is what the machine does to its state, on plain values.
 use mathlib.Core.Path.{◌≡◌, refl, sym, ap, ap₂, ◌∙◌}
-use mathlib.Core.Bool.{Bool, true, false, ◌&&◌}
+use mathlib.Core.Bool.{Bool, true, false}
 use mathlib.Core.List.{List, [], ◌∷◌, ◌++◌}
-use mathlib.Core.Option.{Option, none, some}
+use mathlib.Core.Option as maybe
+use mathlib.Core.Option.{none, some}
 use Prim.Native.Nat.{ℕ, ◌+◌, ◌-◌, ◌*◌, ◌/◌, ◌≤◌, ◌<◌}
 use native.Mathlib.Omega.{arith}
-use borrow.Author.Tests.{lt-ltb, le-ltb, le-leb, lt-leb}
-use lib.Dec.{eqb, ltb}
+use borrow.Author.Tests.{lt-ltb, le-ltb, le-leb, lt-leb, leb-false}
+use lib.Dec.{leb}
 use lib.ListN.{length, take, drop, replicate, length-append}
-use lib.Seq.{sets, length-sets}
 use Rattle.utf8.specs.Utf8.{Utf8}
 use Rattle.utf8.specs.Boundary.{Boundary}
 use Rattle.utf8.proofs.Utf8Laws.{boundary_start}
-use Rattle.text.specs.Offset.{byte_offset, cursor_at}
+use Rattle.text.specs.Offset.{byte_offset, cursor_at, Stands}
 use Rattle.text.proofs.OffsetLaws.{cursor_stands, offset_boundary}
 use Rattle.text.specs.declared.offset.Cursor.{Cursor}
 use Rattle.provenance.specs.Reading.{Piece}
@@ -20,71 +20,69 @@ use Rattle.provenance.specs.Layout.{room, laid_pieces, answer_of, buffer_of}
 use Rattle.provenance.specs.declared.walk.Walked.{Walked}
 use Rattle.provenance.specs.declared.walk.Walked.TheVariants.{Listed, NoRoom, NoList}
 use Rattle.event.specs.declared.tag.YamlTag.{YamlTag}
-use Rattle.records.specs.Record.{with_list}
+use Rattle.records.specs.Record.{record_width, with_list}
 use Rattle.spans.specs.Scalar.{suffix_of}
 use Rattle.spans.specs.Collection.{with_child, closes, collection_node}
 use Rattle.parser.specs.Machine.{State, Next, go, stop, depth_limit, root_done, before_root, within_depth, within_room, completed, on_start, ended, on_end, keeping}
 use Rattle.records.specs.Layout.{stored, record_room, piece_limit}
 use Rattle.event.specs.Read.{events_limit}
-use Rattle.parser.specs.Held.{frame, frame_numbers, open_of, SuffixPlaced, Below, OnBoundaries, Held, Pushable, Moved, Counted}
+use Rattle.parser.specs.Opens.{Below, OnBoundaries}
+use Rattle.parser.specs.Held.{is_root_done, Held, Pushable, Moved, Counted}
 use Rattle.records.specs.declared.record.Node.{Node}
 use Rattle.spans.specs.declared.open.Open.{Open}
-use Rattle.parser.specs.declared.answer.Counts.{Counts}
-use Rattle.parser.specs.declared.answer.Move.TheVariants.{Go}
+use Rattle.parser.specs.declared.on_event.Builder.{Builder}
+use Rattle.std.specs.Prelude.{Option, Ok}
 use Rattle.records.specs.LayoutLaws.{nodes_more}
 use Rattle.parser.proofs.Pieces.{Walks, walks_of, filled_fits, lent_length, lent_zero, back_with, back_zero, back_length}
-use Rattle.parser.proofs.Frames.{open_length, open_pop, open_push, below_more, boundaries_more}
+use Rattle.parser.proofs.Opens.{below_more, boundaries_more}
+use Rattle.parser.proofs.Starts.{cursor_offset}
 
-abbrev pub counts : ℕ → ℕ → ℕ → Cursor → Counts
-counts nodes depth used cursor = record { nodes = nodes; depth = depth; used = used; cursor = cursor }
+abbrev pub builder : ℕ → ℕ → Cursor → List Open → Builder
+builder nodes used cursor stack = record { nodes = nodes; used = used; cursor = cursor; stack = stack }
 
 -- one node more
-pub moved_on : (text : List ℕ) (size pieces_size : ℕ) (st : State) (c r : Counts) (x : Node) (s b p : List ℕ) → length st.nodes ≡ c.nodes
-    → Held text size pieces_size (completed x st) r s b p → Held text size pieces_size (completed x st) r s b p × (r.nodes ≤ c.nodes + 1)
+pub moved_on : (text : List ℕ) (size pieces_size : ℕ) (st : State) (c b' : Builder) (x : Node) (b p : List ℕ) → length st.nodes ≡ c.nodes
+    → Held text size pieces_size (completed x st) b' b p → Held text size pieces_size (completed x st) b' b p × (b'.nodes ≤ c.nodes + 1)
 unfolding completed
-moved_on text size pieces_size st c r x s b p e h =
-    (h, let n : length st.nodes + 1 ≡ r.nodes = sym (length-append st.nodes (x ∷ [])) ∙ h.nodes_are in omega arith)
+moved_on text size pieces_size st c b' x b p e h =
+    (h, let n : length st.nodes + 1 ≡ b'.nodes = sym (length-append st.nodes (x ∷ [])) ∙ h.nodes_are in omega arith)
 
-module _ (text : List ℕ) (size pieces_size : ℕ) (st : State) (c : Counts) (s b p : List ℕ) (h : Held text size pieces_size st c s b p) where
-  depth_is : length st.opens ≡ c.depth
-  depth_is = ap length h.opens_are ∙ open_length c.depth s
-
+module _ {text : List ℕ} {size pieces_size : ℕ} {st : State} {c : Builder} {b p : List ℕ} (h : Held text size pieces_size st c b p) where
   -- ---- rows
 
-  pub root_is : root_done st ≡ (eqb c.depth 0 && ltb 0 c.nodes)
+  pub root_is : root_done st ≡ is_root_done c
   unfolding root_done
-  root_is = rw (depth_is, h.nodes_are)
+  root_is = rw (h.opens_are, h.nodes_are)
 
-  pub after_root : (n : Next) → (eqb c.depth 0 && ltb 0 c.nodes) ≡ true → before_root st n ≡ stop 5
+  pub after_root : (n : Next) → is_root_done c ≡ true → before_root st n ≡ stop 5
   unfolding before_root
   after_root n e = rw (root_is, e)
 
-  pub before_root_lem : (n : Next) → (eqb c.depth 0 && ltb 0 c.nodes) ≡ false → before_root st n ≡ n
+  pub before_root_lem : (n : Next) → is_root_done c ≡ false → before_root st n ≡ n
   unfolding before_root
   before_root_lem n e = rw (root_is, e)
 
-  pub too_deep : (n : Next) → depth_limit ≤ c.depth → within_depth st n ≡ stop 6
+  pub too_deep : (n : Next) → depth_limit ≤ length c.stack → within_depth st n ≡ stop 6
   unfolding within_depth
-  too_deep n l = rw (depth_is, le-leb depth_limit c.depth l)
+  too_deep n l = rw (h.opens_are, le-leb depth_limit (length c.stack) l)
 
-  pub not_deep : (n : Next) → c.depth < depth_limit → within_depth st n ≡ n
+  pub not_deep : (n : Next) → length c.stack < depth_limit → within_depth st n ≡ n
   unfolding within_depth
-  not_deep n l = rw (depth_is, lt-leb depth_limit c.depth l)
+  not_deep n l = rw (h.opens_are, lt-leb depth_limit (length c.stack) l)
 
-  pub no_room : (n : Next) → record_room size ≤ c.nodes → within_room (record_room size) st n ≡ stop 7
+  pub no_room : (n : Next) → leb (length b / record_width) c.nodes ≡ true → within_room (record_room size) st n ≡ stop 7
   unfolding within_room
-  no_room n l = rw (h.nodes_are, le-leb (record_room size) c.nodes l)
+  no_room n e = rw (h.nodes_are, ← h.size_is, e)
 
-  pub in_room : (n : Next) → c.nodes < record_room size → within_room (record_room size) st n ≡ n
+  pub in_room : (n : Next) → leb (length b / record_width) c.nodes ≡ false → within_room (record_room size) st n ≡ n
   unfolding within_room
-  in_room n l = rw (h.nodes_are, lt-leb (record_room size) c.nodes l)
+  in_room n e = rw (h.nodes_are, ← h.size_is, e)
 
   -- ---- the cursor moves
 
-  pub moved_cursor : (k : ℕ) (cur : Cursor) → cur ≡ cursor_at text k → Held text size pieces_size st (counts c.nodes c.depth c.used cur) s b p
-  moved_cursor k cur e =
+  pub moved_cursor : (cur : Cursor) → Stands text cur.chars cur.offset → Held text size pieces_size st (builder c.nodes c.used cur c.stack) b p
+  moved_cursor cur on =
       record {
-        stack_size_is = h.stack_size_is;
         size_is = h.size_is;
         pieces_size_is = h.pieces_size_is;
         nodes_are = h.nodes_are;
@@ -95,70 +93,62 @@ module _ (text : List ℕ) (size pieces_size : ℕ) (st : State) (c : Counts) (s
         records_fit = h.records_fit;
         pieces_fit = h.pieces_fit;
         pieces_few = h.pieces_few;
-        deep = h.deep;
         below = h.below;
         on_boundaries = h.on_boundaries;
-        cursor_stands = rw e (cursor_stands text k);
+        cursor_stands = on;
       }
 
   -- ---- a node is complete
 
-  pub pushed : (x : Node) (s' b' : List ℕ) → c.nodes < record_room size → Boundary text x.extent.start → length s' ≡ length s
-      → open_of c.depth s' ≡ with_child x.extent.start (open_of c.depth s) → length b' ≡ length b → b' ≡ stored b c.nodes x
-      → Held text size pieces_size (completed x st) (counts (c.nodes + 1) c.depth c.used c.cursor) s' b' p
+  pub pushed : (x : Node) (b' : List ℕ) → c.nodes < record_room size → Boundary text x.extent.start → length b' ≡ length b → b' ≡ stored b c.nodes x
+      → Held text size pieces_size (completed x st) (builder (c.nodes + 1) c.used c.cursor (with_child x.extent.start c.stack)) b' p
   unfolding completed
-  pushed x s' b' l on len es lb eb =
+  pushed x b' l on lb eb =
       record {
-        stack_size_is = len ∙ h.stack_size_is;
         size_is = lb ∙ h.size_is;
         pieces_size_is = h.pieces_size_is;
         nodes_are = length-append st.nodes (x ∷ []) ∙ ap (λ (n : ℕ). n + 1) h.nodes_are;
-        opens_are = ap (with_child x.extent.start) h.opens_are ∙ sym es;
+        opens_are = ap (with_child x.extent.start) h.opens_are;
         pieces_are = h.pieces_are;
         records_hold = eb ∙ ap (λ (r : List ℕ). stored r c.nodes x) h.records_hold ∙ nodes_more size st.nodes c.nodes x (sym h.nodes_are) (omega arith);
         pieces_hold = h.pieces_hold;
         records_fit = omega arith;
         pieces_fit = h.pieces_fit;
         pieces_few = h.pieces_few;
-        deep = h.deep;
-        below = rw es (below_more x.extent.start (open_of c.depth s) c.nodes h.below);
-        on_boundaries = rw es (boundaries_more text x.extent.start (open_of c.depth s) on h.on_boundaries);
+        below = below_more x.extent.start c.stack c.nodes h.below;
+        on_boundaries = boundaries_more text x.extent.start c.stack on h.on_boundaries;
         cursor_stands = h.cursor_stands;
       }
 
-  pub pushable : c.nodes < events_limit → c.nodes < record_room size → Pushable c s b
+  pub pushable : c.nodes < events_limit → leb (length b / record_width) c.nodes ≡ false → Pushable c b
   pushable few l =
-      record { stack_size_is = h.stack_size_is; deep = h.deep; room = rw h.size_is l; few = few; below = h.below }
+      record { room = leb-false _ _ l; few = few; below = h.below }
 
   -- ---- a collection starts
 
-  abbrev pub opening : Bool → ℕ → YamlTag → Open
+  abbrev pub opening : Bool → ℕ → Option YamlTag → Open
   opening mapping i tag = record { mapping = mapping; start = i; suffix = suffix_of tag; children = 0; first = 0; before = c.nodes }
 
-  pub opened : (mapping : Bool) (index : ℕ) (tag : YamlTag) (cur : Cursor) → Utf8 text → cur ≡ cursor_at text index → cur.offset ≡ byte_offset text index → SuffixPlaced (suffix_of tag)
-      → (eqb c.depth 0 && ltb 0 c.nodes) ≡ false → c.depth < depth_limit
-      → Moved text size pieces_size c.nodes (on_start text mapping index tag st) (Go (counts c.nodes (c.depth + 1) c.used cur)) (sets s (7 * c.depth) (frame_numbers (opening mapping cur.offset tag))) b p
+  pub opened : (mapping : Bool) (index : ℕ) (tag : Option YamlTag) (cur : Cursor) → Utf8 text → cur ≡ cursor_at text index
+      → is_root_done c ≡ false → length c.stack < depth_limit
+      → Moved text size pieces_size c.nodes (on_start text mapping index tag st) (Ok (tt {0})) (builder c.nodes c.used cur (opening mapping cur.offset tag ∷ c.stack)) b p
   unfolding on_start
-  opened mapping index tag cur u e o x r l =
-      let t : List ℕ = sets s (7 * c.depth) (frame_numbers (opening mapping cur.offset tag)) in
-      let long = h.stack_size_is in
-      let on : open_of (c.depth + 1) t ≡ opening mapping cur.offset tag ∷ open_of c.depth s = open_push c.depth s (opening mapping cur.offset tag) (omega arith) x in
+  opened mapping index tag cur u e r l =
+      let o : cur.offset ≡ byte_offset text index = cursor_offset text index cur e in
       rw (before_root_lem _ r, not_deep _ l) (
         record {
-          stack_size_is = length-sets s (7 * c.depth) (frame_numbers (opening mapping cur.offset tag)) ∙ h.stack_size_is;
           size_is = h.size_is;
           pieces_size_is = h.pieces_size_is;
           nodes_are = h.nodes_are;
-          opens_are = rw (← o, h.nodes_are, h.opens_are) (sym on);
+          opens_are = rw (← o, h.nodes_are, h.opens_are) refl;
           pieces_are = h.pieces_are;
           records_hold = h.records_hold;
           pieces_hold = h.pieces_hold;
           records_fit = h.records_fit;
           pieces_fit = h.pieces_fit;
           pieces_few = h.pieces_few;
-          deep = omega arith;
-          below = rw on (omega arith, h.below);
-          on_boundaries = rw on (rw o (offset_boundary u index), boundary_start u, h.on_boundaries);
+          below = (omega arith, h.below);
+          on_boundaries = (rw o (offset_boundary u index), boundary_start u, h.on_boundaries);
           cursor_stands = rw e (cursor_stands text index);
         },
         omega arith,
@@ -166,38 +156,31 @@ module _ (text : List ℕ) (size pieces_size : ℕ) (st : State) (c : Counts) (s
 
   -- ---- a collection ends
 
-  pub none_open : (room index : ℕ) (mapping : Bool) → c.depth ≡ 0 → on_end text room mapping index st.opens st ≡ stop 4
-  none_open room index mapping d = rw (h.opens_are, d)
+  pub none_open : (room index : ℕ) (mapping : Bool) → c.stack ≡ [] → on_end text room mapping index st.opens st ≡ stop 4
+  none_open room index mapping e = rw (h.opens_are, e)
 
-  module _ (d : 0 < c.depth) where
-    abbrev pub inner : Open
-    inner = frame s (7 * (c.depth - 1))
-
+  module _ (inner : Open) (os : List Open) (is : c.stack ≡ inner ∷ os) where
     abbrev pub outside : State
-    outside = record { nodes = st.nodes; opens = open_of (c.depth - 1) s; pieces = st.pieces }
-
-    opens_pop : st.opens ≡ inner ∷ open_of (c.depth - 1) s
-    opens_pop = h.opens_are ∙ open_pop c.depth s d
+    outside = record { nodes = st.nodes; opens = os; pieces = st.pieces }
 
     pub mismatched : (room index : ℕ) (mapping : Bool) → closes mapping inner ≡ false → on_end text room mapping index st.opens st ≡ stop 4
-    mismatched room index mapping e = rw (opens_pop, e)
+    mismatched room index mapping e = rw (h.opens_are, is, e)
 
     pub matched : (room index : ℕ) (mapping : Bool) → closes mapping inner ≡ true
         → on_end text room mapping index st.opens st ≡ within_room room st (go (completed (collection_node text inner (byte_offset text index) c.nodes) outside))
     unfolding ended
-    matched room index mapping e = rw (opens_pop, e, h.nodes_are)
+    matched room index mapping e = rw (h.opens_are, is, e, h.nodes_are)
 
-    pub inner_below : (inner.before + inner.children ≤ c.nodes) × Below (open_of (c.depth - 1) s) c.nodes
-    inner_below = rw (open_pop c.depth s d) at h.below
+    pub inner_below : (inner.before + inner.children ≤ c.nodes) × Below os c.nodes
+    inner_below = rw is at h.below
 
-    pub inner_on : Boundary text inner.start × Boundary text inner.first × OnBoundaries text (open_of (c.depth - 1) s)
-    inner_on = rw (open_pop c.depth s d) at h.on_boundaries
+    pub inner_on : Boundary text inner.start × Boundary text inner.first × OnBoundaries text os
+    inner_on = rw is at h.on_boundaries
 
     -- the innermost collection is taken off, and the cursor moves
-    pub popped : (k : ℕ) (cur : Cursor) → cur ≡ cursor_at text k → Held text size pieces_size outside (counts c.nodes (c.depth - 1) c.used cur) s b p
-    popped k cur e =
+    pub popped : (cur : Cursor) → Stands text cur.chars cur.offset → Held text size pieces_size outside (builder c.nodes c.used cur os) b p
+    popped cur on =
         record {
-          stack_size_is = h.stack_size_is;
           size_is = h.size_is;
           pieces_size_is = h.pieces_size_is;
           nodes_are = h.nodes_are;
@@ -208,10 +191,9 @@ module _ (text : List ℕ) (size pieces_size : ℕ) (st : State) (c : Counts) (s
           records_fit = h.records_fit;
           pieces_fit = h.pieces_fit;
           pieces_few = h.pieces_few;
-          deep = let q = h.deep in omega arith;
           below = inner_below.1;
           on_boundaries = inner_on.2;
-          cursor_stands = rw e (cursor_stands text k);
+          cursor_stands = on;
         }
 
   -- ---- a scalar's walk in the free part of the pieces
@@ -230,7 +212,7 @@ module _ (text : List ℕ) (size pieces_size : ℕ) (st : State) (c : Counts) (s
 
   -- what the walk left there
   module _ (y : List ℕ) (len : length y ≡ pieces_size - 4 * c.used) where
-    pub walk_no_room : (x : Node) (o : Option (List Piece)) → Walks (length y) o NoRoom y → keeping (pieces_size / 4) x o st ≡ stop 8
+    pub walk_no_room : (x : Node) (o : maybe.Option (List Piece)) → Walks (length y) o NoRoom y → keeping (pieces_size / 4) x o st ≡ stop 8
     unfolding keeping
     walk_no_room x none w = absurd w
     walk_no_room x (some ps) w =
@@ -239,7 +221,7 @@ module _ (text : List ℕ) (size pieces_size : ℕ) (st : State) (c : Counts) (s
         rw (h.pieces_are, lt-ltb (pieces_size / 4) (c.used + length ps) (omega arith))
 
     -- the buffer is as it was, and the node has no list
-    pub walk_no_list : (x : Node) (o : Option (List Piece)) → Walks (length y) o NoList y
+    pub walk_no_list : (x : Node) (o : maybe.Option (List Piece)) → Walks (length y) o NoList y
         → (keeping (pieces_size / 4) x o st ≡ go (completed x st)) × (take (4 * c.used) p ++ y ≡ p)
     unfolding keeping
     walk_no_list x none w =
@@ -247,13 +229,13 @@ module _ (text : List ℕ) (size pieces_size : ℕ) (st : State) (c : Counts) (s
     walk_no_list x (some ps) w = absurd w
 
     -- n pieces more
-    pub record Listing (x : Node) (o : Option (List Piece)) (n : ℕ) : Type 0 where
+    pub record Listing (x : Node) (o : maybe.Option (List Piece)) (n : ℕ) : Type 0 where
       pub with_pieces_lem : State
-      pub held : Held text size pieces_size with_pieces_lem (counts c.nodes c.depth (c.used + n) c.cursor) s b (take (4 * c.used) p ++ y)
+      pub held : Held text size pieces_size with_pieces_lem (builder c.nodes (c.used + n) c.cursor c.stack) b (take (4 * c.used) p ++ y)
       pub kept : keeping (pieces_size / 4) x o st ≡ go (completed (with_list x c.used n) with_pieces_lem)
       pub fits : c.used + n ≤ piece_limit
 
-    pub walk_listed : (x : Node) (o : Option (List Piece)) (n : ℕ) → Walks (length y) o (Listed n) y → Listing x o n
+    pub walk_listed : (x : Node) (o : maybe.Option (List Piece)) (n : ℕ) → Walks (length y) o (Listed n) y → Listing x o n
     unfolding keeping
     walk_listed x none n w = absurd w
     walk_listed x (some ps) n w =
@@ -265,7 +247,6 @@ module _ (text : List ℕ) (size pieces_size : ℕ) (st : State) (c : Counts) (s
         record {
           with_pieces_lem = record { nodes = st.nodes; opens = st.opens; pieces = st.pieces ++ ps };
           held = record {
-            stack_size_is = h.stack_size_is;
             size_is = h.size_is;
             pieces_size_is = back_length pieces_size (4 * c.used) st.pieces p h.pieces_hold used_is h.pieces_size_is z y len;
             nodes_are = h.nodes_are;
@@ -276,7 +257,6 @@ module _ (text : List ℕ) (size pieces_size : ℕ) (st : State) (c : Counts) (s
             records_fit = h.records_fit;
             pieces_fit = omega arith;
             pieces_few = few;
-            deep = h.deep;
             below = h.below;
             on_boundaries = h.on_boundaries;
             cursor_stands = h.cursor_stands;
@@ -286,7 +266,7 @@ module _ (text : List ℕ) (size pieces_size : ℕ) (st : State) (c : Counts) (s
         }
 
     -- so what is listed can be counted
-    pub walk_counted : (x : Node) (o : Option (List Piece)) (w : Walked) → w ≡ answer_of (room (length y)) o → y ≡ buffer_of (length y) o → Counted c.used w
+    pub walk_counted : (x : Node) (o : maybe.Option (List Piece)) (w : Walked) → w ≡ answer_of (room (length y)) o → y ≡ buffer_of (length y) o → Counted c.used w
     walk_counted x o NoRoom e f = tt
     walk_counted x o NoList e f = tt
     walk_counted x o (Listed n) e f = (walk_listed x o n (walks_of (length y) o (Listed n) y e f)).fits

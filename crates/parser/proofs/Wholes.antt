@@ -5,12 +5,13 @@ use mathlib.Core.List.{List, [], ◌∷◌, ◌++◌}
 use mathlib.Core.Option.{Option, none, some}
 use Prim.Native.Nat.{ℕ, ◌+◌, ◌/◌, ◌≤◌, ◌<◌, min}
 use native.Mathlib.Omega.{arith}
+use Rattle.std.specs.Prelude.{None, Result, Ok, Err, is_err}
 use borrow.Author.Tests.{lt-ltb, le-ltb}
 use lib.ListN.{length, take, drop, length-replicate, length-append, length-drop}
 use Rattle.utf8.specs.Tests.{clash}
-use Rattle.text.specs.Admission.{admission, admission_of_both}
+use Rattle.text.specs.Admission.{admission, admission_of_both, error_number}
 use Rattle.text.specs.Offset.{byte_offset}
-use Rattle.text.specs.declared.admission.Admission.TheVariants.{Admitted, TooLong, NotUtf8}
+use Rattle.text.specs.declared.admission.TextError.{TextError}
 use Rattle.schema.specs.Tag.{resolve_scalar}
 use Rattle.schema.specs.declared.plain.Resolved.{Resolved}
 use Rattle.measure.specs.Scalar.{folded}
@@ -19,7 +20,7 @@ use Rattle.provenance.specs.Reading.{Piece}
 use Rattle.provenance.specs.Layout.{room, zeros, answer_of, buffer_of, piece_width}
 use Rattle.provenance.specs.declared.walk.Walked.{Walked}
 use Rattle.provenance.specs.declared.walk.Walked.TheVariants.{Listed, NoRoom, NoList}
-use Rattle.records.specs.Record.{no_tag, zero_node}
+use Rattle.records.specs.Record.{no_tag}
 use Rattle.records.specs.Layout.{pieces_limit, record_room, piece_room}
 use Rattle.records.specs.LayoutLaws.{take-replicate}
 use Rattle.records.specs.declared.record.Node.{Node}
@@ -28,11 +29,13 @@ use Rattle.spans.specs.Fits.{scalar_entry}
 use Rattle.spans.specs.declared.scalar.ScalarMark.{ScalarMark}
 use Rattle.spans.specs.declared.scalar.Entry.{Entry}
 use Rattle.parser.specs.Machine.{State, empty, Outcome, built, refused, completed, keeping, scalar_kept, follow, run_all}
-use Rattle.parser.specs.Call.{building, one_scalar, scalar_measured, scalar_call, Delivered, DeliveredScalar}
-use Rattle.parser.specs.Held.{Filled, is_refused, Counted, alone_answer}
-use Rattle.parser.specs.declared.answer.Answer.{Answer}
-use Rattle.parser.specs.declared.answer.Answer.TheVariants.{Built, Refused}
-use Rattle.parser.specs.declared.one.ScalarAnswer.{ScalarAnswer}
+use Rattle.parser.specs.Call.{row_number, building, one_scalar, scalar_measured, scalar_call, Delivered, DeliveredScalar}
+use Rattle.parser.specs.Held.{Filled, Refuses, Counted, alone_answer}
+use Rattle.parser.specs.declared.answer.Refusal.{Refusal}
+use Rattle.parser.specs.declared.answer.Refusal.TheVariants.{Malformed}
+use Rattle.parser.specs.declared.answer.Built.{Built}
+use Rattle.parser.specs.declared.answer.Refused.{Refused}
+use Rattle.parser.specs.declared.answer.Scalar.{Scalar}
 use Rattle.parser.proofs.Pieces.{Walks, walks_of, filled_none, filled_fits, filled_longer}
 
 -- the first numbers of a buffer of zeros
@@ -54,41 +57,39 @@ two_not_three a b c d e h = let l : ◌≡◌ {A = ℕ} 2 3 = ap length h in ome
 
 -- the inner part had the first n numbers of the pieces p
 module _ (size pieces_size n : ℕ) (is-n : n ≡ min pieces_size pieces_limit) (b q p : List ℕ) (len : length q ≡ n) (zp : p ≡ zeros pieces_size) where
-  pub settled_built : (o : Outcome) (r : Answer) → is_refused r ≡ false → Filled size n o r b q → Delivered size pieces_size o r b (q ++ drop n p)
+  pub settled_built : (o : Outcome) (r : Result Built Refused) → is_err r ≡ false → Filled size n o r b q → Delivered size pieces_size o r b (q ++ drop n p)
   settled_built (built xs ps) r e h =
       record { answer = h.0; all_records = h.1; all_pieces = filled_longer n pieces_size ps q p h.2 len (omega arith) zp }
-  settled_built (refused m k) (Built i j) e h = absurd (two_not_three m k 0 i j (sym h))
-  settled_built (refused m k) (Refused i j) e h = absurd (clash e)
+  settled_built (refused m k) (Ok x) e h = absurd (two_not_three m k 0 x.nodes x.pieces (sym h))
+  settled_built (refused m k) (Err x) e h = absurd (clash e)
 
-  pub settled_refused : (o : Outcome) (r : Answer) → is_refused r ≡ true → Filled size n o r b q → (b' p' : List ℕ) → b' ≡ zeros size → p' ≡ zeros pieces_size
+  pub settled_refused : (o : Outcome) (r : Result Built Refused) → is_err r ≡ true → Filled size n o r b q → (b' p' : List ℕ) → b' ≡ zeros size → p' ≡ zeros pieces_size
       → Delivered size pieces_size o r b' p'
-  settled_refused (built xs ps) (Built i j) e h b' p' u v = absurd (clash (sym e))
-  settled_refused (built xs ps) (Refused i j) e h b' p' u v = absurd (two_not_three i j 0 (length xs) (length ps) h.0)
+  settled_refused (built xs ps) (Ok x) e h b' p' u v = absurd (clash (sym e))
+  settled_refused (built xs ps) (Err x) e h b' p' u v = absurd (two_not_three (row_number x.refusal) x.place 0 (length xs) (length ps) h.0)
   settled_refused (refused m k) r e h b' p' u v = record { answer = h; all_records = u; all_pieces = v }
 
-module _ (text events : List ℕ) (size pieces_size : ℕ) (b p : List ℕ) where
-  pub too_many : events_limit < length events → b ≡ zeros size → p ≡ zeros pieces_size → Delivered size pieces_size (building text events size pieces_size) (Refused 1 0) b p
+module _ (text events : List ℕ) where
+  -- rows 1 and 2
+  pub events_too_long : events_limit < length events → (e : Refusal) → row_number e ≡ 1 → Refuses text events e
   unfolding building
-  too_many l zb zp = rw (lt-ltb events_limit (length events) l) (record { answer = refl; all_records = zb; all_pieces = zp })
+  events_too_long l e is = λ size pieces_size. rw (lt-ltb events_limit (length events) l, is) refl
 
-  module _ (l : length events ≤ events_limit) where
-    pub text_too_long : admission text ≡ TooLong → b ≡ zeros size → p ≡ zeros pieces_size → Delivered size pieces_size (building text events size pieces_size) (Refused 1 0) b p
-    unfolding building
-    text_too_long e zb zp = rw (le-ltb events_limit (length events) l, e) (record { answer = refl; all_records = zb; all_pieces = zp })
+  pub text_refused : length events ≤ events_limit → (x : TextError) (e : Refusal) → admission text ≡ Err x → row_number e ≡ error_number x → Refuses text events e
+  unfolding building
+  text_refused l x e told is = λ size pieces_size. rw (le-ltb events_limit (length events) l, told, is) refl
 
-    pub text_no_utf8 : admission text ≡ NotUtf8 → b ≡ zeros size → p ≡ zeros pieces_size → Delivered size pieces_size (building text events size pieces_size) (Refused 2 0) b p
-    unfolding building
-    text_no_utf8 e zb zp = rw (le-ltb events_limit (length events) l, e) (record { answer = refl; all_records = zb; all_pieces = zp })
+  module _ (size pieces_size : ℕ) (b p : List ℕ) where
+    pub not_let_in : (e : Refusal) → Refuses text events e → b ≡ zeros size → p ≡ zeros pieces_size
+        → Delivered size pieces_size (building text events size pieces_size) (Err (record { refusal = e; place = 0 })) b p
+    not_let_in e h zb zp = rw (h size pieces_size) (record { answer = refl; all_records = zb; all_pieces = zp })
 
-    pub text_admitted : (ascii : Bool) (r : Answer) → admission text ≡ Admitted ascii
+    pub let_in : length events ≤ events_limit → (ascii : Bool) (r : Result Built Refused) → admission text ≡ Ok ascii
         → Delivered size pieces_size (run_all text events (record_room size) (piece_room pieces_size)) r b p → Delivered size pieces_size (building text events size pieces_size) r b p
     unfolding building
-    text_admitted ascii r e h = rw (le-ltb events_limit (length events) l, e) h
+    let_in l ascii r e h = rw (le-ltb events_limit (length events) l, e) h
 
 -- ---- one scalar
-
-abbrev pub refusal : ℕ → ScalarAnswer
-refusal n = record { answer = Refused n 0; node = zero_node; measured = false }
 
 abbrev outcome : State → Outcome
 outcome st = built st.nodes st.pieces
@@ -125,7 +126,7 @@ module _ (size : ℕ) (small : size ≤ pieces_limit) (q : List ℕ) (len : leng
 
   -- the scalar's outcome goes by its record and its walk
   pub one_told : (text : List ℕ) (m : ScalarMark) (value : List ℕ) (i : ℕ) (r : Resolved) (x : Entry)
-      → m.style ≤ folded → i ≡ byte_offset text m.index → r ≡ resolve_scalar value m.style false [] []
+      → m.style ≤ folded → i ≡ byte_offset text m.index → r ≡ resolve_scalar value m.style None
       → x ≡ scalar_entry (room size) text (scalar_from i m value 0) no_tag r → q ≡ buffer_of size (list_at text (scalar_from i m value 0))
       → DeliveredScalar size (one_scalar text m value size) (scalar_measured text m value) (alone_answer x) q
   unfolding one_scalar scalar_kept event_node scalar_start tag_info resolved_by
@@ -134,25 +135,22 @@ module _ (size : ℕ) (small : size ≤ pieces_limit) (q : List ℕ) (len : leng
       (alone_kept _ _ _ _ (walks_of size (list_at text (scalar_from i m value 0)) _ q refl eq))
 
 module _ (text : List ℕ) (m : ScalarMark) (value : List ℕ) (size : ℕ) where
-  pub style_unknown : (q : List ℕ) → folded < m.style → q ≡ zeros size → DeliveredScalar size (one_scalar text m value size) (scalar_measured text m value) (refusal 3) q
+  pub style_unknown : (q : List ℕ) → folded < m.style → q ≡ zeros size → DeliveredScalar size (one_scalar text m value size) (scalar_measured text m value) (Err Malformed) q
   unfolding one_scalar
   style_unknown q l z = rw (lt-ltb folded m.style l) (record { answer = refl; one_record = refl; flag = refl; all_pieces = z })
 
-  pub scalar_too_long : (q : List ℕ) → admission_of_both text value ≡ TooLong → q ≡ zeros size → DeliveredScalar size (scalar_call text m value size) (scalar_measured text m value) (refusal 1) q
+  pub scalar_refused : (x : TextError) (e : Refusal) (q : List ℕ) → admission_of_both text value ≡ Err x → row_number e ≡ error_number x → q ≡ zeros size
+      → DeliveredScalar size (scalar_call text m value size) (scalar_measured text m value) (Err e) q
   unfolding scalar_call
-  scalar_too_long q e z = rw e (record { answer = refl; one_record = refl; flag = refl; all_pieces = z })
-
-  pub scalar_no_utf8 : (q : List ℕ) → admission_of_both text value ≡ NotUtf8 → q ≡ zeros size → DeliveredScalar size (scalar_call text m value size) (scalar_measured text m value) (refusal 2) q
-  unfolding scalar_call
-  scalar_no_utf8 q e z = rw e (record { answer = refl; one_record = refl; flag = refl; all_pieces = z })
+  scalar_refused x e q told is z = rw (told, ← is) (record { answer = refl; one_record = refl; flag = refl; all_pieces = z })
 
   -- the buffer's front was lent
-  longer : (n : ℕ) (o : Outcome) (t : Bool) (r : ScalarAnswer) (q p : List ℕ) → length q ≡ n → n ≤ size → p ≡ zeros size → DeliveredScalar n o t r q → DeliveredScalar size o t r (q ++ drop n p)
+  longer : (n : ℕ) (o : Outcome) (t : Bool) (r : Result Scalar Refusal) (q p : List ℕ) → length q ≡ n → n ≤ size → p ≡ zeros size → DeliveredScalar n o t r q → DeliveredScalar size o t r (q ++ drop n p)
   longer n (built xs ps) t r q p l h z w = record { answer = w.answer; one_record = w.one_record; flag = w.flag; all_pieces = filled_longer n size ps q p w.all_pieces l h z }
   longer n (refused j k) t r q p l h z w =
       record { answer = w.answer; one_record = w.one_record; flag = w.flag; all_pieces = filled_longer n size [] q p (w.all_pieces ∙ sym (filled_none n)) l h z ∙ filled_none size }
 
-  pub scalar_read : (ascii : Bool) → admission_of_both text value ≡ Admitted ascii → (n : ℕ) → n ≡ min size pieces_limit → (r : ScalarAnswer) (q p : List ℕ) → length q ≡ n → p ≡ zeros size
+  pub scalar_read : (ascii : Bool) → admission_of_both text value ≡ Ok ascii → (n : ℕ) → n ≡ min size pieces_limit → (r : Result Scalar Refusal) (q p : List ℕ) → length q ≡ n → p ≡ zeros size
       → DeliveredScalar n (one_scalar text m value n) (scalar_measured text m value) r q
       → DeliveredScalar size (scalar_call text m value size) (scalar_measured text m value) r (q ++ drop n p)
   unfolding scalar_call one_scalar

@@ -1,29 +1,54 @@
 -- The two public calls, whole: what each comes to, and what it promises of its answer and of every lent number (R0 to R2, RZ, RS, B1;
 -- 02, (b)).
-use Rattle.std.specs.Prelude.{◌≡◌, ℕ, Bool, false, cond, List, [], ◌∷◌, ltb, length, replicate}
-use Rattle.text.specs.Admission.{admission, admission_of_both, admission_number}
-use Rattle.text.specs.declared.admission.Admission.{Admission}
-use Rattle.text.specs.declared.admission.Admission.TheVariants.{Admitted, TooLong, NotUtf8}
+use Rattle.std.specs.Prelude.{◌≡◌, ℕ, Bool, false, cond, List, [], ◌∷◌, ltb, length, replicate, None, Result, Ok, Err}
+use Rattle.text.specs.Admission.{admission, admission_of_both, error_number}
+use Rattle.text.specs.declared.admission.TextError.{TextError}
 use Rattle.measure.specs.Scalar.{folded}
 use Rattle.event.specs.Read.{events_limit}
-use Rattle.event.specs.declared.tag.YamlTag.TheVariants.{Absent}
 use Rattle.records.specs.Record.{zero_node}
 use Rattle.parser.specs.Machine.{State, empty, Outcome, built, refused, scalar_kept, follow, run_all}
 use Rattle.spans.specs.Scalar.{scalar_at, span_measure}
 use Rattle.records.specs.Layout.{laid_nodes, record_room, piece_room}
 use Rattle.provenance.specs.Layout.{laid_pieces}
 use Rattle.records.specs.declared.record.Node.{Node}
-use Rattle.parser.specs.declared.answer.Answer.{Answer}
-use Rattle.parser.specs.declared.answer.Answer.TheVariants.{Built, Refused}
+use Rattle.parser.specs.declared.answer.Refusal.{Refusal}
+use Rattle.parser.specs.declared.answer.Refusal.TheVariants as row
+use Rattle.parser.specs.declared.answer.Built.{Built}
+use Rattle.parser.specs.declared.answer.Refused.{Refused}
 use Rattle.spans.specs.declared.scalar.ScalarMark.{ScalarMark}
-use Rattle.parser.specs.declared.one.ScalarAnswer.{ScalarAnswer}
+use Rattle.parser.specs.declared.answer.Scalar.{Scalar}
 
 -- ---- the table
 
+-- document 01's number for each refusal
+abbrev pub row_number : Refusal → ℕ
+row_number row.TooLong = 1
+row_number row.NotUtf8 = 2
+row_number row.Malformed = 3
+row_number row.Unbalanced = 4
+row_number row.AfterRoot = 5
+row_number row.TooDeep = 6
+row_number row.NoRecordRoom = 7
+row_number row.NoPieceRoom = 8
+row_number row.Unfinished = 9
+
 -- document 01's number and values for each case of an answer
-abbrev pub returned : Answer → List ℕ
-returned (Built nodes pieces) = 0 ∷ nodes ∷ pieces ∷ []
-returned (Refused number place) = number ∷ place ∷ []
+abbrev pub returned : Result Built Refused → List ℕ
+returned (Ok b) = 0 ∷ b.nodes ∷ b.pieces ∷ []
+returned (Err e) = row_number e.refusal ∷ e.place ∷ []
+
+-- and of an answer of the call on one scalar: its numbers, the record that it hands back, and its flag
+abbrev pub returned_scalar : Result Scalar Refusal → List ℕ
+returned_scalar (Ok x) = 0 ∷ 1 ∷ x.pieces ∷ []
+returned_scalar (Err e) = row_number e ∷ 0 ∷ []
+
+abbrev pub returned_record : Result Scalar Refusal → Node
+returned_record (Ok x) = x.node
+returned_record (Err e) = zero_node
+
+abbrev pub returned_flag : Result Scalar Refusal → Bool
+returned_flag (Ok x) = x.measured
+returned_flag (Err e) = false
 
 -- and for each case of what a call comes to
 abbrev pub table_row : Outcome → List ℕ
@@ -54,10 +79,9 @@ measured_after (refused number place) t = false
 -- ---- what the calls come to
 
 -- a text that is refused, or what comes of it
-abbrev pub admitted : Admission → Outcome → Outcome
-admitted (Admitted ascii) o = o
-admitted TooLong o = refused (admission_number TooLong) 0
-admitted NotUtf8 o = refused (admission_number NotUtf8) 0
+abbrev pub admitted : Result Bool TextError → Outcome → Outcome
+admitted (Ok ascii) o = o
+admitted (Err e) o = refused (error_number e) 0
 
 -- `build`, with buffers of so many numbers
 unfoldable pub building : List ℕ → List ℕ → ℕ → ℕ → Outcome
@@ -69,7 +93,7 @@ building text events size pieces_size =
 unfoldable pub one_scalar : List ℕ → ScalarMark → List ℕ → ℕ → Outcome
 one_scalar text m value pieces_size =
     cond (ltb folded m.style) (refused 3 0)
-    (follow (scalar_kept text [] (piece_room pieces_size) (scalar_at text false m value 0) Absent empty) (λ (st : State). built st.nodes st.pieces) 0)
+    (follow (scalar_kept text [] (piece_room pieces_size) (scalar_at text false m value 0) None empty) (λ (st : State). built st.nodes st.pieces) 0)
 
 -- what the call on one scalar comes to
 unfoldable pub scalar_call : List ℕ → ScalarMark → List ℕ → ℕ → Outcome
@@ -82,21 +106,21 @@ scalar_measured text m value = (span_measure text (scalar_at text false m value 
 -- ---- what the calls promise: the answer, and each buffer afterwards
 
 -- with buffers of so many numbers, of a call that comes to o
-pub record Delivered (size pieces_size : ℕ) (o : Outcome) (r : Answer) (records pieces : List ℕ) : Type 0 where
+pub record Delivered (size pieces_size : ℕ) (o : Outcome) (r : Result Built Refused) (records pieces : List ℕ) : Type 0 where
   pub answer : returned r ≡ table_row o
   pub all_records : records ≡ records_after size o
   pub all_pieces : pieces ≡ pieces_after pieces_size o
 
 -- and whose scalar's span is measured if t says so
-pub record DeliveredScalar (pieces_size : ℕ) (o : Outcome) (t : Bool) (r : ScalarAnswer) (pieces : List ℕ) : Type 0 where
-  pub answer : returned r.answer ≡ table_row o
-  pub one_record : r.node ≡ record_of o
-  pub flag : r.measured ≡ measured_after o t
+pub record DeliveredScalar (pieces_size : ℕ) (o : Outcome) (t : Bool) (r : Result Scalar Refusal) (pieces : List ℕ) : Type 0 where
+  pub answer : returned_scalar r ≡ table_row o
+  pub one_record : returned_record r ≡ record_of o
+  pub flag : returned_flag r ≡ measured_after o t
   pub all_pieces : pieces ≡ pieces_after pieces_size o
 
 -- the buffers before are b and p
-abbrev pub Promised : List ℕ → List ℕ → List ℕ → List ℕ → Answer → List ℕ → List ℕ → Type 0
+abbrev pub Promised : List ℕ → List ℕ → List ℕ → List ℕ → Result Built Refused → List ℕ → List ℕ → Type 0
 Promised text events b p r b' p' = Delivered (length b) (length p) (building text events (length b) (length p)) r b' p'
 
-abbrev pub PromisedScalar : List ℕ → ScalarMark → List ℕ → List ℕ → ScalarAnswer → List ℕ → Type 0
+abbrev pub PromisedScalar : List ℕ → ScalarMark → List ℕ → List ℕ → Result Scalar Refusal → List ℕ → Type 0
 PromisedScalar text m value p r p' = DeliveredScalar (length p) (scalar_call text m value (length p)) (scalar_measured text m value) r p'

@@ -1,6 +1,6 @@
 -- Demand 3 at the public calls, in document 01's terms: the marker index, the event that stands in the event bytes, the record and the piece
 -- numbers that are handed back. proofs/Demand.antt proves `ScalarDemand3` of `scalar` and `BuildDemand3` of `build`.
-use Rattle.std.specs.Prelude.{ℕ, zero, suc, ◌+◌, ◌-◌, ◌*◌, ◌≤◌, ◌<◌, ◌≡◌, ◌⊎◌, Bool, true, false, not, cond, List, [], ◌∷◌, ◌++◌, eqb, length, get_or, drop}
+use Rattle.std.specs.Prelude.{ℕ, zero, suc, ◌+◌, ◌-◌, ◌*◌, ◌≤◌, ◌<◌, ◌≡◌, ◌⊎◌, Bool, true, false, not, cond, List, [], ◌∷◌, ◌++◌, eqb, length, get_or, drop, Some, None}
 use Rattle.text.specs.Admitted.{AdmittedText}
 use Rattle.utf8.specs.Boundary.{Boundary}
 use Rattle.utf8.specs.Characters.{codes}
@@ -40,8 +40,8 @@ use Rattle.records.specs.declared.record.PieceList.{PieceList}
 
 -- what a scalar is, by its event's tag, its value and its style
 abbrev pub resolved_as : Tag → List ℕ → ℕ → Resolved
-resolved_as untagged value style = resolve_scalar value style false [] []
-resolved_as (tagged handle suffix) value style = resolve_scalar value style true handle suffix
+resolved_as untagged value style = resolve_scalar value style None
+resolved_as (tagged handle suffix) value style = resolve_scalar value style (Some (handle, suffix))
 
 -- a scalar's event
 abbrev pub scalar_of : ScalarMark → Tag → List ℕ → YamlEvent

@@ -1,11 +1,11 @@
 -- The machine over a list of events (E1, R3): it takes the events in order, and an event's number is its index in the list. That the run
 -- over event bytes is this run over the events that stand in them is `EventsAsList`, and what comes of other bytes `FaultyBytes`; both are
 -- proved in proofs/EventRun.antt.
-use Rattle.std.specs.Prelude.{ℕ, ◌+◌, ◌<◌, ◌≡◌, ◌⊎◌, List, [], ◌∷◌, length}
+use Rattle.std.specs.Prelude.{ℕ, ◌+◌, ◌<◌, ◌≡◌, ◌⊎◌, List, [], ◌∷◌, length, Ok, Err}
 use Rattle.event.specs.Encode.{YamlEvent, encode_event}
 use Rattle.event.specs.Meaning.{StandsAt, placed, event_number}
 use Rattle.event.specs.EventList.{encode_events}
-use Rattle.event.specs.declared.read.Event.TheVariants.{Malformed}
+use Rattle.event.specs.Read as read
 use Rattle.parser.specs.Machine.{State, empty, Next, go, stop, Outcome, refused, on_event, ending, follow, run_all}
 use Rattle.parser.specs.Call.{building}
 
@@ -17,17 +17,17 @@ module _ (text events : List ℕ) (room piece_room : ℕ) where
   -- the events, of which the first stands at the place i, are let through to this state, or one of them is refused
   unfoldable pub reached : ℕ → List YamlEvent → State → Next
   reached i [] st = go st
-  reached i (e ∷ es) st = go_on (on_event text events room piece_room (placed i e) st) (λ (n : State). reached (i + length (encode_event e)) es n)
+  reached i (e ∷ es) st = go_on (on_event text events room piece_room (Ok (placed i e)) st) (λ (n : State). reached (i + length (encode_event e)) es n)
 
   -- what they come to, the first being number k: a refusal, or what `last` says after them
   unfoldable pub run_events : (ℕ → State → Outcome) → ℕ → ℕ → List YamlEvent → State → Outcome
   run_events last i k [] st = last k st
   run_events last i k (e ∷ es) st =
-      follow (on_event text events room piece_room (placed i e) st) (λ (n : State). run_events last (i + length (encode_event e)) (k + 1) es n) k
+      follow (on_event text events room piece_room (Ok (placed i e)) st) (λ (n : State). run_events last (i + length (encode_event e)) (k + 1) es n) k
 
 -- no sound event stands where one should: row 3
 abbrev pub malformed : ℕ → State → Outcome
-malformed k st = refused (event_number Malformed) k
+malformed k st = refused (event_number (Err read.malformed)) k
 
 -- what the run over event bytes comes to, by the events that stand in them from the front
 pub record EventsAsList (text events : List ℕ) (room piece_room : ℕ) (es : List YamlEvent) (rest : List ℕ) : Type 0 where
@@ -43,4 +43,4 @@ pub record FaultyBytes (text events : List ℕ) (size pieces_size n : ℕ) : Typ
   pub number : ℕ
   pub place : ℕ
   pub refuses : building text events size pieces_size ≡ refused number place
-  pub rows : ((number ≡ 1) × (place ≡ 0)) ⊎ ((number ≡ 2) × (place ≡ 0)) ⊎ ((number ≡ event_number Malformed) × (place ≡ n)) ⊎ (place < n)
+  pub rows : ((number ≡ 1) × (place ≡ 0)) ⊎ ((number ≡ 2) × (place ≡ 0)) ⊎ ((number ≡ event_number (Err read.malformed)) × (place ≡ n)) ⊎ (place < n)

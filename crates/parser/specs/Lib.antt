@@ -17,5 +17,7 @@ pub mod Cases
 -- the smallest input of each row, and other worked inputs
 pub mod Examples
 -- Arguments: what the code's values hold of the machine's state; cited by inner calls' contracts only.
--- the stack, the state, and what the inner calls ask and promise
+-- the open collections
+pub mod Opens
+-- the state, and what the inner calls ask and promise
 pub mod Held

@@ -3,17 +3,18 @@
 -- no cursor here: an offset is `byte_offset` of its index. `room` is how many records fit, `piece_room` how many pieces.
 --
 -- `run` counts down the length of the event bytes, which are more than the events; what a reader expects of it stands in `RunLaws`.
-use Rattle.std.specs.Prelude.{ℕ, zero, suc, ◌+◌, Bool, true, false, ◌&&◌, cond, List, [], ◌∷◌, ◌++◌, eqb, ltb, leb, length}
-use Rattle.std.proofs.Math.Option.{Option, none, some}
+use Rattle.std.specs.Prelude.{ℕ, zero, suc, ◌+◌, Bool, true, false, ◌&&◌, cond, List, [], ◌∷◌, ◌++◌, eqb, ltb, leb, length, Option, Result, Ok, Err}
+use Rattle.std.proofs.Math.Option as maybe
 use Rattle.text.specs.Offset.{byte_offset}
 use Rattle.provenance.specs.Reading.{Piece}
 use Rattle.provenance.specs.Layout.{walked_number}
 use Rattle.provenance.specs.declared.walk.Walked.TheVariants.{NoRoom}
 use Rattle.event.specs.Read.{read_event}
 use Rattle.event.specs.Meaning.{event_number}
+use Rattle.event.specs.declared.malformed.Malformed.{Malformed}
 use Rattle.event.specs.declared.tag.YamlTag.{YamlTag}
 use Rattle.event.specs.declared.read.Event.{Event}
-use Rattle.event.specs.declared.read.Event.TheVariants.{SequenceStart, SequenceEnd, MappingStart, MappingEnd, Scalar, Alias, Malformed}
+use Rattle.event.specs.declared.read.Event.TheVariants.{SequenceStart, SequenceEnd, MappingStart, MappingEnd, Scalar, Alias}
 use Rattle.records.specs.Record.{with_list, alias_node}
 use Rattle.spans.specs.Scalar.{ScalarAt, mark, scalar_given, list_at, suffix_of, event_node, event_scalar}
 use Rattle.spans.specs.Collection.{with_child, awaits_value, closes, collection_node}
@@ -66,7 +67,7 @@ within_room room st n = cond (leb room (length st.nodes)) (stop 7) n
 unfoldable pub completed : Node → State → State
 completed x st = record { nodes = st.nodes ++ (x ∷ []); opens = with_child x.extent.start st.opens; pieces = st.pieces }
 
-unfoldable pub on_start : List ℕ → Bool → ℕ → YamlTag → State → Next
+unfoldable pub on_start : List ℕ → Bool → ℕ → Option YamlTag → State → Next
 on_start text mapping index tag st =
     before_root st
     (within_depth st
@@ -91,14 +92,14 @@ unfoldable pub on_alias : List ℕ → ℕ → ℕ → State → Next
 on_alias text room index st = before_root st (within_room room st (go (completed (alias_node (byte_offset text index)) st)))
 
 -- R8: a node, and the pieces of its walk if that gave a list, even an empty one; the first is the next free entry (E4, N1)
-unfoldable pub keeping : ℕ → Node → Option (List Piece) → State → Next
-keeping piece_room x none st = go (completed x st)
-keeping piece_room x (some ps) st =
+unfoldable pub keeping : ℕ → Node → maybe.Option (List Piece) → State → Next
+keeping piece_room x maybe.none st = go (completed x st)
+keeping piece_room x (maybe.some ps) st =
     cond (ltb piece_room (length st.pieces + length ps)) (stop (walked_number NoRoom))
     (go (completed (with_list x (length st.pieces) (length ps)) (record { nodes = st.nodes; opens = st.opens; pieces = st.pieces ++ ps })))
 
 -- the scalar x with its tag
-unfoldable pub scalar_kept : List ℕ → List ℕ → ℕ → ScalarAt → YamlTag → State → Next
+unfoldable pub scalar_kept : List ℕ → List ℕ → ℕ → ScalarAt → Option YamlTag → State → Next
 scalar_kept text events piece_room x tag st =
     keeping piece_room (event_node text events x tag) (list_at text x) st
 
@@ -110,25 +111,25 @@ on_scalar text events room piece_room e st =
 
 -- ---- the step, the run, the ending
 
-abbrev pub on_event : List ℕ → List ℕ → ℕ → ℕ → Event → State → Next
-on_event text events room piece_room (SequenceStart index tag n) st = on_start text false index tag st
-on_event text events room piece_room (SequenceEnd index n) st = on_end text room false index st.opens st
-on_event text events room piece_room (MappingStart index tag n) st = on_start text true index tag st
-on_event text events room piece_room (MappingEnd index n) st = on_end text room true index st.opens st
-on_event text events room piece_room (Scalar index column style empty_span tag value n) st =
+abbrev pub on_event : List ℕ → List ℕ → ℕ → ℕ → Result Event Malformed → State → Next
+on_event text events room piece_room (Ok (SequenceStart index tag n)) st = on_start text false index tag st
+on_event text events room piece_room (Ok (SequenceEnd index n)) st = on_end text room false index st.opens st
+on_event text events room piece_room (Ok (MappingStart index tag n)) st = on_start text true index tag st
+on_event text events room piece_room (Ok (MappingEnd index n)) st = on_end text room true index st.opens st
+on_event text events room piece_room (Ok (Scalar index column style empty_span tag value n)) st =
     on_scalar text events room piece_room (scalar_given (mark index column style empty_span) tag value) st
-on_event text events room piece_room (Alias index n) st = on_alias text room index st
-on_event text events room piece_room Malformed st = stop (event_number Malformed)
+on_event text events room piece_room (Ok (Alias index n)) st = on_alias text room index st
+on_event text events room piece_room (Err e) st = stop (event_number (Err e))
 
 -- the place after an event
-abbrev pub next_place : Event → ℕ
-next_place (SequenceStart index tag n) = n
-next_place (SequenceEnd index n) = n
-next_place (MappingStart index tag n) = n
-next_place (MappingEnd index n) = n
-next_place (Scalar index column style empty_span tag value n) = n
-next_place (Alias index n) = n
-next_place Malformed = 0
+abbrev pub next_place : Result Event Malformed → ℕ
+next_place (Ok (SequenceStart index tag n)) = n
+next_place (Ok (SequenceEnd index n)) = n
+next_place (Ok (MappingStart index tag n)) = n
+next_place (Ok (MappingEnd index n)) = n
+next_place (Ok (Scalar index column style empty_span tag value n)) = n
+next_place (Ok (Alias index n)) = n
+next_place (Err e) = 0
 
 -- the events have ended, and were k (R0, R9)
 unfoldable pub ending : ℕ → State → Outcome

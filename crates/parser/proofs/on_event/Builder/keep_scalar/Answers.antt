@@ -1,40 +1,27 @@
 -- `keep_scalar` meets its contract, by what the walk answered: the free part of the pieces is as it was, or has the list in it.
 use mathlib.Core.Path.{refl, sym, ◌∙◌}
-use native.Mathlib.Omega.{arith}
 use Rattle.provenance.specs.declared.walk.Walked.TheVariants.{Listed, NoRoom, NoList}
 use Rattle.parser.proofs.Pieces.{walks_of}
 use Rattle.parser.proofs.Turns.{moved_on, walk_no_room, walk_no_list, walk_listed}
-use Rattle.parser.proofs.on_event.keep_scalar.Goals as goal
-
-pub overflow_add-kept : goal.overflow_add-kept
-overflow_add-kept c = let few = rw c.in-Listed.is at c.requires.counted in omega arith
-
-pub overflow_cast-used : goal.overflow_cast-used
-overflow_cast-used c = let few = rw c.in-Listed.is at c.requires.counted in omega arith
-
-pub overflow_cast-n : goal.overflow_cast-n
-overflow_cast-n c = let few = rw c.in-Listed.is at c.requires.counted in omega arith
+use Rattle.parser.proofs.on_event.Builder.keep_scalar.Goals as goal
 
 pub returns-in-NoRoom : goal.returns-in-NoRoom
 returns-in-NoRoom c = λ text size pieces_size st p o y on h len answer buffer.
-    let a = c.args in
     let w = walks_of _ o NoRoom y (sym c.in-NoRoom.is ∙ answer) buffer in
-    rw (walk_no_room _ _ _ _ _ _ _ _ h y len a.x.node o w) refl
+    rw (walk_no_room h y len c.args.x.node o w) refl
 
 pub returns-in-NoList : goal.returns-in-NoList
 returns-in-NoList c = λ text size pieces_size st p o y on h len answer buffer.
-    let a = c.args in
     let w = walks_of _ o NoList y (sym c.in-NoList.is ∙ answer) buffer in
-    let same = walk_no_list _ _ _ _ _ _ _ _ h y len a.x.node o w in
-    rw (same.0, same.1) (moved_on _ _ _ st a.c _ _ _ _ _ h.nodes_are (c.push_complete.ensures text size pieces_size st p on h))
+    let same = walk_no_list h y len c.args.x.node o w in
+    rw (same.0, same.1) (moved_on _ _ _ st c.args.self.now _ _ _ _ h.nodes_are (c.push_complete.ensures text size pieces_size st p on h))
 
 pub returns-in-Listed : goal.returns-in-Listed
 returns-in-Listed c = λ text size pieces_size st p o y on h len answer buffer.
-    let a = c.args in
     let n = c.in-Listed.n in
     let w = walks_of _ o (Listed n) y (sym c.in-Listed.is ∙ answer) buffer in
-    let more = walk_listed _ _ _ _ _ _ _ _ h y len a.x.node o n w in
-    let listed = c.with_list.ensures in
+    let more = walk_listed h y len c.args.x.node o n w in
+    let listed = c.with_list-node.ensures in
     rw (more.kept, ← listed)
-    (moved_on _ _ _ more.with_pieces_lem a.c _ _ _ _ _ more.held.nodes_are
+    (moved_on _ _ _ more.with_pieces_lem c.args.self.now _ _ _ _ more.held.nodes_are
     (c.push_complete-in-Listed.ensures text size pieces_size more.with_pieces_lem _ (rw listed on) more.held))

@@ -1,0 +1,8 @@
+-- `step` meets its contract: what was read is sound.
+use mathlib.Core.Path.{sym, ◌∙◌}
+use Rattle.parser.proofs.Heads.{read_of}
+use Rattle.parser.proofs.build.step.Goals as goal
+
+pub on_event-requires-clause-read : goal.on_event-requires-clause-read
+on_event-requires-clause-read c =
+    read_of c.args.events.now (λ k. (c.type_inv.events k).fits) c.requires.events_short c.args.at c.in_ok-e.e (sym c.read_event.ensures ∙ c.in_ok-e.was)
