@@ -2,13 +2,14 @@
 use mathlib.Core.Path.{◌≡◌, refl}
 use mathlib.Core.Bool.{Bool, true, false, ◌&&◌}
 use mathlib.Core.List.{List}
-use mathlib.Core.Option.{Option, none, some}
+use Rattle.std.specs.Prelude.{None, Option, Some, if◌then◌else◌, option_and_then, option_map, slice_get}
+use Rattle.std.proofs.lemmas.Option.{none-some, same_Some, slice_get_past, slice_get_within}
 use Prim.Native.Nat.{ℕ, ◌-◌, ◌*◌}
 use lib.Dec.{ltb, eqb}
 use Rattle.records.specs.Record.{extent}
 use Rattle.records.specs.declared.record.Node.{Node}
 use Rattle.records.specs.declared.record.Extent.{Extent}
-use Rattle.node.specs.Chain.{and_then, when}
+use Rattle.node.specs.Chain.{◌>>=◌}
 use Rattle.node.specs.Record.{record_at}
 use Rattle.node.specs.Source.{span_at}
 use Rattle.node.specs.Child.{record_before, child_before, child_from_last, array_item}
@@ -19,38 +20,38 @@ use Rattle.node.specs.declared.entry.YamlHashEntry.{YamlHashEntry}
 -- ---- through how many items or pairs there are
 
 abbrev pub members_of : ℕ → Option Node → Option ℕ
-members_of kind o = and_then o (λ (x : Node). when (eqb x.kind kind) (some x.payload.first))
+members_of kind o = (o >>= (λ (x : Node). if eqb x.kind kind then Some x.payload.first else None))
 
 module _ {A : Type 0} (kind : ℕ) (t : ℕ → Bool) (g : ℕ → Option A) where
   by_members :
       (o : Option Node) →
-      and_then o (λ (x : Node). when (eqb x.kind kind && t x.payload.first) (g x.payload.first))
-      ≡ and_then (members_of kind o) (λ (m : ℕ). when (t m) (g m))
-  by_members none = refl
-  by_members (some x) = by (eqb x.kind kind) x.payload.first
+      (o >>= (λ (x : Node). if eqb x.kind kind && t x.payload.first then g x.payload.first else None))
+      ≡ (members_of kind o >>= (λ (m : ℕ). if t m then g m else None))
+  by_members None = refl
+  by_members (Some x) = by (eqb x.kind kind) x.payload.first
     where
-      by : (s : Bool) (m : ℕ) → when (s && t m) (g m) ≡ and_then (when s (some m)) (λ (m : ℕ). when (t m) (g m))
+      by : (s : Bool) (m : ℕ) → (if s && t m then g m else None) ≡ ((if s then Some m else None) >>= (λ (m : ℕ). if t m then g m else None))
       by true m = refl
       by false m = refl
 
 module _ (b : List ℕ) (n : ℕ) where
-  pub item_members : (i : ℕ) → array_item b n i ≡ and_then (members_of 7 (record_at b n)) (λ (m : ℕ). when (ltb i m) (child_from_last b n (m - 1 - i)))
+  pub item_members : (i : ℕ) → array_item b n i ≡ (members_of 7 (record_at b n) >>= (λ (m : ℕ). if ltb i m then child_from_last b n (m - 1 - i) else None))
   unfolding array_item
   item_members i = by_members 7 (ltb i) (λ (m : ℕ). child_from_last b n (m - 1 - i)) (record_at b n)
 
   pub entry-members :
       (i : ℕ) →
-      hash_entry b n i ≡ and_then (members_of 8 (record_at b n)) (λ (m : ℕ). when (ltb i m) (and_then (child_from_last b n (2 * (m - 1 - i))) (pair_ending b)))
+      hash_entry b n i ≡ (members_of 8 (record_at b n) >>= (λ (m : ℕ). if ltb i m then (child_from_last b n (2 * (m - 1 - i))) >>= pair_ending b else None))
   unfolding hash_entry
-  entry-members i = by_members 8 (ltb i) (λ (m : ℕ). and_then (child_from_last b n (2 * (m - 1 - i))) (pair_ending b)) (record_at b n)
+  entry-members i = by_members 8 (ltb i) (λ (m : ℕ). (child_from_last b n (2 * (m - 1 - i))) >>= pair_ending b) (record_at b n)
 
   pub value-members :
       (events key : List ℕ) →
       hash_value b events n key
-      ≡ and_then (members_of 8 (record_at b n)) (λ (m : ℕ). when (ltb 0 m) (and_then (record_before b n) (λ (v : ℕ). search_back b events key (m - 1) v none)))
+      ≡ (members_of 8 (record_at b n) >>= (λ (m : ℕ). if ltb 0 m then record_before b n >>= (λ (v : ℕ). search_back b events key (m - 1) v None) else None))
   unfolding hash_value
   value-members events key =
-      by_members 8 (ltb 0) (λ (m : ℕ). and_then (record_before b n) (λ (v : ℕ). search_back b events key (m - 1) v none)) (record_at b n)
+      by_members 8 (ltb 0) (λ (m : ℕ). record_before b n >>= (λ (v : ℕ). search_back b events key (m - 1) v None)) (record_at b n)
 
 -- ---- through spans
 
@@ -60,22 +61,22 @@ pair_with k r v s = record { key = k; value = v; key_span = r; value_span = s; e
 
 pub pair-spans :
     (b : List ℕ) (v : ℕ) →
-    pair_ending b v ≡ and_then (span_at b v) (λ (s : Extent). and_then (child_before b v) (λ (k : ℕ). and_then (span_at b k) (λ (r : Extent). some (pair_with k r v s))))
+    pair_ending b v ≡ (span_at b v >>= (λ (s : Extent). child_before b v >>= (λ (k : ℕ). span_at b k >>= (λ (r : Extent). Some (pair_with k r v s)))))
 unfolding pair_ending span_at
 pair-spans b v = by (record_at b v) (child_before b v)
   where
     last :
         (k : ℕ) (y : Node) (o : Option Node) →
-        and_then o (λ (x : Node). some (entry k x v y))
-        ≡ and_then (and_then o (λ (x : Node). some x.extent)) (λ (r : Extent). some (pair_with k r v y.extent))
-    last k y none = refl
-    last k y (some x) = refl
+        (o >>= (λ (x : Node). Some (entry k x v y)))
+        ≡ (option_map (λ (x : Node). x.extent) o >>= (λ (r : Extent). Some (pair_with k r v y.extent)))
+    last k y None = refl
+    last k y (Some x) = refl
 
     by :
         (o : Option Node) (p : Option ℕ) →
-        and_then o (λ (y : Node). and_then p (λ (k : ℕ). and_then (record_at b k) (λ (x : Node). some (entry k x v y))))
-        ≡ and_then (and_then o (λ (y : Node). some y.extent))
-        (λ (s : Extent). and_then p (λ (k : ℕ). and_then (and_then (record_at b k) (λ (x : Node). some x.extent)) (λ (r : Extent). some (pair_with k r v s))))
-    by none p = refl
-    by (some y) none = refl
-    by (some y) (some k) = last k y (record_at b k)
+        (o >>= (λ (y : Node). p >>= (λ (k : ℕ). record_at b k >>= (λ (x : Node). Some (entry k x v y)))))
+        ≡ (option_map (λ (y : Node). y.extent) o
+        >>= (λ (s : Extent). p >>= (λ (k : ℕ). option_map (λ (x : Node). x.extent) (record_at b k) >>= (λ (r : Extent). Some (pair_with k r v s)))))
+    by None p = refl
+    by (Some y) None = refl
+    by (Some y) (Some k) = last k y (record_at b k)

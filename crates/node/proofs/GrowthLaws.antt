@@ -3,7 +3,8 @@
 use mathlib.Core.Path.{◌≡◌, refl, sym, ap, subst, ◌∙◌}
 use mathlib.Core.Bool.{Bool, true, false, ◌&&◌, not, cond}
 use mathlib.Core.List.{List, [], ◌∷◌, ◌++◌, append_assoc, append-nil}
-use mathlib.Core.Option.{Option, none, some}
+use Rattle.std.specs.Prelude.{Option, Result, Ok, Err}
+use Rattle.std.proofs.Math.Option as maybe
 use Prim.Native.Nat.{ℕ, zero, suc, ◌+◌, ◌%◌, ◌<◌, ◌≤◌}
 use native.Mathlib.Decide.{dec_lt}
 use native.Mathlib.Omega.{arith}
@@ -14,13 +15,13 @@ use Rattle.schema.specs.Record.{kind_number}
 use Rattle.schema.specs.declared.plain.Resolved.{Resolved}
 use Rattle.schema.specs.declared.plain.Resolved.TheVariants.{Null, Boolean, Integer, Real, Str, BadValue}
 use Rattle.text.specs.Offset.{byte_offset}
-use Rattle.text.specs.Admission.{admission, admission_number}
-use Rattle.text.specs.declared.admission.Admission.{Admission}
-use Rattle.text.specs.declared.admission.Admission.TheVariants.{Admitted, TooLong, NotUtf8}
+use Rattle.text.specs.Admission.{admission, error_number}
+use Rattle.text.specs.declared.admission.TextError.{TextError}
 use Rattle.provenance.specs.Reading.{Piece}
 use Rattle.event.specs.Read.{events_limit, read_event}
+use Rattle.event.specs.declared.malformed.Malformed.{Malformed}
 use Rattle.event.specs.declared.read.Event.{Event}
-use Rattle.event.specs.declared.read.Event.TheVariants.{SequenceStart, SequenceEnd, MappingStart, MappingEnd, Scalar, Alias, Malformed}
+use Rattle.event.specs.declared.read.Event.TheVariants.{SequenceStart, SequenceEnd, MappingStart, MappingEnd, Scalar, Alias}
 use Rattle.event.specs.declared.tag.YamlTag.{YamlTag}
 use Rattle.records.specs.Record.{with_list, alias_node}
 use Rattle.spans.specs.Scalar.{ScalarAt, list_at, suffix_of, tag_info, resolved_by, scalar_over, scalar_node, mark, scalar_given, event_scalar, event_node}
@@ -163,11 +164,11 @@ leaf-added (growing fs) st x ps k d t s =
 leaf-added (grown y others) st x ps k d t s = absurd (true_not_false (sym (root_is_done st y others k) ∙ d))
 
 leaf-kept :
-    (g : Progress) (st n : State) (room : ℕ) (x : Node) (l : Option (List Piece)) → Kept g st.opens st.nodes → root_done st ≡ false → Tree x nil → HasShape scalar x →
+    (g : Progress) (st n : State) (room : ℕ) (x : Node) (l : maybe.Option (List Piece)) → Kept g st.opens st.nodes → root_done st ≡ false → Tree x nil → HasShape scalar x →
     keeping room x l st ≡ go n → Advance leaf g st n
 unfolding keeping
-leaf-kept g st n room x none k d t s e = reached leaf g st (completed x st) n (leaf-added g st x st.pieces k d t s) e
-leaf-kept g st n room x (some ps) k d t s e =
+leaf-kept g st n room x maybe.none k d t s e = reached leaf g st (completed x st) n (leaf-added g st x st.pieces k d t s) e
+leaf-kept g st n room x (maybe.some ps) k d t s e =
     let y = with_list x (length st.pieces) (length ps) in
     let u : Tree y nil = record { kind = t.kind; count = t.count; scalar = t.scalar; array = t.array; hash = t.hash } in
     let a = completed y (record { nodes = st.nodes; opens = st.opens; pieces = st.pieces ++ ps }) in
@@ -182,7 +183,7 @@ kind_bounds Str = (omega arith, omega arith)
 kind_bounds BadValue = (omega arith, omega arith)
 
 scalar-kept :
-    (text events : List ℕ) (room : ℕ) (x : ScalarAt) (tag : YamlTag) (g : Progress) (st n : State) →
+    (text events : List ℕ) (room : ℕ) (x : ScalarAt) (tag : Option YamlTag) (g : Progress) (st n : State) →
     Kept g st.opens st.nodes → root_done st ≡ false → scalar_kept text events room x tag st ≡ go n → Advance leaf g st n
 unfolding scalar_kept event_node scalar_over
 scalar-kept text events room x tag g st n k d e =
@@ -284,7 +285,7 @@ end_kept text room mapping index (o ∷ os) g st n k e =
 -- ---- starts
 
 start-kept :
-    (text : List ℕ) (mapping : Bool) (index : ℕ) (tag : YamlTag) (g : Progress) (st n : State) →
+    (text : List ℕ) (mapping : Bool) (index : ℕ) (tag : Option YamlTag) (g : Progress) (st n : State) →
     Kept g st.opens st.nodes → on_start text mapping index tag st ≡ go n → Advance opening g st n
 unfolding on_start before_root within_depth growth SoundForest post_order
 start-kept text mapping index tag (grown y others) st n k e = absurd (true_not_false (sym (root_is_done st y others k) ∙ (cond_goes (root_done st) 5 _ n e).0))
@@ -324,23 +325,23 @@ built_at false xs ys ps qs k e = absurd (refused_not_built 9 k ys qs e)
 -- ---- every step
 
 module _ (text events : List ℕ) (room piece_room : ℕ) where
-  step_kept : (e : Event) (g : Progress) (st n : State) → Kept g st.opens st.nodes → on_event text events room piece_room e st ≡ go n → Advance (effect_of e) g st n
+  step_kept : (e : Result Event Malformed) (g : Progress) (st n : State) → Kept g st.opens st.nodes → on_event text events room piece_room e st ≡ go n → Advance (effect_of e) g st n
   unfolding on_alias on_scalar before_root within_room
-  step_kept (SequenceStart index tag m) g st n k e = start-kept text false index tag g st n k e
-  step_kept (SequenceEnd index m) g st n k e = end_kept text room false index st.opens g st n k e
-  step_kept (MappingStart index tag m) g st n k e = start-kept text true index tag g st n k e
-  step_kept (MappingEnd index m) g st n k e = end_kept text room true index st.opens g st n k e
-  step_kept (Scalar index column style empty_span tag value m) g st n k e =
+  step_kept (Ok (SequenceStart index tag m)) g st n k e = start-kept text false index tag g st n k e
+  step_kept (Ok (SequenceEnd index m)) g st n k e = end_kept text room false index st.opens g st n k e
+  step_kept (Ok (MappingStart index tag m)) g st n k e = start-kept text true index tag g st n k e
+  step_kept (Ok (MappingEnd index m)) g st n k e = end_kept text room true index st.opens g st n k e
+  step_kept (Ok (Scalar index column style empty_span tag value m)) g st n k e =
       let a = cond_goes (root_done st) 5 _ n e in
       let b = cond_goes (leb room (length st.nodes)) 7 _ n a.1 in
       scalar-kept text events piece_room (event_scalar text events (byte_offset text index) (awaits_value st.opens) (scalar_given (mark index column style empty_span) tag value)) tag g st n k a.0 b.1
-  step_kept (Alias index m) g st n k e =
+  step_kept (Ok (Alias index m)) g st n k e =
       let a = cond_goes (root_done st) 5 _ n e in
       let b = cond_goes (leb room (length st.nodes)) 7 _ n a.1 in
       let x = alias_node (byte_offset text index) in
       let s : HasShape scalar x = (omega arith, omega arith) in
       reached leaf g st (completed x st) n (leaf-added g st x st.pieces k a.0 (leaf_tree x s refl) s) b.1
-  step_kept Malformed g st n k e = absurd (stop_not_go 3 n e)
+  step_kept (Err x) g st n k e = absurd (stop_not_go _ n e)
 
   -- ---- the ending
 
@@ -435,10 +436,9 @@ module _ (text events : List ℕ) (room piece_room : ℕ) where
 
 -- ---- the call
 
-admitted-built : (a : Admission) (o : Outcome) (xs : List Node) (ps : List Piece) → admitted a o ≡ built xs ps → o ≡ built xs ps
-admitted-built (Admitted ascii) o xs ps e = e
-admitted-built TooLong o xs ps e = absurd (refused_not_built (admission_number TooLong) 0 xs ps e)
-admitted-built NotUtf8 o xs ps e = absurd (refused_not_built (admission_number NotUtf8) 0 xs ps e)
+admitted-built : (a : Result Bool TextError) (o : Outcome) (xs : List Node) (ps : List Piece) → admitted a o ≡ built xs ps → o ≡ built xs ps
+admitted-built (Ok ascii) o xs ps e = e
+admitted-built (Err x) o xs ps e = absurd (refused_not_built (error_number x) 0 xs ps e)
 
 limited_built : (t : Bool) (o : Outcome) (xs : List Node) (ps : List Piece) → cond t (refused 1 0) o ≡ built xs ps → o ≡ built xs ps
 limited_built true o xs ps e = absurd (refused_not_built 1 0 xs ps e)

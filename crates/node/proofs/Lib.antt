@@ -1,6 +1,6 @@
 -- The tree theorem, and lemmas that serve several functions, by subject.
--- parts of buffers, offsets in a text
-mod Parts
+-- offsets in an admitted text
+mod Offsets
 -- answers told through other answers
 mod Answers
 -- steps back over children, and over pairs

@@ -3,16 +3,17 @@ use mathlib.Core.Path.{◌≡◌, refl, sym, ap, subst, ◌∙◌}
 use mathlib.Core.Bool.{Bool, true, false}
 use mathlib.Core.Logic.{◌⊎◌, inl, inr}
 use mathlib.Core.List.{List, [], ◌∷◌, ◌++◌, append_assoc, append-nil}
-use mathlib.Core.Option.{Option, none, some, none-ne-some, some-injective}
+use Rattle.std.specs.Prelude.{None, Option, Some, if◌then◌else◌, option_and_then, option_map, slice_get}
+use Rattle.std.proofs.lemmas.Option.{none-some, same_Some, slice_get_past, slice_get_within}
 use Prim.Native.Nat.{ℕ, zero, suc, ◌+◌, ◌-◌, ◌*◌, ◌<◌}
 use native.Mathlib.Decide.{dec_lt}
 use native.Mathlib.Omega.{arith}
 use borrow.Author.Tests.{lt-ltb, le-leb, eqb-true}
 use lib.Dec.{eqb}
-use lib.ListN.{length, get_elem?, length-append}
+use lib.ListN.{length, length-append}
 use Rattle.records.specs.Layout.{laid_nodes}
 use Rattle.records.specs.declared.record.Node.{Node}
-use Rattle.node.specs.Chain.{and_then, when}
+use Rattle.node.specs.Chain.{◌>>=◌}
 use Rattle.node.proofs.Answers.{members_of, item_members, entry-members}
 use Rattle.node.proofs.Members.{member_left, member_right, member_past, member_within, member_some}
 use Rattle.node.specs.Record.{is_kind, existing, record_at}
@@ -75,8 +76,8 @@ located (snoc f y others) p n h = by (dec_lt n (nodes_in f)) (dec_lt n (nodes_in
 
 -- the roots two by two: a pair's key and value are among them
 pair-roots :
-    (p : ℕ) (f : Forest) (i : ℕ) (e : YamlHashEntry) → get_elem? (pairs_of p f) i ≡ some e →
-    ((j : ℕ) × (get_elem? (roots p f) j ≡ some e.key)) × ((j : ℕ) × (get_elem? (roots p f) j ≡ some e.value))
+    (p : ℕ) (f : Forest) (i : ℕ) (e : YamlHashEntry) → slice_get (pairs_of p f) i ≡ Some e →
+    ((j : ℕ) × (slice_get (roots p f) j ≡ Some e.key)) × ((j : ℕ) × (slice_get (roots p f) j ≡ Some e.value))
 pair-roots p nil i e q = absurd (let h = member_within (pairs_of p nil) i e q in omega arith)
 pair-roots p (snoc nil x kids) i e q = absurd (let h = member_within (pairs_of p (snoc nil x kids)) i e q in omega arith)
 pair-roots p (snoc (snoc f y others) x kids) i e q = by (dec_lt i (length (pairs_of p f))) (pair-roots p f i e)
@@ -85,7 +86,7 @@ pair-roots p (snoc (snoc f y others) x kids) i e q = by (dec_lt i (length (pairs
     whole = snoc (snoc f y others) x kids
 
     In : Forest → ℕ → Type 0
-    In g r = (j : ℕ) × (get_elem? (roots p g) j ≡ some r)
+    In g r = (j : ℕ) × (slice_get (roots p g) j ≡ Some r)
 
     further : (r : ℕ) → In f r → In whole r
     further r (j, h) =
@@ -93,7 +94,7 @@ pair-roots p (snoc (snoc f y others) x kids) i e q = by (dec_lt i (length (pairs
         let m = length-append (roots p f) (last_root p (snoc f y others) ∷ []) in
         (j, member_left (roots p (snoc f y others)) _ j (omega arith) ∙ member_left (roots p f) _ j w ∙ h)
 
-    by : Dec (i < length (pairs_of p f)) → (get_elem? (pairs_of p f) i ≡ some e → In f e.key × In f e.value) → In whole e.key × In whole e.value
+    by : Dec (i < length (pairs_of p f)) → (slice_get (pairs_of p f) i ≡ Some e → In f e.key × In f e.value) → In whole e.key × In whole e.value
     by (yes l) before =
         let w = before (sym (member_left (pairs_of p f) _ i l) ∙ q) in
         (further e.key w.0, further e.value w.1)
@@ -102,17 +103,17 @@ pair-roots p (snoc (snoc f y others) x kids) i e q = by (dec_lt i (length (pairs
         let n = member_within (pairs_of p whole) i e q in
         let m = length-append (pairs_of p f) (last ∷ []) in
         let here : i ≡ length (pairs_of p f) + 0 = omega arith in
-        let z = some-injective e last (sym q ∙ ap (get_elem? (pairs_of p whole)) here ∙ member_right (pairs_of p f) (last ∷ []) 0) in
+        let z = same_Some e last (sym q ∙ ap (slice_get (pairs_of p whole)) here ∙ member_right (pairs_of p f) (last ∷ []) 0) in
         let k = member_right (roots p f) (last_root p (snoc f y others) ∷ []) 0 in
         let a = length-append (roots p f) (last_root p (snoc f y others) ∷ []) in (
-          (length (roots p f) + 0, member_left (roots p (snoc f y others)) _ (length (roots p f) + 0) (omega arith) ∙ k ∙ ap (λ (d : YamlHashEntry). some d.key) (sym z)),
-          (length (roots p (snoc f y others)) + 0, member_right (roots p (snoc f y others)) (last_root p whole ∷ []) 0 ∙ ap (λ (d : YamlHashEntry). some d.value) (sym z)),
+          (length (roots p f) + 0, member_left (roots p (snoc f y others)) _ (length (roots p f) + 0) (omega arith) ∙ k ∙ ap (λ (d : YamlHashEntry). Some d.key) (sym z)),
+          (length (roots p (snoc f y others)) + 0, member_right (roots p (snoc f y others)) (last_root p whole ∷ []) 0 ∙ ap (λ (d : YamlHashEntry). Some d.value) (sym z)),
         )
 
 -- and of an even number of roots each is a pair's key or value
 root-pairs :
-    (p m : ℕ) (f : Forest) (i r : ℕ) → trees f ≡ 2 * m → get_elem? (roots p f) i ≡ some r →
-    (j : ℕ) × (e : YamlHashEntry) × (get_elem? (pairs_of p f) j ≡ some e) × ((e.key ≡ r) ⊎ (e.value ≡ r))
+    (p m : ℕ) (f : Forest) (i r : ℕ) → trees f ≡ 2 * m → slice_get (roots p f) i ≡ Some r →
+    (j : ℕ) × (e : YamlHashEntry) × (slice_get (pairs_of p f) j ≡ Some e) × ((e.key ≡ r) ⊎ (e.value ≡ r))
 root-pairs p m nil i r t q = absurd (let h = member_within (roots p nil) i r q in omega arith)
 root-pairs p m (snoc nil x kids) i r t q = absurd (omega arith)
 root-pairs p m (snoc (snoc f y others) x kids) i r t q =
@@ -125,12 +126,12 @@ root-pairs p m (snoc (snoc f y others) x kids) i r t q =
     last = forest.last_entry p f y others x kids
 
     Found : Forest → Type 0
-    Found g = (j : ℕ) × (e : YamlHashEntry) × (get_elem? (pairs_of p g) j ≡ some e) × ((e.key ≡ r) ⊎ (e.value ≡ r))
+    Found g = (j : ℕ) × (e : YamlHashEntry) × (slice_get (pairs_of p g) j ≡ Some e) × ((e.key ≡ r) ⊎ (e.value ≡ r))
 
-    at_last_pair : get_elem? (pairs_of p whole) (length (pairs_of p f) + 0) ≡ some last
+    at_last_pair : slice_get (pairs_of p whole) (length (pairs_of p f) + 0) ≡ Some last
     at_last_pair = member_right (pairs_of p f) (last ∷ []) 0
 
-    by : Dec (i < length (roots p f)) → Dec (i < length (roots p (snoc f y others))) → (get_elem? (roots p f) i ≡ some r → Found f) → Found whole
+    by : Dec (i < length (roots p f)) → Dec (i < length (roots p (snoc f y others))) → (slice_get (roots p f) i ≡ Some r → Found f) → Found whole
     by (yes l) d before =
         let a = length-append (roots p f) (last_root p (snoc f y others) ∷ []) in
         let w = before (sym (member_left (roots p (snoc f y others)) _ i (omega arith) ∙ member_left (roots p f) _ i l) ∙ q) in
@@ -139,34 +140,34 @@ root-pairs p m (snoc (snoc f y others) x kids) i r t q =
         let k = last_root p (snoc f y others) in
         let a = length-append (roots p f) (k ∷ []) in
         let here : i ≡ length (roots p f) + 0 = omega arith in
-        let z = some-injective k r (sym (member_right (roots p f) (k ∷ []) 0) ∙ ap (get_elem? (roots p (snoc f y others))) (sym here) ∙ sym (member_left (roots p (snoc f y others)) _ i d) ∙ q) in
+        let z = same_Some k r (sym (member_right (roots p f) (k ∷ []) 0) ∙ ap (slice_get (roots p (snoc f y others))) (sym here) ∙ sym (member_left (roots p (snoc f y others)) _ i d) ∙ q) in
         (length (pairs_of p f) + 0, last, at_last_pair, inl z)
     by (no l) (no d) before =
         let v = last_root p whole in
         let n = member_within (roots p whole) i r q in
         let a = length-append (roots p (snoc f y others)) (v ∷ []) in
         let here : i ≡ length (roots p (snoc f y others)) + 0 = omega arith in
-        let z = some-injective v r (sym (member_right (roots p (snoc f y others)) (v ∷ []) 0) ∙ ap (get_elem? (roots p whole)) (sym here) ∙ q) in
+        let z = same_Some v r (sym (member_right (roots p (snoc f y others)) (v ∷ []) 0) ∙ ap (slice_get (roots p whole)) (sym here) ∙ q) in
         (length (pairs_of p f) + 0, last, at_last_pair, inr z)
 
 -- ---- only a collection has children
 
 -- where members led to an answer there is a collection of that kind
-only_kind : {A : Type 0} (kind : ℕ) (g : ℕ → Option A) (a : A) (o : Option Node) → and_then (members_of kind o) g ≡ some a → (y : Node) × (o ≡ some y) × (y.kind ≡ kind)
-only_kind kind g a none e = absurd (none-ne-some a e)
-only_kind kind g a (some y) e = (y, refl, eqb-true y.kind kind (by (eqb y.kind kind) e))
+only_kind : {A : Type 0} (kind : ℕ) (g : ℕ → Option A) (a : A) (o : Option Node) → (members_of kind o >>= g) ≡ Some a → (y : Node) × (o ≡ Some y) × (y.kind ≡ kind)
+only_kind kind g a None e = absurd (none-some a e)
+only_kind kind g a (Some y) e = (y, refl, eqb-true y.kind kind (by (eqb y.kind kind) e))
   where
-    by : (t : Bool) → and_then (when t (some y.payload.first)) g ≡ some a → t ≡ true
+    by : (t : Bool) → ((if t then Some y.payload.first else None) >>= g) ≡ Some a → t ≡ true
     by true e = refl
-    by false e = absurd (none-ne-some a e)
+    by false e = absurd (none-some a e)
 
 -- a record stands within the nodes
-record_within : (size : ℕ) (xs : List Node) (n : ℕ) (y : Node) → record_at (laid_nodes size xs) n ≡ some y → n < length xs
+record_within : (size : ℕ) (xs : List Node) (n : ℕ) (y : Node) → record_at (laid_nodes size xs) n ≡ Some y → n < length xs
 record_within size xs n y e = by (dec_lt n (length xs))
   where
     by : Dec (n < length xs) → n < length xs
     by (yes l) = l
-    by (no l) = absurd (none-ne-some y (sym (record_laid size xs n ∙ ap (λ (o : Option Node). and_then o existing) (member_past xs n (omega arith))) ∙ e))
+    by (no l) = absurd (none-some y (sym (record_laid size xs n ∙ ap (λ (o : Option Node). o >>= existing) (member_past xs n (omega arith))) ∙ e))
 
 -- ---- nodes of these shapes
 
@@ -181,11 +182,11 @@ shaped_length [] (x ∷ xs) h = absurd h
 shaped_length (s ∷ ss) [] h = absurd h
 shaped_length (s ∷ ss) (x ∷ xs) (a, h) = ap suc (shaped_length ss xs h)
 
-shaped_member : (ss : List Shape) (xs : List Node) → Shaped ss xs → (j : ℕ) (s : Shape) → get_elem? ss j ≡ some s → (y : Node) × (get_elem? xs j ≡ some y) × HasShape s y
-shaped_member [] [] h j s e = absurd (none-ne-some s e)
+shaped_member : (ss : List Shape) (xs : List Node) → Shaped ss xs → (j : ℕ) (s : Shape) → slice_get ss j ≡ Some s → (y : Node) × (slice_get xs j ≡ Some y) × HasShape s y
+shaped_member [] [] h j s e = absurd (none-some s e)
 shaped_member [] (x ∷ xs) h j s e = absurd h
 shaped_member (t ∷ ss) [] h j s e = absurd h
-shaped_member (t ∷ ss) (x ∷ xs) (a, h) zero s e = (x, refl, subst (λ (z : Shape). HasShape z x) (some-injective t s e) a)
+shaped_member (t ∷ ss) (x ∷ xs) (a, h) zero s e = (x, refl, subst (λ (z : Shape). HasShape z x) (same_Some t s e) a)
 shaped_member (t ∷ ss) (x ∷ xs) (a, h) (suc j) s e = shaped_member ss xs h j s e
 
 -- ---- over the nodes of a whole tree
@@ -229,16 +230,16 @@ module _ (size : ℕ) (events : List ℕ) (x : Node) (kids : Forest) (xs : List 
 
   -- ---- kinds
 
-  kinds : (ss : List Shape) → Shaped ss xs → (j : ℕ) (s : Shape) → get_elem? ss j ≡ some s → (y : Node) × (record_at (laid_nodes size xs) j ≡ some y) × HasShape s y
+  kinds : (ss : List Shape) → Shaped ss xs → (j : ℕ) (s : Shape) → slice_get ss j ≡ Some s → (y : Node) × (record_at (laid_nodes size xs) j ≡ Some y) × HasShape s y
   unfolding existing
   kinds ss h j s e =
       let f = shaped_member ss xs h j s e in
-      let is : existing f.0 ≡ some f.0 = rw (shape_is_kind s f.0 f.2) in
-      (f.0, record_laid size xs j ∙ ap (λ (o : Option Node). and_then o existing) f.1 ∙ is, f.2)
+      let is : existing f.0 ≡ Some f.0 = rw (shape_is_kind s f.0 f.2) in
+      (f.0, record_laid size xs j ∙ ap (λ (o : Option Node). o >>= existing) f.1 ∙ is, f.2)
 
   -- ---- children by the accessors and children in the tree
 
-  root_child : (s : ℕ) (y : Node) (others : Forest) (i c : ℕ) → Has tree 0 s y others → get_elem? (roots s others) i ≡ some c → IsChild (laid_nodes size xs) (s + nodes_in others) c
+  root_child : (s : ℕ) (y : Node) (others : Forest) (i c : ℕ) → Has tree 0 s y others → slice_get (roots s others) i ≡ Some c → IsChild (laid_nodes size xs) (s + nodes_in others) c
   root_child s y others i c h e = by (dec_lt y.kind 7) (dec_lt y.kind 8) (at s y others h).root
     where
       by : Dec (y.kind < 7) → Dec (y.kind < 8) → Tree y others → IsChild (laid_nodes size xs) (s + nodes_in others) c
@@ -255,16 +256,16 @@ module _ (size : ℕ) (events : List ℕ) (x : Node) (kids : Forest) (xs : List 
           inr (u.0, u.1, (nodes s y others h).pairs eight u.0 ∙ u.2, u.3)
 
   Rooted : ℕ → ℕ → Type 0
-  Rooted m c = (s : ℕ) × (y : Node) × (others : Forest) × Has tree 0 s y others × (m ≡ s + nodes_in others) × (i : ℕ) × (get_elem? (roots s others) i ≡ some c)
+  Rooted m c = (s : ℕ) × (y : Node) × (others : Forest) × Has tree 0 s y others × (m ≡ s + nodes_in others) × (i : ℕ) × (slice_get (roots s others) i ≡ Some c)
 
-  found : (m : ℕ) (y : Node) → record_at (laid_nodes size xs) m ≡ some y → (s : ℕ) × (z : Node) × (others : Forest) × Has tree 0 s z others × (m ≡ s + nodes_in others) × (z ≡ y)
+  found : (m : ℕ) (y : Node) → record_at (laid_nodes size xs) m ≡ Some y → (s : ℕ) × (z : Node) × (others : Forest) × Has tree 0 s z others × (m ≡ s + nodes_in others) × (z ≡ y)
   unfolding tree post_order
   found m y e =
       let n = record_within size xs m y e in
       let t = ap length order in
       let f = located tree 0 m (omega arith) in
       let q : m ≡ f.0 + nodes_in f.2 = let z = f.4 in omega arith in
-      (f.0, f.1, f.2, f.3, q, some-injective f.1 y (sym (nodes f.0 f.1 f.2 f.3).itself ∙ ap (record_at (laid_nodes size xs)) (sym q) ∙ e))
+      (f.0, f.1, f.2, f.3, q, same_Some f.1 y (sym (nodes f.0 f.1 f.2 f.3).itself ∙ ap (record_at (laid_nodes size xs)) (sym q) ∙ e))
 
   child_root : (m c : ℕ) → IsChild (laid_nodes size xs) m c → Rooted m c
   unfolding Rooted
@@ -283,21 +284,21 @@ module _ (size : ℕ) (events : List ℕ) (x : Node) (kids : Forest) (xs : List 
     where
       by :
           (s : ℕ) (others : Forest) → (d.key ≡ c) ⊎ (d.value ≡ c) →
-          (j : ℕ) × (get_elem? (roots s others) j ≡ some d.key) → (j : ℕ) × (get_elem? (roots s others) j ≡ some d.value) →
-          (j : ℕ) × (get_elem? (roots s others) j ≡ some c)
-      by s others (inl q) k v = (k.0, k.1 ∙ ap some q)
-      by s others (inr q) k v = (v.0, v.1 ∙ ap some q)
+          (j : ℕ) × (slice_get (roots s others) j ≡ Some d.key) → (j : ℕ) × (slice_get (roots s others) j ≡ Some d.value) →
+          (j : ℕ) × (slice_get (roots s others) j ≡ Some c)
+      by s others (inl q) k v = (k.0, k.1 ∙ ap Some q)
+      by s others (inr q) k v = (v.0, v.1 ∙ ap Some q)
 
   -- ---- exactly one parent
 
   -- the parent that the list has for c
-  only_parent : (q m c : ℕ) → IsChild (laid_nodes size xs) m c → get_elem? (parents 0 q tree) c ≡ some m
+  only_parent : (q m c : ℕ) → IsChild (laid_nodes size xs) m c → slice_get (parents 0 q tree) c ≡ Some m
   unfolding Rooted
   only_parent q m c h =
       let r = child_root m c h in
       let v = child-parent 0 q tree r.0 r.1 r.2 r.5 c r.3 r.6 in
       let same : c ≡ v.0 = let z = v.1 in omega arith in
-      ap (get_elem? (parents 0 q tree)) same ∙ v.2 ∙ ap some (sym r.4)
+      ap (slice_get (parents 0 q tree)) same ∙ v.2 ∙ ap Some (sym r.4)
 
   one_parent : (c : ℕ) → c < nodes_in kids → (p : ℕ) × IsChild (laid_nodes size xs) p c × ((m : ℕ) → IsChild (laid_nodes size xs) m c → m ≡ p)
   unfolding tree post_order
@@ -305,30 +306,30 @@ module _ (size : ℕ) (events : List ℕ) (x : Node) (kids : Forest) (xs : List 
       let n = tree_nodes in
       let k = parents-length 0 0 tree in
       let f = member_some (parents 0 0 tree) c (omega arith) in
-      (f.0, by f.0 (parent_child 0 0 tree c f.0 f.1), λ m h. some-injective m f.0 (sym (only_parent 0 m c h) ∙ f.1))
+      (f.0, by f.0 (parent_child 0 0 tree c f.0 f.1), λ m h. same_Some m f.0 (sym (only_parent 0 m c h) ∙ f.1))
     where
       by : (n : ℕ) → Parent 0 0 tree c n → IsChild (laid_nodes size xs) n c
       by n (inl (a, i, r)) =
           let h = member_within (roots 0 tree) i (0 + c) r in
           let first : i ≡ 0 = omega arith in
-          let z = some-injective (last_root 0 tree) (0 + c) (ap (get_elem? (roots 0 tree)) (sym first) ∙ r) in
+          let z = same_Some (last_root 0 tree) (0 + c) (ap (slice_get (roots 0 tree)) (sym first) ∙ r) in
           absurd (omega arith)
       by n (inr (s, y, others, h, q, i, r)) =
-          subst (λ (z : ℕ). IsChild (laid_nodes size xs) z c) (sym q) (root_child s y others i c h (r ∙ ap some (omega arith)))
+          subst (λ (z : ℕ). IsChild (laid_nodes size xs) z c) (sym q) (root_child s y others i c h (r ∙ ap Some (omega arith)))
 
   root_no_child : (m : ℕ) → IsChild (laid_nodes size xs) m (nodes_in kids) → ⊥
   unfolding tree post_order
   root_no_child m h =
       let here : nodes_in nil + nodes_in kids ≡ nodes_in kids = omega arith in
-      let z = some-injective m (suc m) (sym (only_parent (suc m) m (nodes_in kids) h) ∙ ap (get_elem? (parents 0 (suc m) tree)) (sym here) ∙ at_last 0 (suc m) nil x kids) in
+      let z = same_Some m (suc m) (sym (only_parent (suc m) m (nodes_in kids) h) ∙ ap (slice_get (parents 0 (suc m) tree)) (sym here) ∙ at_last 0 (suc m) nil x kids) in
       absurd (omega arith)
 
-  last_is_root : length xs ≡ nodes_in kids + 1 → record_before (laid_nodes size xs) (length xs) ≡ some (nodes_in kids)
+  last_is_root : length xs ≡ nodes_in kids + 1 → record_before (laid_nodes size xs) (length xs) ≡ Some (nodes_in kids)
   unfolding tree Has record_before place_at post_order
   last_is_root n =
       let r = (nodes 0 x kids (inr (inr (refl, refl, refl)))).itself in
       let d : length xs - 1 ≡ 0 + nodes_in kids = omega arith in
-      rw (lt-ltb 0 (length xs) (omega arith), d, r) (ap some (omega arith))
+      rw (lt-ltb 0 (length xs) (omega arith), d, r) (ap Some (omega arith))
 
   whole_read_back : Shaped (completions events) xs → ReadBack (laid_nodes size xs) events (length xs) x kids
   unfolding tree

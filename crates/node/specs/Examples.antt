@@ -1,7 +1,5 @@
 -- Worked cases of the definitions, by computation, over records that are written out.
-use Rattle.std.specs.Prelude.{◌≡◌, refl, List, [], ◌∷◌, ◌++◌, ℕ, take}
-use Rattle.std.proofs.Math.Option.{none, some}
-use Rattle.utf8.specs.Ascii.{same_bytes}
+use Rattle.std.specs.Prelude.{◌≡◌, refl, List, [], ◌∷◌, ◌++◌, ℕ, take, Some, None}
 use Rattle.schema.specs.Record.{two_numbers}
 use Rattle.records.specs.Record.{node_numbers, node_of, extent, absent, no_tag, no_list}
 use Rattle.records.specs.declared.record.Node.{Node}
@@ -41,41 +39,41 @@ small_tree = opening ∷ leaf ∷ opening ∷ leaf ∷ leaf ∷ closing hash ∷
 
 pub record Cases : Type 0 where
   -- the root of seven nodes; its last child; the children before
-  pub root : record_before buffer 7 ≡ some 6
-  pub last : last_child buffer 6 ≡ some 5
-  pub before_key : child_before buffer 4 ≡ some 3
-  pub before_array : child_before buffer 3 ≡ some 0
-  pub before_none : child_before buffer 0 ≡ none
+  pub root : record_before buffer 7 ≡ Some 6
+  pub last : last_child buffer 6 ≡ Some 5
+  pub before_key : child_before buffer 4 ≡ Some 3
+  pub before_array : child_before buffer 3 ≡ Some 0
+  pub before_none : child_before buffer 0 ≡ None
   -- items and pairs by index; a hash has no items, an array no pairs
-  pub item_0 : array_item buffer 3 0 ≡ some 1
-  pub item_1 : array_item buffer 3 1 ≡ some 2
-  pub no_item_2 : array_item buffer 3 2 ≡ none
-  pub no_item_of_hash : array_item buffer 6 0 ≡ none
-  pub no_pair_of_array : hash_entry buffer 3 0 ≡ none
+  pub item_0 : array_item buffer 3 0 ≡ Some 1
+  pub item_1 : array_item buffer 3 1 ≡ Some 2
+  pub no_item_2 : array_item buffer 3 2 ≡ None
+  pub no_item_of_hash : array_item buffer 6 0 ≡ None
+  pub no_pair_of_array : hash_entry buffer 3 0 ≡ None
   -- the first pair: key 0, value 3, the entry from the key's start to the value's end
   pub first-pair :
       hash_entry buffer 6 0
-      ≡ some (record { key = 0; value = 3; key_span = extent 0 1; value_span = extent 3 9; entry_span = extent 0 9 })
+      ≡ Some (record { key = 0; value = 3; key_span = extent 0 1; value_span = extent 3 9; entry_span = extent 0 9 })
   -- of equal keys the first; an absent key; a key outside the event bytes
-  pub first_value : hash_value buffer events 6 (107 ∷ []) ≡ some 3
-  pub no_key : hash_value buffer events 6 (120 ∷ []) ≡ none
-  pub key_outside : hash_value buffer [] 6 (107 ∷ []) ≡ none
+  pub first_value : hash_value buffer events 6 (107 ∷ []) ≡ Some 3
+  pub no_key : hash_value buffer events 6 (120 ∷ []) ≡ None
+  pub key_outside : hash_value buffer [] 6 (107 ∷ []) ≡ None
   -- from the last child back to the first and no further; a scalar has no children, nor has a missing record
-  pub from_last_is : child_from_last buffer 3 1 ≡ some 1
-  pub no_further : child_from_last buffer 3 2 ≡ none
-  pub keys_too : child_from_last buffer 6 3 ≡ some 0
-  pub of_a_scalar : child_from_last buffer 2 0 ≡ none
-  pub of_none : child_from_last (row 1 0 0 1 0 0 ++ row 9 0 0 2 1 0) 1 0 ≡ none
+  pub from_last_is : child_from_last buffer 3 1 ≡ Some 1
+  pub no_further : child_from_last buffer 3 2 ≡ None
+  pub keys_too : child_from_last buffer 6 3 ≡ Some 0
+  pub of_a_scalar : child_from_last buffer 2 0 ≡ None
+  pub of_none : child_from_last (row 1 0 0 1 0 0 ++ row 9 0 0 2 1 0) 1 0 ≡ None
   -- records that are cut off, or of kind 0 or 9, are missing; a count of 0 is not followed, nor one that leads below record 0
-  pub cut_off : place_at (take 83 buffer) 6 ≡ none
-  pub kind_0 : place_at (row 0 0 0 1 0 0) 0 ≡ none
-  pub kind_9 : place_at (row 9 0 0 1 0 0) 0 ≡ none
-  pub count_0 : child_before (row 1 0 0 1 0 0 ++ row 1 0 0 0 0 0) 1 ≡ none
-  pub count_2 : child_before (row 1 0 0 1 0 0 ++ row 1 0 0 2 0 0) 1 ≡ none
+  pub cut_off : place_at (take 83 buffer) 6 ≡ None
+  pub kind_0 : place_at (row 0 0 0 1 0 0) 0 ≡ None
+  pub kind_9 : place_at (row 9 0 0 1 0 0) 0 ≡ None
+  pub count_0 : child_before (row 1 0 0 1 0 0 ++ row 1 0 0 0 0 0) 1 ≡ None
+  pub count_2 : child_before (row 1 0 0 1 0 0 ++ row 1 0 0 2 0 0) 1 ≡ None
   -- no tag only where all four of its numbers say so
-  pub no_tag_is : tag_of (null_with no_tag) 0 ≡ none
-  pub tag_of_length : tag_of (null_with (tag_with absent absent absent 0)) 0 ≡ some (tag_with absent absent absent 0)
-  pub tag_of_no_start : tag_of (null_with (tag_with absent 2 3 1)) 0 ≡ some (tag_with absent 2 3 1)
+  pub no_tag_is : tag_of (null_with no_tag) 0 ≡ None
+  pub tag_of_length : tag_of (null_with (tag_with absent absent absent 0)) 0 ≡ Some (tag_with absent absent absent 0)
+  pub tag_of_no_start : tag_of (null_with (tag_with absent 2 3 1)) 0 ≡ Some (tag_with absent 2 3 1)
   -- five nodes, in the order of their completion; the root is the last
   pub small-tree :
       (a b c d e : Node) →
@@ -84,7 +82,7 @@ pub record Cases : Type 0 where
 
 pub cases : Cases
 unfolding record_before last_child len_at child_before place_at record_at existing node_of node_numbers array_item hash_entry child_from_last steps_back pair_ending
-    hash_value search_back key_is string_is same_bytes tag_of is_absent growth
+    hash_value search_back key_is string_is tag_of is_absent growth
 cases =
     record {
       root = refl;

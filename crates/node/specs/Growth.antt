@@ -1,10 +1,11 @@
 -- The tree that events make (N3): the children of a collection are the nodes completed directly under it, in the order of the events. It goes
 -- by what an event does to the tree and by nothing else; the completed nodes come one by one from a list, the order of their completion.
 -- What each of them is, an array, a hash or neither, is also said by the events alone (`completions`).
-use Rattle.std.specs.Prelude.{cond, ◌≡◌, ℕ, zero, suc, ◌≤◌, List, [], ◌∷◌, ltb, length}
+use Rattle.std.specs.Prelude.{cond, ◌≡◌, ℕ, zero, suc, ◌≤◌, List, [], ◌∷◌, ltb, length, Result, Ok, Err}
 use Rattle.event.specs.Read.{read_event}
+use Rattle.event.specs.declared.malformed.Malformed.{Malformed}
 use Rattle.event.specs.declared.read.Event.{Event}
-use Rattle.event.specs.declared.read.Event.TheVariants.{SequenceStart, SequenceEnd, MappingStart, MappingEnd, Scalar, Alias, Malformed}
+use Rattle.event.specs.declared.read.Event.TheVariants.{SequenceStart, SequenceEnd, MappingStart, MappingEnd, Scalar, Alias}
 use Rattle.parser.specs.Machine.{next_place}
 use Rattle.records.specs.declared.record.Node.{Node}
 use Rattle.node.specs.Forest.{Forest, nil, snoc}
@@ -24,14 +25,14 @@ pub data Effect : Type 0 where
   leaf : Effect
   faulty : Effect
 
-abbrev pub effect_of : Event → Effect
-effect_of (SequenceStart index tag n) = opening
-effect_of (SequenceEnd index n) = closing array
-effect_of (MappingStart index tag n) = opening
-effect_of (MappingEnd index n) = closing hash
-effect_of (Scalar index column style empty_span tag value n) = leaf
-effect_of (Alias index n) = leaf
-effect_of Malformed = faulty
+abbrev pub effect_of : Result Event Malformed → Effect
+effect_of (Ok (SequenceStart index tag n)) = opening
+effect_of (Ok (SequenceEnd index n)) = closing array
+effect_of (Ok (MappingStart index tag n)) = opening
+effect_of (Ok (MappingEnd index n)) = closing hash
+effect_of (Ok (Scalar index column style empty_span tag value n)) = leaf
+effect_of (Ok (Alias index n)) = leaf
+effect_of (Err e) = faulty
 
 -- of the events from the place i on; each takes a byte or more, and no more than f are read
 unfoldable pub effects_from : List ℕ → ℕ → ℕ → List Effect

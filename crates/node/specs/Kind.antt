@@ -1,13 +1,8 @@
 -- Kinds and counts (N3). A missing record answers none, to a test of its kind too.
-use Rattle.std.specs.Prelude.{ℕ, ◌*◌, Bool, cond, List, ltb, eqb}
-use Rattle.std.proofs.Math.Option.{Option, none, some}
+use Rattle.std.specs.Prelude.{ℕ, ◌*◌, Bool, cond, if◌then◌else◌, List, ltb, eqb, Option, Some, None, option_map}
 use Rattle.records.specs.declared.record.Node.{Node}
-use Rattle.node.specs.Chain.{and_then}
+use Rattle.node.specs.Chain.{◌>>=◌}
 use Rattle.node.specs.Record.{record_at}
-use Rattle.node.specs.declared.kind.Flag.{Flag}
-use Rattle.node.specs.declared.kind.Flag.TheVariants as flag
-use Rattle.node.specs.declared.kind.Count.{Count}
-use Rattle.node.specs.declared.kind.Count.TheVariants as count
 
 -- ---- of a node
 
@@ -31,25 +26,22 @@ children x = cond (is_scalar x) 0 (cond (is_hash x) (2 * x.payload.first) x.payl
 -- ---- of a record
 
 unfoldable pub is_scalar_at : List ℕ → ℕ → Option Bool
-is_scalar_at b n = and_then (record_at b n) (λ (x : Node). some (is_scalar x))
+is_scalar_at b n = option_map is_scalar (record_at b n)
 
 unfoldable pub is_array_at : List ℕ → ℕ → Option Bool
-is_array_at b n = and_then (record_at b n) (λ (x : Node). some (is_array x))
+is_array_at b n = option_map is_array (record_at b n)
 
 unfoldable pub is_hash_at : List ℕ → ℕ → Option Bool
-is_hash_at b n = and_then (record_at b n) (λ (x : Node). some (is_hash x))
+is_hash_at b n = option_map is_hash (record_at b n)
+
+-- the items or pairs of a collection of this kind
+abbrev pub members_at : List ℕ → ℕ → ℕ → Option ℕ
+members_at b n kind = do
+  x ← record_at b n
+  if eqb x.kind kind then Some x.payload.first else None
 
 unfoldable pub len_at : List ℕ → ℕ → Option ℕ
-len_at b n = and_then (record_at b n) (λ (x : Node). some (len x))
+len_at b n = option_map len (record_at b n)
 
 unfoldable pub is_empty_at : List ℕ → ℕ → Option Bool
-is_empty_at b n = and_then (len_at b n) (λ (k : ℕ). some (eqb k 0))
-
--- none and the values of the answers
-abbrev pub flag_in : Flag → Option Bool
-flag_in (flag.Is t) = some t
-flag_in flag.Missing = none
-
-abbrev pub count_in : Count → Option ℕ
-count_in (count.Is k) = some k
-count_in count.Missing = none
+is_empty_at b n = option_map (λ (k : ℕ). eqb k 0) (len_at b n)

@@ -1,9 +1,7 @@
 -- What the accessors give back of a tree (N2, N3): its items, its pairs, equal keys included, the value of a key, how many they are, the last
 -- child and the one before each, and of each record but the root exactly one collection whose child it is. Told by the accessors' own answers.
 -- That they do, on every buffer that `build` filled, is `read_back` (proofs/ReadBackLaws.antt).
-use Rattle.std.specs.Prelude.{◌≡◌, ◌⊎◌, List, [], ◌∷◌, ℕ, suc, ◌+◌, ◌-◌, ◌<◌, length}
-use Rattle.std.proofs.Math.Option.{none, some}
-use Rattle.std.proofs.Math.ListN.{get_elem?}
+use Rattle.std.specs.Prelude.{◌≡◌, ◌⊎◌, List, [], ◌∷◌, ℕ, suc, ◌+◌, ◌-◌, ◌<◌, length, Some, None, slice_get}
 use Rattle.provenance.specs.Reading.{Piece}
 use Rattle.records.specs.Layout.{laid_nodes}
 use Rattle.parser.specs.Machine.{built}
@@ -21,31 +19,31 @@ use Rattle.node.specs.Growth.{Shape, tree_of, completions, HasShape}
 -- record c is an item of n, or a key or a value of one of its pairs
 abbrev pub IsChild : List ℕ → ℕ → ℕ → Type 0
 IsChild b n c =
-    ((i : ℕ) × (array_item b n i ≡ some c))
-    ⊎ ((i : ℕ) × (e : YamlHashEntry) × (hash_entry b n i ≡ some e) × ((e.key ≡ c) ⊎ (e.value ≡ c)))
+    ((i : ℕ) × (array_item b n i ≡ Some c))
+    ⊎ ((i : ℕ) × (e : YamlHashEntry) × (hash_entry b n i ≡ Some e) × ((e.key ≡ c) ⊎ (e.value ≡ c)))
 
 -- of a node y whose own children are `kids` and before whose tree come s nodes: its number is n, and those of its children are `roots s kids`
 pub record NodeReadBack (b events : List ℕ) (s n : ℕ) (y : Node) (kids : Forest) : Type 0 where
-  pub itself : record_at b n ≡ some y
-  pub no_children : y.kind < 7 → (len_at b n ≡ some 0) × (roots s kids ≡ [])
-  pub item_count : y.kind ≡ 7 → len_at b n ≡ some (length (roots s kids))
-  pub items : y.kind ≡ 7 → (i : ℕ) → array_item b n i ≡ get_elem? (roots s kids) i
-  pub pair_count : y.kind ≡ 8 → len_at b n ≡ some (length (pairs_of s kids))
-  pub pairs : y.kind ≡ 8 → (i : ℕ) → hash_entry b n i ≡ get_elem? (pairs_of s kids) i
-  pub values : y.kind ≡ 8 → (key : List ℕ) → hash_value b events n key ≡ first_with (key_is b events key) (pairs_of s kids) none
+  pub itself : record_at b n ≡ Some y
+  pub no_children : y.kind < 7 → (len_at b n ≡ Some 0) × (roots s kids ≡ [])
+  pub item_count : y.kind ≡ 7 → len_at b n ≡ Some (length (roots s kids))
+  pub items : y.kind ≡ 7 → (i : ℕ) → array_item b n i ≡ slice_get (roots s kids) i
+  pub pair_count : y.kind ≡ 8 → len_at b n ≡ Some (length (pairs_of s kids))
+  pub pairs : y.kind ≡ 8 → (i : ℕ) → hash_entry b n i ≡ slice_get (pairs_of s kids) i
+  pub values : y.kind ≡ 8 → (key : List ℕ) → hash_value b events n key ≡ first_with (key_is b events key) (pairs_of s kids) None
   -- none where there are no children
-  pub last_child_is : last_child b n ≡ get_elem? (roots s kids) (length (roots s kids) - 1)
+  pub last_child_is : last_child b n ≡ slice_get (roots s kids) (length (roots s kids) - 1)
   -- the child before another; from the first one, the record before the collection's whole tree, which is none of its children
-  pub child_before_is : (i c : ℕ) → get_elem? (roots s kids) (suc i) ≡ some c → child_before b c ≡ get_elem? (roots s kids) i
-  pub before_first : (c : ℕ) → get_elem? (roots s kids) 0 ≡ some c → child_before b c ≡ record_before b s
+  pub child_before_is : (i c : ℕ) → slice_get (roots s kids) (suc i) ≡ Some c → child_before b c ≡ slice_get (roots s kids) i
+  pub before_first : (c : ℕ) → slice_get (roots s kids) 0 ≡ Some c → child_before b c ≡ record_before b s
 
 -- of the buffer b, in which n nodes were built from these event bytes, the tree of x with its children
 pub record ReadBack (b events : List ℕ) (n : ℕ) (x : Node) (kids : Forest) : Type 0 where
-  pub root : (record_before b n ≡ some (nodes_in kids)) × (n ≡ nodes_in kids + 1)
+  pub root : (record_before b n ≡ Some (nodes_in kids)) × (n ≡ nodes_in kids + 1)
   pub nodes : (s : ℕ) (y : Node) (others : Forest) → Has (snoc nil x kids) 0 s y others → NodeReadBack b events s (s + nodes_in others) y others
   -- as many records as the events complete nodes, and record j is an array, a hash or neither as the j-th event that completes one says
   pub count : length (completions events) ≡ n
-  pub kinds : (j : ℕ) (s : Shape) → get_elem? (completions events) j ≡ some s → (y : Node) × (record_at b j ≡ some y) × HasShape s y
+  pub kinds : (j : ℕ) (s : Shape) → slice_get (completions events) j ≡ Some s → (y : Node) × (record_at b j ≡ Some y) × HasShape s y
   pub one_parent : (c : ℕ) → c < nodes_in kids → (p : ℕ) × IsChild b p c × ((m : ℕ) → IsChild b m c → m ≡ p)
   pub root_no_child : (m : ℕ) → IsChild b m (nodes_in kids) → ⊥
 

@@ -1,8 +1,6 @@
 -- Reading records is the inverse of laying them out (E2, N3).
-use Rattle.std.specs.Prelude.{◌≡◌, refl, Bool, true, false, List, [], ◌∷◌, ◌++◌, ℕ, zero, suc, ◌+◌, ◌-◌, ◌*◌, ◌/◌, length, drop, replicate, ltb}
+use Rattle.std.specs.Prelude.{◌≡◌, refl, Bool, true, false, if◌then◌else◌, List, [], ◌∷◌, ◌++◌, ℕ, zero, suc, ◌+◌, ◌-◌, ◌*◌, ◌/◌, length, drop, replicate, ltb, Option, None, slice_get}
 use Rattle.std.proofs.Common.{ap, ◌∙◌, append_assoc, arith, lt-ltb, length-append}
-use Rattle.std.proofs.Math.Option.{none}
-use Rattle.std.proofs.Math.ListN.{get_elem?}
 use Rattle.std.proofs.Math.Dec.{leb-suc-suc}
 use Rattle.std.proofs.Math.Seq.{drop-append-add}
 use Rattle.records.specs.Record.{record_width, node_numbers, node_of}
@@ -10,7 +8,7 @@ use Rattle.records.specs.RecordLaws.{node_wide, read_laid, read_zeros}
 use Rattle.records.specs.Layout.{laid_nodes}
 use Rattle.provenance.specs.Layout.{flat, laid_by}
 use Rattle.records.specs.declared.record.Node.{Node}
-use Rattle.node.specs.Chain.{and_then, when}
+use Rattle.node.specs.Chain.{◌>>=◌}
 use Rattle.node.specs.Record.{existing, record_at}
 
 -- ---- one record on
@@ -27,7 +25,7 @@ record_next r rest n e =
     let l : length (r ++ rest) / record_width ≡ suc (length rest / record_width) = rw (length-append, e) (room_next (length rest)) in
     let k : record_width * suc n ≡ length r + record_width * n = omega arith in
     let d : drop (record_width * suc n) (r ++ rest) ≡ drop (record_width * n) rest = rw k (drop-append-add r rest (record_width * n)) in
-    rw (l, d) (ap (λ (t : Bool). when t (existing (node_of (drop (record_width * n) rest)))) (ltb-suc n (length rest / record_width)))
+    rw (l, d) (ap (λ (t : Bool). if t then existing (node_of (drop (record_width * n) rest)) else None) (ltb-suc n (length rest / record_width)))
 
 first_whole : (r rest : List ℕ) → length r ≡ record_width → ltb 0 (length (r ++ rest) / record_width) ≡ true
 first_whole r rest e = let l : length (r ++ rest) ≡ record_width + length rest = rw (length-append, e) in lt-ltb 0 (length (r ++ rest) / record_width) (omega arith)
@@ -38,18 +36,18 @@ unfolding record_at
 record_first x rest = rw (first_whole (node_numbers x) rest (node_wide x), read_laid x rest)
 
 -- zeros are no record
-pub record_zero : (m n : ℕ) → record_at (replicate m 0) n ≡ none
+pub record_zero : (m n : ℕ) → record_at (replicate m 0) n ≡ None
 unfolding record_at existing
 record_zero m n = rw (read_zeros m (record_width * n)) (never (ltb n (length (replicate m 0) / record_width)))
   where
-    never : (t : Bool) → when {A = Node} t none ≡ none
+    never : (t : Bool) → ◌≡◌ {A = Option Node} (if t then None else None) None
     never true = refl
     never false = refl
 
 -- ---- every record
 
 -- record n of nodes laid out is the n-th node, if its kind is one; past them there is none
-pub record_laid : (size : ℕ) (xs : List Node) (n : ℕ) → record_at (laid_nodes size xs) n ≡ and_then (get_elem? xs n) existing
+pub record_laid : (size : ℕ) (xs : List Node) (n : ℕ) → record_at (laid_nodes size xs) n ≡ (slice_get xs n >>= existing)
 unfolding laid_by
 record_laid size [] n = record_zero (size - record_width * 0) n
 record_laid size (x ∷ xs) zero = rw append_assoc (record_first x (flat node_numbers xs ++ replicate (size - record_width * length (x ∷ xs)) 0))

@@ -3,131 +3,97 @@
 // Going from the last child back by `child_before` costs one step a child. By index it costs the distance from the last.
 ghost use Rattle.std.specs.Prelude.{◌≡◌};
 ghost use Rattle.node.specs.Kind.{children};
-ghost use Rattle.node.specs.Child.{place_at, record_before, last_child, less_count, child_before, steps_back, child_from_last, array_item, place_in};
+ghost use Rattle.node.specs.Child.{place_at, record_before, last_child, child_before, steps_back, child_from_last, array_item};
 
-use crate::kind::{Count, len, members};
-use crate::record::{Lookup, get_record};
+use crate::kind::{len, members};
+use crate::record::get_record;
 use records::record::{ARRAY, HASH, Node};
 
-// A record's number.
-#[derive(Clone, Copy)]
-pub enum Place {
-    At(usize),
-    Missing,
-}
-
 // The number itself, if the record exists.
-fn existing_place(records: &[u32], n: usize) -> Place
-    ensures { place_in result ≡ place_at records.now n }
+#[tactic(auto, unfolding(crate::specs::Child::place_at))]
+fn existing_place(records: &[u32], n: usize) -> Option<usize>
+    ensures { result ≡ place_at records.now n }
 {
-    let Lookup::Record(_) = get_record(records, n) else {
-        return Place::Missing;
-    };
-    Place::At(n)
+    get_record(records, n)?;
+    Some(n)
 }
 
 // The record before number `n`: the root of a buffer in which `n` nodes were built.
-pub fn record_before(records: &[u32], n: usize) -> Place
-    ensures { place_in result ≡ record_before records.now n }
+#[tactic(auto, unfolding(crate::specs::Child::record_before))]
+pub fn record_before(records: &[u32], n: usize) -> Option<usize>
+    ensures { result ≡ record_before records.now n }
 {
-    if n == 0 {
-        return Place::Missing;
-    }
-    existing_place(records, n - 1)
+    existing_place(records, n.checked_sub(1)?)
 }
 
 // The last item of an array, or the value of a hash's last pair.
-pub fn last_child(records: &[u32], n: usize) -> Place
-    ensures { place_in result ≡ last_child records.now n }
+#[tactic(auto, unfolding(crate::specs::Child::last_child))]
+pub fn last_child(records: &[u32], n: usize) -> Option<usize>
+    ensures { result ≡ last_child records.now n }
 {
-    let Count::Is(k) = len(records, n) else {
-        return Place::Missing;
-    };
-    if k == 0 {
-        return Place::Missing;
+    if len(records, n)? == 0 {
+        return None;
     }
     record_before(records, n)
 }
 
-// The record that a subtree count leads to from `c`.
-fn less_count(records: &[u32], c: usize, count: usize) -> Place
-    ensures { place_in result ≡ less_count records.now c count }
-{
-    if count == 0 {
-        return Place::Missing;
-    }
-    if c < count {
-        return Place::Missing;
-    }
-    existing_place(records, c - count)
-}
-
 // The child before `c`, where `c` is not its collection's first child; how many there are says `len`.
-pub fn child_before(records: &[u32], c: usize) -> Place
-    ensures { place_in result ≡ child_before records.now c }
+#[tactic(auto, unfolding(crate::specs::Child::child_before))]
+pub fn child_before(records: &[u32], c: usize) -> Option<usize>
+    ensures { result ≡ child_before records.now c }
 {
-    let Lookup::Record(x) = get_record(records, c) else {
-        return Place::Missing;
-    };
-    less_count(records, c, x.subtree as usize)
+    let count = get_record(records, c)?.subtree as usize;
+    if count == 0 {
+        return None;
+    }
+    existing_place(records, c.checked_sub(count)?)
 }
 
 // The child `k` before `c`.
-fn steps_back(records: &[u32], c: usize, k: usize) -> Place
-    ensures { place_in result ≡ steps_back records.now k c }
+#[tactic(auto, using(crate::proofs::Steps::step_none, crate::proofs::Steps::step_done))]
+fn steps_back(records: &[u32], c: usize, k: usize) -> Option<usize>
+    ensures { result ≡ steps_back records.now k c }
 {
     let mut at = c;
-    let mut left = k;
-    while 0 < left {
-        let Place::At(previous) = child_before(records, at) else {
-            return Place::Missing;
-        };
-        at = previous;
-        left -= 1;
+    for _ in 0..k {
+        at = child_before(records, at)?;
     }
-    Place::At(at)
+    Some(at)
 }
 
 // How many children a node has: the items of an array, the keys and values of a hash.
 fn child_count(x: Node) -> usize
     ensures { result ≡ children x }
 {
-    if x.kind < ARRAY {
-        return 0;
-    }
     let count = x.payload.first as usize;
-    if x.kind == HASH {
-        return 2 * count;
+    if x.kind < ARRAY {
+        0
+    } else if x.kind == HASH {
+        2 * count
+    } else {
+        count
     }
-    count
 }
 
 // The child `k` before the last child of `n`, if it has so many.
-pub fn child_from_last(records: &[u32], n: usize, k: usize) -> Place
-    ensures { place_in result ≡ child_from_last records.now n k }
+#[tactic(auto, unfolding(crate::specs::Child::child_from_last))]
+pub fn child_from_last(records: &[u32], n: usize, k: usize) -> Option<usize>
+    ensures { result ≡ child_from_last records.now n k }
 {
-    let Lookup::Record(x) = get_record(records, n) else {
-        return Place::Missing;
-    };
-    if child_count(x) <= k {
-        return Place::Missing;
+    if child_count(get_record(records, n)?) <= k {
+        return None;
     }
-    let Place::At(c) = record_before(records, n) else {
-        return Place::Missing;
-    };
-    steps_back(records, c, k)
+    steps_back(records, record_before(records, n)?, k)
 }
 
 // Item `i` of the array `n`, from 0.
-pub fn get_array_item(records: &[u32], n: usize, i: usize) -> Place
-    ensures { place_in result ≡ array_item records.now n i }
+#[tactic(auto, unfolding(crate::specs::Child::array_item))]
+pub fn get_array_item(records: &[u32], n: usize, i: usize) -> Option<usize>
+    ensures { result ≡ array_item records.now n i }
 {
-    let Count::Is(items) = members(records, n, ARRAY) else {
-        return Place::Missing;
-    };
-    let count = items as usize;
-    if count <= i {
-        return Place::Missing;
+    let items = members(records, n, ARRAY)? as usize;
+    if items <= i {
+        return None;
     }
-    child_from_last(records, n, count - 1 - i)
+    child_from_last(records, n, items - 1 - i)
 }

@@ -1,10 +1,10 @@
 // The pairs of a hash. (01: `YamlHashEntry`; N2, N3.)
 ghost use Rattle.std.specs.Prelude.{◌≡◌};
-ghost use Rattle.node.specs.Entry.{pair_ending, hash_entry, entry_in};
+ghost use Rattle.node.specs.Entry.{pair_ending, hash_entry};
 
-use crate::child::{Place, child_before, child_from_last};
-use crate::kind::{Count, members};
-use crate::source::{Span, source_info};
+use crate::child::{child_before, child_from_last};
+use crate::kind::members;
+use crate::source::source_info;
 use records::record::{Extent, HASH};
 
 // The records of a key and its value, the span of each, and the span from the key's start to the value's end.
@@ -17,51 +17,34 @@ pub struct YamlHashEntry {
     pub entry_span: Extent,
 }
 
-#[derive(Clone, Copy)]
-pub enum Entry {
-    Pair(YamlHashEntry),
-    Missing,
-}
-
 // The pair whose value is record `v`; its key is the child before.
-pub fn pair_ending(records: &[u32], v: usize) -> Entry
-    ensures { entry_in result ≡ pair_ending records.now v }
+#[tactic(auto, unfolding(crate::specs::Entry::pair_ending, crate::specs::Source::span_at))]
+pub fn pair_ending(records: &[u32], v: usize) -> Option<YamlHashEntry>
+    ensures { result ≡ pair_ending records.now v }
 {
-    let Span::Of(value_span) = source_info(records, v) else {
-        return Entry::Missing;
-    };
-    let Place::At(k) = child_before(records, v) else {
-        return Entry::Missing;
-    };
-    let Span::Of(key_span) = source_info(records, k) else {
-        return Entry::Missing;
-    };
-    let entry_span = Extent {
-        start: key_span.start,
-        end: value_span.end,
-    };
-    Entry::Pair(YamlHashEntry {
-        key: k,
+    let value_span = source_info(records, v)?;
+    let key = child_before(records, v)?;
+    let key_span = source_info(records, key)?;
+    Some(YamlHashEntry {
+        key,
         value: v,
         key_span,
         value_span,
-        entry_span,
+        entry_span: Extent {
+            start: key_span.start,
+            end: value_span.end,
+        },
     })
 }
 
 // Pair `i` of the hash `n`, from 0.
-pub fn hash_entry(records: &[u32], n: usize, i: usize) -> Entry
-    ensures { entry_in result ≡ hash_entry records.now n i }
+#[tactic(auto, unfolding(crate::specs::Entry::hash_entry))]
+pub fn hash_entry(records: &[u32], n: usize, i: usize) -> Option<YamlHashEntry>
+    ensures { result ≡ hash_entry records.now n i }
 {
-    let Count::Is(count) = members(records, n, HASH) else {
-        return Entry::Missing;
-    };
-    let pairs = count as usize;
+    let pairs = members(records, n, HASH)? as usize;
     if pairs <= i {
-        return Entry::Missing;
+        return None;
     }
-    let Place::At(v) = child_from_last(records, n, 2 * (pairs - 1 - i)) else {
-        return Entry::Missing;
-    };
-    pair_ending(records, v)
+    pair_ending(records, child_from_last(records, n, 2 * (pairs - 1 - i))?)
 }

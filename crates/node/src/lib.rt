@@ -1,6 +1,9 @@
 // The accessors of yaml_with_source_info.rs over a record buffer, and `scan_error`. (01: yaml_with_source_info.rs and error.rs; N3, N4.)
 //
 // A node is a record's number. Every call reads any buffer, built here or not, and asks nothing of its caller.
+//
+// Buffer and number are two parameters and no handle: answers are numbers, as in the C interface, so a handle of both would be made anew for
+// each of them, at every step from one record to the next.
 #![tactic(auto)]
 
 pub mod child;

@@ -1,28 +1,17 @@
 // Records by number. (E2, N3.)
 ghost use Rattle.std.specs.Prelude.{◌≡◌};
-ghost use Rattle.node.specs.Record.{record_at, record_in};
+ghost use Rattle.node.specs.Record.{record_at};
 
 use records::record::{HASH, NULL, Node, RECORD_WIDTH, read_record};
 
-#[derive(Clone, Copy)]
-pub enum Lookup {
-    Record(Node),
-    Missing,
-}
-
 // Record number `n`, if it exists: it lies whole in the buffer, and its kind is 1 to 8.
-pub fn get_record(records: &[u32], n: usize) -> Lookup
-    ensures { record_in result ≡ record_at records.now n }
+#[tactic(auto, unfolding(crate::specs::Record::record_at, crate::specs::Record::existing))]
+pub fn get_record(records: &[u32], n: usize) -> Option<Node>
+    ensures { result ≡ record_at records.now n }
 {
     if records.len() / RECORD_WIDTH <= n {
-        return Lookup::Missing;
+        return None;
     }
     let x = read_record(&records[RECORD_WIDTH * n..]);
-    if x.kind < NULL {
-        return Lookup::Missing;
-    }
-    if HASH < x.kind {
-        return Lookup::Missing;
-    }
-    Lookup::Record(x)
+    (NULL <= x.kind && x.kind <= HASH).then_some(x)
 }

@@ -3,11 +3,11 @@ use mathlib.Core.Path.{◌≡◌, sym, subst}
 use Prim.Native.Nat.{ℕ, zero, suc, ◌-◌, ◌*◌, ◌≤◌}
 use mathlib.Core.Bool.{Bool, true, false, ◌&&◌, cond}
 use mathlib.Core.List.{List}
-use mathlib.Core.Option.{Option, none, some}
+use Rattle.std.specs.Prelude.{Option, None, Some, if◌then◌else◌}
 use native.Mathlib.Omega.{arith}
 use lib.Dec.{ltb, leb}
 use Rattle.records.specs.declared.record.Node.{Node}
-use Rattle.node.specs.Chain.{and_then, when}
+use Rattle.node.specs.Chain.{◌>>=◌}
 use Rattle.node.specs.Record.{record_at}
 use Rattle.node.specs.Kind.{len_at, is_array, is_hash, children}
 use Rattle.node.specs.Child.{place_at, record_before, last_child, less_count, child_before, steps_back, child_from_last, array_item}
@@ -21,18 +21,18 @@ use Rattle.quarto_yaml.specs.Fit.{Each, AtMost}
 
 module _ {A B : Type 0} (P : A → Type 0) (Q : B → Type 0) (f : A → Option B) where
   -- a step after an answer of which P is known
-  each_then : (o : Option A) → Each P o → ((a : A) → P a → Each Q (f a)) → Each Q (and_then o f)
-  each_then none h g = tt
-  each_then (some a) h g = g a h
+  each_then : (o : Option A) → Each P o → ((a : A) → P a → Each Q (f a)) → Each Q (o >>= f)
+  each_then None h g = tt
+  each_then (Some a) h g = g a h
 
 module _ {A B : Type 0} (Q : B → Type 0) (f : A → Option B) where
   -- a step after any answer
-  each_after : (o : Option A) → ((a : A) → Each Q (f a)) → Each Q (and_then o f)
-  each_after none g = tt
-  each_after (some a) g = g a
+  each_after : (o : Option A) → ((a : A) → Each Q (f a)) → Each Q (o >>= f)
+  each_after None g = tt
+  each_after (Some a) g = g a
 
 module _ {A : Type 0} (P : A → Type 0) where
-  each_when : (t : Bool) (o : Option A) → Each P o → Each P (when t o)
+  each_when : (t : Bool) (o : Option A) → Each P o → Each P (if t then o else None)
   each_when true o h = h
   each_when false o h = tt
 
@@ -51,15 +51,15 @@ abbrev RecordsAtMost : ℕ → Option YamlHashEntry → Type 0
 RecordsAtMost m = Each (PairUpto m)
 
 wider : (m n : ℕ) (o : Option ℕ) → m ≤ n → AtMost m o → AtMost n o
-wider m n none l h = tt
-wider m n (some a) l h = omega arith
+wider m n None l h = tt
+wider m n (Some a) l h = omega arith
 
 -- ---- the accessors
 
 module _ (b : List ℕ) where
   place_at_most : (n m : ℕ) → n ≤ m → AtMost m (place_at b n)
   unfolding place_at
-  place_at_most n m l = each_after (Upto m) (λ (x : Node). some n) (record_at b n) (λ x. l)
+  place_at_most n m l = each_after (Upto m) (λ (x : Node). Some n) (record_at b n) (λ x. l)
 
   pub before_at_most : (n : ℕ) → AtMost n (record_before b n)
   unfolding record_before
@@ -68,7 +68,7 @@ module _ (b : List ℕ) where
   pub last_at_most : (n : ℕ) → AtMost n (last_child b n)
   unfolding last_child
   last_at_most n =
-      each_after (Upto n) (λ (k : ℕ). when (ltb 0 k) (record_before b n)) (len_at b n)
+      each_after (Upto n) (λ (k : ℕ). if ltb 0 k then record_before b n else None) (len_at b n)
       (λ k. each_when (Upto n) (ltb 0 k) (record_before b n) (before_at_most n))
 
   less_at_most : (c s : ℕ) → AtMost c (less_count b c s)
@@ -87,13 +87,13 @@ module _ (b : List ℕ) where
   from_last_at_most : (n k : ℕ) → AtMost n (child_from_last b n k)
   unfolding child_from_last
   from_last_at_most n k =
-      let back = and_then (record_before b n) (steps_back b k) in
+      let back = (record_before b n >>= (steps_back b k)) in
       let h : AtMost n back = each_then (Upto n) (Upto n) (steps_back b k) (record_before b n) (before_at_most n) (λ c l. steps_at_most k c n l) in
-      each_after (Upto n) (λ (x : Node). when (ltb k (children x)) back) (record_at b n) (λ x. each_when (Upto n) (ltb k (children x)) back h)
+      each_after (Upto n) (λ (x : Node). if ltb k (children x) then back else None) (record_at b n) (λ x. each_when (Upto n) (ltb k (children x)) back h)
 
   -- item i of an array of k
   abbrev item_of : ℕ → ℕ → Bool → ℕ → Option ℕ
-  item_of n i t k = when (t && ltb i k) (child_from_last b n (k - 1 - i))
+  item_of n i t k = (if t && ltb i k then child_from_last b n (k - 1 - i) else None)
 
   pub item_at_most : (n i : ℕ) → AtMost n (array_item b n i)
   unfolding array_item
@@ -103,21 +103,21 @@ module _ (b : List ℕ) where
 
   -- the pair of a value v, which is y, and the key k
   abbrev pair_of : ℕ → Node → ℕ → Option YamlHashEntry
-  pair_of v y k = and_then (record_at b k) (λ (x : Node). some (entry k x v y))
+  pair_of v y k = (record_at b k >>= (λ (x : Node). Some (entry k x v y)))
 
   pair_at_most : (v m : ℕ) → v ≤ m → RecordsAtMost m (pair_ending b v)
   unfolding pair_ending
   pair_at_most v m l =
-      each_after (PairUpto m) (λ (y : Node). and_then (child_before b v) (pair_of v y)) (record_at b v)
+      each_after (PairUpto m) (λ (y : Node). child_before b v >>= (pair_of v y)) (record_at b v)
       (λ y. each_then (Upto v) (PairUpto m) (pair_of v y) (child_before b v) (child_before_at_most v)
-      (λ k h. each_after (PairUpto m) (λ (x : Node). some (entry k x v y)) (record_at b k) (λ x. (omega arith, l))))
+      (λ k h. each_after (PairUpto m) (λ (x : Node). Some (entry k x v y)) (record_at b k) (λ x. (omega arith, l))))
 
   -- the pair that ends with the child k before the last
-  pair_from_last : (n k : ℕ) → RecordsAtMost n (and_then (child_from_last b n k) (pair_ending b))
+  pair_from_last : (n k : ℕ) → RecordsAtMost n (child_from_last b n k >>= (pair_ending b))
   pair_from_last n k = each_then (Upto n) (PairUpto n) (pair_ending b) (child_from_last b n k) (from_last_at_most n k) (λ v h. pair_at_most v n h)
 
   abbrev entry_of : ℕ → ℕ → Bool → ℕ → Option YamlHashEntry
-  entry_of n i t k = when (t && ltb i k) (and_then (child_from_last b n (2 * (k - 1 - i))) (pair_ending b))
+  entry_of n i t k = (if t && ltb i k then (child_from_last b n (2 * (k - 1 - i))) >>= (pair_ending b) else None)
 
   entry_at_most : (n i : ℕ) → RecordsAtMost n (hash_entry b n i)
   unfolding hash_entry
@@ -125,15 +125,15 @@ module _ (b : List ℕ) where
       each_after (PairUpto n) (λ (x : Node). entry_of n i (is_hash x) x.payload.first) (record_at b n)
       (λ x.
       let k = x.payload.first in
-      each_when (PairUpto n) (is_hash x && ltb i k) (and_then (child_from_last b n (2 * (k - 1 - i))) (pair_ending b)) (pair_from_last n (2 * (k - 1 - i))))
+      each_when (PairUpto n) (is_hash x && ltb i k) ((child_from_last b n (2 * (k - 1 - i))) >>= (pair_ending b)) (pair_from_last n (2 * (k - 1 - i))))
 
   module _ (events key : List ℕ) (m : ℕ) where
     earlier_at_most : (k v : ℕ) (later : Option ℕ) → v ≤ m → AtMost m later → AtMost m (earlier b events key k v later)
-    earlier_at_most k v later l h = each_cond (Upto m) (key_is b events key k) (some v) later l h
+    earlier_at_most k v later l h = each_cond (Upto m) (key_is b events key k) (Some v) later l h
 
     -- the p pairs before the pair of k and v
     abbrev before : ℕ → ℕ → Option ℕ → ℕ → Option ℕ
-    before p v later k = and_then (child_before b k) (λ (u : ℕ). search_back b events key p u (earlier b events key k v later))
+    before p v later k = (child_before b k >>= (λ (u : ℕ). search_back b events key p u (earlier b events key k v later)))
 
     search_at_most : (p v : ℕ) (later : Option ℕ) → v ≤ m → AtMost m later → AtMost m (search_back b events key p v later)
     unfolding search_back
@@ -147,13 +147,13 @@ module _ (b : List ℕ) where
         (λ u i. search_at_most p u rest (omega arith) (earlier_at_most e.key v later l h)))
 
   -- over the pairs of a hash of k
-  from_last_value : (events key : List ℕ) (n k : ℕ) → AtMost n (and_then (record_before b n) (λ (v : ℕ). search_back b events key (k - 1) v none))
+  from_last_value : (events key : List ℕ) (n k : ℕ) → AtMost n (record_before b n >>= (λ (v : ℕ). search_back b events key (k - 1) v None))
   from_last_value events key n k =
-      each_then (Upto n) (Upto n) (λ (v : ℕ). search_back b events key (k - 1) v none) (record_before b n) (before_at_most n)
-      (λ v h. search_at_most events key n (k - 1) v none h tt)
+      each_then (Upto n) (Upto n) (λ (v : ℕ). search_back b events key (k - 1) v None) (record_before b n) (before_at_most n)
+      (λ v h. search_at_most events key n (k - 1) v None h tt)
 
   abbrev value_of : List ℕ → List ℕ → ℕ → Bool → ℕ → Option ℕ
-  value_of events key n t k = when (t && ltb 0 k) (and_then (record_before b n) (λ (v : ℕ). search_back b events key (k - 1) v none))
+  value_of events key n t k = (if t && ltb 0 k then record_before b n >>= (λ (v : ℕ). search_back b events key (k - 1) v None) else None)
 
   pub value_at_most : (events key : List ℕ) (n : ℕ) → AtMost n (hash_value b events n key)
   unfolding hash_value
@@ -161,7 +161,7 @@ module _ (b : List ℕ) where
       each_after (Upto n) (λ (x : Node). value_of events key n (is_hash x) x.payload.first) (record_at b n)
       (λ x.
       let k = x.payload.first in
-      each_when (Upto n) (is_hash x && ltb 0 k) (and_then (record_before b n) (λ (v : ℕ). search_back b events key (k - 1) v none))
+      each_when (Upto n) (is_hash x && ltb 0 k) (record_before b n >>= (λ (v : ℕ). search_back b events key (k - 1) v None))
       (from_last_value events key n k))
 
 -- ---- 32 bits
@@ -170,5 +170,5 @@ pub fits : {o p : Option ℕ} (n : ℕ) → n ≤ largest → o ≡ p → AtMost
 fits {o} {p} n l e h = subst (λ (x : Option ℕ). AtMost largest x) (sym e) (wider n largest p l h)
 
 -- the records of a pair that is found
-pub entry_fits : (b : List ℕ) (n i : ℕ) {x : YamlHashEntry} → n ≤ largest → some x ≡ hash_entry b n i → PairUpto largest x
+pub entry_fits : (b : List ℕ) (n i : ℕ) {x : YamlHashEntry} → n ≤ largest → Some x ≡ hash_entry b n i → PairUpto largest x
 entry_fits b n i l e = let h = subst (λ (o : Option YamlHashEntry). RecordsAtMost n o) (sym e) (entry_at_most b n i) in (omega arith, omega arith)

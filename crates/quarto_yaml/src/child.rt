@@ -1,22 +1,21 @@
 // Records by their numbers; 0xffff_ffff for none. (01: N2, N3.)
 ghost use Rattle.std.specs.Prelude.{◌≡◌};
-ghost use Rattle.node.specs.Child.{place_in, record_before, last_child, child_before, array_item};
+ghost use Rattle.node.specs.Child.{record_before, last_child, child_before, array_item};
 ghost use Rattle.node.specs.Search.{hash_value};
 ghost use Rattle.quarto_yaml.specs.Fit.{AtMost};
 ghost use Rattle.quarto_yaml.specs.None.{or_none, largest};
 
-use node::child::Place;
 use records::record::ABSENT;
 
 // The number, or none.
-fn or_none(p: Place) -> u32
-    requires { AtMost largest (place_in p) }
-    ensures { result ≡ or_none (place_in p) }
+fn or_none(place: Option<usize>) -> u32
+    requires { AtMost largest place }
+    ensures { result ≡ or_none place }
 {
-    let Place::At(n) = p else {
-        return ABSENT;
-    };
-    n as u32
+    match place {
+        Some(n) => n as u32,
+        None => ABSENT,
+    }
 }
 
 #[unsafe(no_mangle)]

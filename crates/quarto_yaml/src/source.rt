@@ -4,12 +4,9 @@ ghost use Rattle.node.specs.Source.{span_at, tag_of, piece_list_at};
 ghost use Rattle.node.specs.Entry.{hash_entry};
 ghost use Rattle.quarto_yaml.specs.Found.{found_span, found_tag, found_pieces, found_entry};
 
-use node::entry::Entry;
-use node::source::{Pieces, Span, Tagged};
-
 // Bytes of the text.
 #[repr(C)]
-#[derive(Clone, Copy)]
+#[derive(Clone, Copy, Debug, Default, PartialEq, Eq)]
 pub struct FoundSpan {
     pub present: u32,
     pub start: u32,
@@ -18,7 +15,7 @@ pub struct FoundSpan {
 
 // A tag's span in the text, and its suffix's place and length in the event bytes.
 #[repr(C)]
-#[derive(Clone, Copy)]
+#[derive(Clone, Copy, Debug, Default, PartialEq, Eq)]
 pub struct FoundTag {
     pub present: u32,
     pub start: u32,
@@ -29,7 +26,7 @@ pub struct FoundTag {
 
 // A scalar's first piece and how many.
 #[repr(C)]
-#[derive(Clone, Copy)]
+#[derive(Clone, Copy, Debug, Default, PartialEq, Eq)]
 pub struct FoundPieces {
     pub present: u32,
     pub first: u32,
@@ -38,7 +35,7 @@ pub struct FoundPieces {
 
 // A pair's records, the span of each, and that of both.
 #[repr(C)]
-#[derive(Clone, Copy)]
+#[derive(Clone, Copy, Debug, Default, PartialEq, Eq)]
 pub struct FoundEntry {
     pub present: u32,
     pub key: u32,
@@ -51,44 +48,12 @@ pub struct FoundEntry {
     pub entry_end: u32,
 }
 
-const NO_SPAN: FoundSpan = FoundSpan {
-    present: 0,
-    start: 0,
-    end: 0,
-};
-
-const NO_TAG: FoundTag = FoundTag {
-    present: 0,
-    start: 0,
-    end: 0,
-    suffix: 0,
-    len: 0,
-};
-
-const NO_PIECES: FoundPieces = FoundPieces {
-    present: 0,
-    first: 0,
-    count: 0,
-};
-
-const NO_ENTRY: FoundEntry = FoundEntry {
-    present: 0,
-    key: 0,
-    value: 0,
-    key_start: 0,
-    key_end: 0,
-    value_start: 0,
-    value_end: 0,
-    entry_start: 0,
-    entry_end: 0,
-};
-
 #[unsafe(no_mangle)]
 pub extern "C" fn quarto_yaml_source_info(records: &[u32], n: u32) -> FoundSpan
     ensures { result ≡ found_span (span_at records.now n) }
 {
-    let Span::Of(e) = node::source::source_info(records, n as usize) else {
-        return NO_SPAN;
+    let Some(e) = node::source::source_info(records, n as usize) else {
+        return FoundSpan::default();
     };
     FoundSpan {
         present: 1,
@@ -101,8 +66,8 @@ pub extern "C" fn quarto_yaml_source_info(records: &[u32], n: u32) -> FoundSpan
 pub extern "C" fn quarto_yaml_tag(records: &[u32], n: u32) -> FoundTag
     ensures { result ≡ found_tag (tag_of records.now n) }
 {
-    let Tagged::With(x) = node::source::tag(records, n as usize) else {
-        return NO_TAG;
+    let Some(x) = node::source::tag(records, n as usize) else {
+        return FoundTag::default();
     };
     FoundTag {
         present: 1,
@@ -117,8 +82,8 @@ pub extern "C" fn quarto_yaml_tag(records: &[u32], n: u32) -> FoundTag
 pub extern "C" fn quarto_yaml_content_source_info(records: &[u32], n: u32) -> FoundPieces
     ensures { result ≡ found_pieces (piece_list_at records.now n) }
 {
-    let Pieces::Listed(l) = node::source::content_source_info(records, n as usize) else {
-        return NO_PIECES;
+    let Some(l) = node::source::content_source_info(records, n as usize) else {
+        return FoundPieces::default();
     };
     FoundPieces {
         present: 1,
@@ -131,8 +96,8 @@ pub extern "C" fn quarto_yaml_content_source_info(records: &[u32], n: u32) -> Fo
 pub extern "C" fn quarto_yaml_hash_entry(records: &[u32], n: u32, i: u32) -> FoundEntry
     ensures { result ≡ found_entry (hash_entry records.now n i) }
 {
-    let Entry::Pair(x) = node::entry::hash_entry(records, n as usize, i as usize) else {
-        return NO_ENTRY;
+    let Some(x) = node::entry::hash_entry(records, n as usize, i as usize) else {
+        return FoundEntry::default();
     };
     FoundEntry {
         present: 1,

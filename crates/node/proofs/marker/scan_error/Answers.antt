@@ -1,47 +1,22 @@
 -- `node::marker::scan_error` meets its contract: the offsets of two indices in turn, of a text that is admitted.
-use mathlib.Core.Path.{sym, ◌∙◌}
-use native.Mathlib.Omega.{arith}
-use Rattle.text.proofs.AdmissionLaws.{admitted_text, admitted_ascii}
+use Rattle.std.proofs.Common.{◌≡◌, sym, ap, ◌∙◌, arith}
 use Rattle.text.proofs.OffsetLaws.{stands_start, cursor_stands}
-use Rattle.node.specs.Marker.{scan_error}
-use Rattle.node.proofs.Parts.{cursor_offset, offset_few}
+use Rattle.node.specs.Marker.{scan_error, scan_error_of}
+use Rattle.node.proofs.Offsets.{cursor_offset, offset_few}
 use Rattle.node.proofs.marker.scan_error.Goals as goal
 
 pub byte_offset_of_char-from-requires : goal.byte_offset_of_char-from-requires
-byte_offset_of_char-from-requires c =
-    let s = c.args.text.now in
-    let e = sym c.admit_text-admission.ensures ∙ c.in-Admitted.is in
-    record { utf8 = (admitted_text s _ e).utf8; ascii_value = admitted_ascii s _ e; stands = stands_start s }
+byte_offset_of_char-from-requires c = stands_start c.in_ok-text.text.content.bytes.now
 
 pub byte_offset_of_char-to-requires : goal.byte_offset_of_char-to-requires
-byte_offset_of_char-to-requires c =
-    let s = c.args.text.now in
-    let e = sym c.admit_text-admission.ensures ∙ c.in-Admitted.is in
-    record { utf8 = (admitted_text s _ e).utf8; ascii_value = admitted_ascii s _ e; stands = rw c.byte_offset_of_char-from.ensures (cursor_stands s _) }
+byte_offset_of_char-to-requires c = rw c.byte_offset_of_char-from.ensures (cursor_stands c.in_ok-text.text.content.bytes.now _)
 
-pub overflow_cast-start : goal.overflow_cast-start
-overflow_cast-start c =
-    let s = c.args.text.now in
-    let e = sym c.admit_text-admission.ensures ∙ c.in-Admitted.is in
-    omega (arith, offset_few s _ _ (admitted_text s _ e) c.byte_offset_of_char-from.ensures)
+pub overflow_cast-result : goal.overflow_cast-result
+overflow_cast-result c =
+    let t = c.in_ok-text.text.content in
+    omega (arith, offset_few t.bytes.now _ _ t.within t.utf8 c.byte_offset_of_char-from.ensures)
 
-pub overflow_cast-end : goal.overflow_cast-end
-overflow_cast-end c =
-    let s = c.args.text.now in
-    let e = sym c.admit_text-admission.ensures ∙ c.in-Admitted.is in
-    omega (arith, offset_few s _ _ (admitted_text s _ e) c.byte_offset_of_char-to.ensures)
-
-pub returns-in-Admitted : goal.returns-in-Admitted
-unfolding scan_error
-returns-in-Admitted c =
-    let s = c.args.text.now in
-    let e = sym c.admit_text-admission.ensures ∙ c.in-Admitted.is in
-    rw (e, cursor_offset s _ _ c.byte_offset_of_char-from.ensures, cursor_offset s _ _ c.byte_offset_of_char-to.ensures)
-
-pub returns-in-TooLong : goal.returns-in-TooLong
-unfolding scan_error
-returns-in-TooLong c = rw (sym c.admit_text-admission.ensures ∙ c.in-TooLong.is)
-
-pub returns-in-NotUtf8 : goal.returns-in-NotUtf8
-unfolding scan_error
-returns-in-NotUtf8 c = rw (sym c.admit_text-admission.ensures ∙ c.in-NotUtf8.is)
+pub overflow_cast-result-2 : goal.overflow_cast-result-2
+overflow_cast-result-2 c =
+    let t = c.in_ok-text.text.content in
+    omega (arith, offset_few t.bytes.now _ _ t.within t.utf8 c.byte_offset_of_char-to.ensures)

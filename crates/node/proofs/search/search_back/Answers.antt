@@ -1,32 +1,36 @@
-use mathlib.Core.Path.{refl, ◌∙◌}
-use Prim.Native.Nat.{◌<◌}
-use native.Mathlib.Omega.{arith}
-use Rattle.node.proofs.Steps.{pair_none, pairs_none, pairs-on, pairs_done}
+use Rattle.std.proofs.Common.{◌≡◌, refl, ℕ, Option, Bool, Some, cond, ◌<◌, ◌-◌, ◌+◌, ◌∙◌, sym, ap, arith}
+use Rattle.node.specs.Search.{key_is, earlier}
+use Rattle.node.proofs.Steps.{pairs_on, pairs_done}
 use Rattle.node.proofs.search.search_back.Goals as goal
+use Rattle.node.proofs.search.search_back.Goals.{then-key_is, else-key_is, then-i-count+in_ok-at, else-i-count}
 
-pub returns-in_default : goal.returns-in_default
-returns-in_default c =
-    let lost = rw c.in_default.is at c.pair_ending.ensures in
-    pair_none _ _ _ _ _ _ lost ∙ c.loop-pair.invariant
+pub loop-i-preserved : goal.loop-i-preserved
+loop-i-preserved c =
+    let b = c.args.records.now in
+    let y = c.in_ok-pair.pair in
+    let n : c.args.count + 1 - (c.loop-i.i + 1) ≡ c.args.count + 1 - c.loop-i.i - 1 = omega arith in
+    let q : earlier b c.args.events.now c.args.key.now y.key c.loop-i.at c.loop-i.found ≡ c.if-key_is.found =
+    elim c.if-key_is.branch [
+      | then-key_is w ↦ rw (← c.key_is.ensures, w.if-key_is.true) (sym w.found-is)
+      | else-key_is w ↦ rw (← c.key_is.ensures, w.if-key_is.false) (sym w.found-is)
+    ] in
+    elim c.if-i-count.branch [
+      | then-i-count+in_ok-at w ↦
+          rw (n, w.at-is)
+          (sym (pairs_on b c.args.events.now c.args.key.now (c.args.count + 1 - c.loop-i.i) c.loop-i.at w.in_ok-at.at c.loop-i.found c.if-key_is.found y (omega arith) (sym c.in_ok-pair.ensures) (sym w.in_ok-at.ensures) q)
+          ∙ c.loop-i.invariant)
+      | else-i-count w ↦ absurd (omega arith)
+    ]
 
-pub returns-then-left-eq0 : goal.returns-then-left-eq0
-returns-then-left-eq0 c =
-    let here = rw c.in-Pair.is at c.pair_ending.ensures in
-    c.or_later-later.ensures ∙ pairs_done _ _ _ _ _ _ _ c.if-left-eq0.true here ∙ c.loop-pair.invariant
-
-pub returns-in_default-child_before : goal.returns-in_default-child_before
-returns-in_default-child_before c =
-    let here = rw c.in-Pair.is at c.pair_ending.ensures in
-    let lost = rw c.in_default-child_before.is at c.child_before.ensures in
-    let more : 0 < c.loop-pair.left = omega arith in
-    pairs_none _ _ _ _ _ _ _ more here lost ∙ c.loop-pair.invariant
-
-pub loop-pair-preserved : goal.loop-pair-preserved
-loop-pair-preserved c =
-    let here = rw c.in-Pair.is at c.pair_ending.ensures in
-    let on = rw c.in-At.is at c.child_before.ensures in
-    let more : 0 < c.loop-pair.left = omega arith in
-    pairs-on _ _ _ _ _ _ _ _ _ more here on c.or_later-later.ensures ∙ c.loop-pair.invariant
-
-pub loop-pair-init : goal.loop-pair-init
-loop-pair-init c = refl
+pub returns-after-i-count : goal.returns-after-i-count
+returns-after-i-count c =
+    let b = c.args.records.now in
+    let y = c.in_ok-pair.pair in
+    let last : c.args.count + 1 - c.loop-i.i ≡ 1 = omega arith in
+    let q : earlier b c.args.events.now c.args.key.now y.key c.loop-i.at c.loop-i.found ≡ c.if-key_is.found =
+    elim c.if-key_is.branch [
+      | then-key_is w ↦ rw (← c.key_is.ensures, w.if-key_is.true) (sym w.found-is)
+      | else-key_is w ↦ rw (← c.key_is.ensures, w.if-key_is.false) (sym w.found-is)
+    ] in
+    sym (pairs_done b c.args.events.now c.args.key.now (c.args.count + 1 - c.loop-i.i) c.loop-i.at c.loop-i.found c.if-key_is.found y last (sym c.in_ok-pair.ensures) q)
+    ∙ c.loop-i.invariant

@@ -1,14 +1,8 @@
--- `node::search::search_back` meets its contract. The loop's invariant: the pairs left, with the answer of those
--- behind, give what all pairs gave. The measure is how many pairs are left before this one.
-use mathlib.Core.Option.{none}
-use mathlib.Core.Path.{◌≡◌}
+-- `node::search::search_back` meets its contract. The loop's invariant: the pairs that are left, from here, give what all pairs give from `v`.
+use Rattle.std.proofs.Common.{◌≡◌, ◌+◌, ◌-◌, None}
 use Rattle.node.specs.Search.{search_back}
-use Rattle.node.specs.Child.{place_in}
+use Rattle.node.proofs.Steps.{rest}
 use Rattle.node.proofs.search.search_back.Given as goal
 
-abbrev pub invariant-loop-pair : goal.invariant-loop-pair
-invariant-loop-pair l =
-    search_back l.records l.events l.key l.left l.at (place_in l.later) ≡ search_back l.records l.events l.key l.count l.v none
-
-abbrev pub decreases-loop-pair : goal.decreases-loop-pair
-decreases-loop-pair l = l.left
+abbrev pub invariant-loop-i : goal.invariant-loop-i
+invariant-loop-i l = rest l.records l.events l.key (l.count + 1 - l.i) l.at l.found ≡ search_back l.records l.events l.key l.count l.v None

@@ -1,22 +1,34 @@
 -- `quarto_yaml_build` is `build` in 32 bits: its counts and its place are bounded by the event bytes and by the pieces that are let in.
-use mathlib.Core.Path.{ap, ◌∙◌}
-use lib.ListN.{length}
-use native.Mathlib.Omega.{arith}
+use Rattle.std.proofs.Common.{◌≡◌, ℕ, ◌<◌, List, Result, Ok, Err, arith, length, get_or}
 use Rattle.event.specs.Read.{events_limit}
 use Rattle.records.specs.Layout.{piece_limit}
+use Rattle.parser.specs.Call.{returned, table_row, building}
+use Rattle.parser.specs.declared.answer.Built.{Built}
+use Rattle.parser.specs.declared.answer.Refused.{Refused}
 use Rattle.parser.proofs.BoundLaws.{building_bounded}
 use Rattle.quarto_yaml.proofs.Rows.{told_fits}
-use Rattle.quarto_yaml.specs.Answer.{three, build_outcome}
+use Rattle.quarto_yaml.specs.Fit.{Fit}
 use Rattle.quarto_yaml.proofs.build.quarto_yaml_build.Goals as goal
 
-pub of_answer-requires : goal.of_answer-requires
-of_answer-requires c =
-    let a = c.args in
-    told_fits events_limit piece_limit (build_outcome a.text.now a.events.now a.records.now a.pieces.now) _ (omega arith) (omega arith)
-    (building_bounded a.text.now a.events.now (length a.records.now) (length a.pieces.now) (λ k. (c.type_inv.events k).fits))
-    c.build.ensures.answer
+-- what was answered fits
+fit : (text events : List ℕ) (size pieces_size : ℕ) (r : Result Built Refused) → ((k : ℕ) → get_or events k 0 < 256) → returned r ≡ table_row (building text events size pieces_size) → Fit (returned r)
+fit text events size pieces_size r bytes e =
+    told_fits events_limit piece_limit (building text events size pieces_size) _ (omega arith) (omega arith) (building_bounded text events size pieces_size bytes) e
 
-pub returns : goal.returns
-returns c =
-    let made = c.build.ensures in
-    record { answer = c.of_answer.ensures ∙ ap three made.answer; all_records = made.all_records; all_pieces = made.all_pieces }
+pub overflow_cast-result : goal.overflow_cast-result
+overflow_cast-result c =
+    let a = c.args in
+    let f = fit a.text.now a.events.now (length a.records.now) (length a.pieces.now) (Ok c.in-Ok.built) (λ k. (c.type_inv.events k).fits) c.in-Ok.ensures.answer in
+    record { fits = omega arith }
+
+pub overflow_cast-result-in-Ok : goal.overflow_cast-result-in-Ok
+overflow_cast-result-in-Ok c =
+    let a = c.args in
+    let f = fit a.text.now a.events.now (length a.records.now) (length a.pieces.now) (Ok c.in-Ok.built) (λ k. (c.type_inv.events k).fits) c.in-Ok.ensures.answer in
+    record { fits = omega arith }
+
+pub overflow_cast-result-in-Err : goal.overflow_cast-result-in-Err
+overflow_cast-result-in-Err c =
+    let a = c.args in
+    let f = fit a.text.now a.events.now (length a.records.now) (length a.pieces.now) (Err c.in-Err.refused) (λ k. (c.type_inv.events k).fits) c.in-Err.ensures.answer in
+    record { fits = omega arith }

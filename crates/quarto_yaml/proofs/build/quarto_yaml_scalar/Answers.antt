@@ -1,7 +1,5 @@
 -- `quarto_yaml_scalar` is `scalar` in 32 bits: its counts are 1 and what is let in of pieces.
-use mathlib.Core.Path.{ap, ◌∙◌}
-use lib.ListN.{length}
-use native.Mathlib.Omega.{arith}
+use Rattle.std.proofs.Common.{ap, arith, length}
 use Rattle.records.specs.Layout.{piece_limit}
 use Rattle.records.specs.Record.{node_numbers}
 use Rattle.spans.specs.Scalar.{mark}
@@ -10,20 +8,19 @@ use Rattle.quarto_yaml.proofs.Rows.{told_fits}
 use Rattle.quarto_yaml.specs.Answer.{three, scalar_outcome}
 use Rattle.quarto_yaml.proofs.build.quarto_yaml_scalar.Goals as goal
 
-pub of_answer-answer-requires : goal.of_answer-answer-requires
-of_answer-answer-requires c =
+pub overflow_cast-result : goal.overflow_cast-result
+overflow_cast-result c =
     let a = c.args in
-    told_fits 1 piece_limit
-    (scalar_outcome a.text.now a.index a.column a.style a.empty_span a.value.now a.pieces.now) _
-    (omega arith) (omega arith)
+    let f =
+    told_fits 1 piece_limit (scalar_outcome a.text.now a.index a.column a.style a.empty_span a.value.now a.pieces.now) _ (omega arith) (omega arith)
     (scalar_bounded a.text.now (mark a.index a.column a.style a.empty_span) a.value.now (length a.pieces.now))
-    c.scalar-r.ensures.answer
+    c.scalar.ensures.answer
+    in
+    let h = rw c.in-Ok.is at f in
+    record { fits = omega arith }
 
-pub returns : goal.returns
-returns c =
-    let made = c.scalar-r.ensures in
-    record {
-      answer = c.of_answer-answer.ensures ∙ ap three made.answer;
-      one_record = c.record_numbers-record.ensures ∙ ap node_numbers made.one_record;
-      all_pieces = made.all_pieces;
-    }
+pub returns-in-Err : goal.returns-in-Err
+unfolding node_numbers
+returns-in-Err c =
+    let told = c.in-Err.ensures in
+    record { answer = rw c.into.ensures (ap three told.answer); one_record = ap node_numbers told.one_record; all_pieces = told.all_pieces }

@@ -1,14 +1,9 @@
 -- `quarto_yaml_get_hash_value` is `get_hash_value` in 32 bits: the record answered has a number of at most the one asked about.
-use mathlib.Core.Path.{ap, ◌∙◌}
-use native.Mathlib.Omega.{arith}
+use Rattle.std.proofs.Common.{arith}
 use Rattle.quarto_yaml.proofs.Records.{fits, value_at_most}
-use Rattle.quarto_yaml.specs.None.{or_none}
 use Rattle.quarto_yaml.proofs.child.quarto_yaml_get_hash_value.Goals as goal
 
 pub or_none-requires : goal.or_none-requires
 or_none-requires c =
     fits c.args.n (omega arith) c.get_hash_value.ensures
     (value_at_most c.args.records.now c.args.events.now c.args.key.now c.args.n)
-
-pub returns : goal.returns
-returns c = c.or_none.ensures ∙ ap or_none c.get_hash_value.ensures
