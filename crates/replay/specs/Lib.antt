@@ -2,9 +2,8 @@
 -- Test programs: what they compare.
 -- the framing of an answered case
 pub mod Case
--- a case that was read
-pub mod Stream
 -- the count of verdicts
 pub mod Tally
+-- Statements: proved; nothing here is to be believed.
 -- a run ends
 pub mod TallyLaws

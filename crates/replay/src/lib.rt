@@ -3,5 +3,8 @@
 #![tactic(auto)]
 
 pub mod case;
+pub mod list;
 pub mod stream;
 pub mod tally;
+
+pub use crate::list::run;

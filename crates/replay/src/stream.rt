@@ -1,112 +1,63 @@
 // A list that is read, as from standard input, a case at a time.
-ghost use Rattle.std.specs.Prelude.{◌≡◌, ◌≤◌, min, length};
-ghost use Rattle.replay.specs.Case.{part_of};
-ghost use Rattle.replay.specs.Stream.{Fits, case_len};
+ghost use Rattle.std.specs.Prelude.{◌≤◌, length, IfOk, IfSome};
 
-use crate::case::{bytes_at, number_at};
-use std::io::Read;
+use std::io;
+use std::io::{BufRead, Read};
 
 // How many bytes are read away at a time.
 const CHUNK: usize = 4096;
 
-#[derive(Clone, Copy)]
-pub enum Next {
-    // The case is in the buffer's first bytes, as many as this says.
-    Case(usize),
-    // The case is larger than the buffer and was passed over.
+// Why the next case is not in the buffer.
+#[derive(Clone, Copy, Debug, PartialEq, Eq)]
+pub enum CaseError {
+    // It is larger than the buffer and was passed over.
     TooLarge,
-    // The list ended.
-    End,
     // The list is cut off.
     Broken,
 }
 
-fn least(a: usize, b: usize) -> usize
-    ensures { result ≡ min a b }
-{
-    if a < b { a } else { b }
-}
-
-// Reads until the buffer is full, the list ends or a read fails, and answers how many bytes were read.
-fn read_full<R: Read>(list: &mut R, buffer: &mut [u8]) -> usize
-    ensures { result ≤ length buffer.new }
-{
-    let mut done = 0;
-    while done < buffer.len() {
-        let Ok(read) = list.read(&mut buffer[done..]) else {
-            break;
-        };
-        if read == 0 {
-            break;
-        }
-        done += read;
+// A read that fails cuts the list off.
+impl From<io::Error> for CaseError {
+    fn from(_: io::Error) -> CaseError {
+        CaseError::Broken
     }
-    done
 }
 
-// Reads some of the next `left` bytes away, and answers how many; 0 at the list's end.
-fn skip_some<R: Read>(list: &mut R, left: usize) -> usize
-    ensures { result ≤ left }
-{
-    let part = least(left, CHUNK);
+// Reads so many bytes of the list away.
+fn skip<R: Read>(list: &mut R, size: usize) -> io::Result<()> {
     let mut chunk = [0u8; CHUNK];
-    least(read_full(list, &mut chunk[..part]), left)
-}
-
-// Reads `size` bytes of the list away, and answers whether they were there.
-fn skip<R: Read>(list: &mut R, size: usize) -> bool {
-    let mut left = size;
-    while left > 0 {
-        let read = skip_some(list, left);
-        if read == 0 {
-            return false;
-        }
-        left -= read;
+    for _ in 0..size / CHUNK {
+        list.read_exact(&mut chunk)?;
     }
-    true
+    list.read_exact(&mut chunk[..size % CHUNK])
 }
 
-// Reads the next case of the list into the buffer. A read that fails is the list's end.
-pub fn next_case<R: Read>(list: &mut R, buffer: &mut [u8]) -> Next
-    ensures { Fits result (length buffer.new) }
+// Whether nothing is left to read. A read that fails is the list's end.
+fn is_at_end<R: BufRead>(list: &mut R) -> bool {
+    match list.fill_buf() {
+        Ok(bytes) => bytes.is_empty(),
+        Err(_) => true,
+    }
+}
+
+// Reads the next case of the list into the buffer, and answers its bytes there; none at the list's end.
+pub fn next_case<'a, R: BufRead>(
+    list: &mut R,
+    buffer: &'a mut [u8],
+) -> Result<Option<&'a [u8]>, CaseError>
+    ensures { IfOk result (λ o. IfSome o (λ case. length case.now ≤ length buffer.old)) }
 {
+    if is_at_end(list) {
+        return Ok(None);
+    }
     let mut head = [0u8; 4];
-    let got = read_full(list, &mut head);
-    if got == 0 {
-        return Next::End;
-    }
-    if got < 4 {
-        return Next::Broken;
-    }
-    let size = number_at(&head, 0) as usize;
+    list.read_exact(&mut head)?;
+    let size = u32::from_be_bytes(head) as usize;
     if buffer.len() < size {
-        if skip(list, size) {
-            return Next::TooLarge;
-        }
-        return Next::Broken;
+        skip(list, size)?;
+        return Err(CaseError::TooLarge);
     }
-    let read = read_full(list, &mut buffer[..size]);
-    if read < size {
-        return Next::Broken;
-    }
-    Next::Case(size)
-}
-
-// How many bytes of the buffer are the case that was read into it; 0 where none was.
-fn case_len(next: Next) -> usize
-    ensures { result ≡ case_len next }
-{
-    match next {
-        Next::Case(len) => len,
-        Next::TooLarge => 0,
-        Next::End => 0,
-        Next::Broken => 0,
-    }
-}
-
-// These bytes.
-pub fn read_case(buffer: &[u8], next: Next) -> &[u8]
-    ensures { result.now ≡ part_of buffer.now 0 (case_len next) }
-{
-    bytes_at(buffer, 0, case_len(next))
+    let case = &mut buffer[..size];
+    list.read_exact(case)?;
+    Ok(Some(case))
 }

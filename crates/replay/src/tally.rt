@@ -1,13 +1,13 @@
 // The outcome of a replay, counted and printed.
-ghost use Rattle.std.specs.Prelude.{◌≡◌, ◌-◌};
-ghost use Rattle.replay.specs.Tally.{one_more, judged_of, verdict_of, counted_of, closed_of, after_of};
+ghost use Rattle.std.specs.Prelude.{◌≡◌};
+ghost use Rattle.replay.specs.Tally.{judged_of, verdict_of, counted_of, closed_of, after_of};
 
-use crate::case::{Case, PANICKED};
-use crate::stream::Next;
-use std::io;
+use crate::case::Case;
+use crate::stream::CaseError;
+use std::fmt;
 
 // What one case came to.
-#[derive(Clone, Copy)]
+#[derive(Clone, Copy, Debug, PartialEq, Eq)]
 pub enum Verdict {
     Same,
     // The original panicked, so there is nothing to match.
@@ -17,130 +17,97 @@ pub enum Verdict {
     Different,
 }
 
-#[derive(Clone, Copy)]
+#[derive(Clone, Copy, Debug, PartialEq, Eq)]
 pub struct Tally {
     pub same: u64,
     pub panicked: u64,
     pub different: u64,
     // Cases that the program has no room for.
-    pub passed: u64,
+    pub too_large: u64,
     // How many cases may follow. A loop has to end, and nothing says that a list does, so it counts down from a number that no run uses up.
     pub left: u64,
     // The list could not be read to its end.
     pub broken: bool,
 }
 
-pub const START: Tally = Tally {
-    same: 0,
-    panicked: 0,
-    different: 0,
-    passed: 0,
-    left: u64::MAX,
-    broken: false,
-};
-
 // A case whose answer is the original's, or another.
 pub fn judged(same: bool) -> Verdict
     ensures { result ≡ judged_of same }
 {
     if same {
-        return Verdict::Same;
+        Verdict::Same
+    } else {
+        Verdict::Different
     }
-    Verdict::Different
 }
 
-// The same of a case that the original may not have answered and the program may have no room for.
-pub fn verdict_of(case: Case, fits: bool, same: bool) -> Verdict
-    ensures { result ≡ verdict_of case fits same }
+// The same of a case that the original may not have answered and the program may have no room for, where `same` is none.
+pub fn verdict_of(case: Case<'_>, same: Option<bool>) -> Verdict
+    ensures { result ≡ verdict_of case.entry.returned same }
 {
-    if case.code == PANICKED {
+    if case.returned.is_none() {
         return Verdict::Panicked;
     }
-    if fits {
-        return judged(same);
-    }
-    Verdict::TooLarge
+    same.map_or(Verdict::TooLarge, judged)
 }
 
-// A count stays at its largest value, which no run reaches.
-fn more(n: u64) -> u64
-    ensures { result ≡ one_more n }
-{
-    if n < u64::MAX {
-        return n + 1;
-    }
-    n
-}
+pub const START: Tally = Tally {
+    same: 0,
+    panicked: 0,
+    different: 0,
+    too_large: 0,
+    left: u64::MAX,
+    broken: false,
+};
 
-// One more case.
-fn counted(mut t: Tally, v: Verdict) -> Tally
-    ensures { result ≡ counted_of t v }
-{
-    match v {
-        Verdict::Same => {
-            t.same = more(t.same);
-            t
-        }
-        Verdict::Panicked => {
-            t.panicked = more(t.panicked);
-            t
-        }
-        Verdict::TooLarge => {
-            t.passed = more(t.passed);
-            t
-        }
-        Verdict::Different => {
-            t.different = more(t.different);
-            t
+impl Tally {
+    // One more case. A count stays at its largest value, which no run reaches.
+    fn count(&mut self, verdict: Verdict)
+        ensures { self.new ≡ counted_of self.old verdict }
+    {
+        match verdict {
+            Verdict::Same => self.same = self.same.saturating_add(1),
+            Verdict::Panicked => self.panicked = self.panicked.saturating_add(1),
+            Verdict::TooLarge => self.too_large = self.too_large.saturating_add(1),
+            Verdict::Different => self.different = self.different.saturating_add(1),
         }
     }
-}
 
-// No more cases.
-fn closed(mut t: Tally, broken: bool) -> Tally
-    ensures { result ≡ closed_of t broken }
-{
-    t.left = 0;
-    t.broken = broken;
-    t
-}
-
-fn less(n: u64) -> u64
-    ensures { result ≡ n - 1 }
-{
-    if n == 0 {
-        return 0;
+    // No more cases.
+    fn close(&mut self, broken: bool)
+        ensures { self.new ≡ closed_of self.old broken }
+    {
+        self.left = 0;
+        self.broken = broken;
     }
-    n - 1
-}
 
-// The count after what was read of the list, a case being judged so. One turn fewer is left (`fewer_left`).
-pub fn after(mut t: Tally, next: Next, v: Verdict) -> Tally
-    ensures { result ≡ after_of t next v }
-{
-    t.left = less(t.left);
-    match next {
-        Next::Case(_) => counted(t, v),
-        Next::TooLarge => counted(t, Verdict::TooLarge),
-        Next::End => closed(t, false),
-        Next::Broken => closed(t, true),
+    // What was read of the list: a case that is judged so, or its end. One turn fewer is left (`fewer_left`).
+    #[tactic(auto, unfolding(crate::specs::Tally::after_of))]
+    pub fn after(&mut self, read: Result<Option<Verdict>, CaseError>)
+        ensures { self.new ≡ after_of self.old read }
+    {
+        self.left = self.left.saturating_sub(1);
+        match read {
+            Ok(Some(verdict)) => self.count(verdict),
+            Ok(None) => self.close(false),
+            Err(CaseError::TooLarge) => self.count(Verdict::TooLarge),
+            Err(CaseError::Broken) => self.close(true),
+        }
     }
 }
 
-fn line(rt: &impl Print, n: u64, what: &str) -> io::Result<()> {
-    println!(rt; "{n} {what}")
-}
-
-// Prints the counts, and whether the list was read to its end.
-pub fn print(rt: &impl Print, t: Tally) -> io::Result<()> {
-    line(rt, t.same, "the same")?;
-    line(rt, t.panicked, "not answered by the original")?;
-    line(rt, t.different, "different")?;
-    if t.passed > 0 {
-        line(rt, t.passed, "too large for this program")?;
+// A line for each count, and one more where the list was not read to its end.
+impl fmt::Display for Tally {
+    fn fmt<W: fmt::Write>(&self, f: &mut fmt::Formatter<W>) -> fmt::Result {
+        writeln!(f, "{} the same", self.same)?;
+        writeln!(f, "{} not answered by the original", self.panicked)?;
+        writeln!(f, "{} different", self.different)?;
+        if self.too_large > 0 {
+            writeln!(f, "{} too large for this program", self.too_large)?;
+        }
+        if self.broken {
+            writeln!(f, "the list is broken")?;
+        }
+        Ok(())
     }
-    if t.broken {
-        println!(rt; "the list is broken")?;
-    }
-    Ok(())
 }

@@ -2,66 +2,38 @@
 // four bytes each. The records of the case are the start and the end of each error's span.
 #![tactic(auto)]
 
-use node::marker::{Scanned, scan_error};
-use replay::case::Case;
-use replay::tally::Verdict;
-use replay_accessors::matched::{DIFFERENT, Matched, START, is_whole, number};
+use node::marker::scan_error;
+use parser::answer::Refusal;
+use replay::case::{Case, case_of, number_at};
+use replay::tally::{Verdict, judged};
+use replay_accessors::matched::Matcher;
 use std::io;
 
 const INDEX_BYTES: usize = 4;
 
-// The answer is the next span of the list, or the refusal that the case says.
-fn same_answer(answer: Scanned, case: Case, list: &[u8], m: Matched) -> Matched {
-    match answer {
-        Scanned::Span(span) => {
-            if case.code != 0 {
-                return DIFFERENT;
+// Whether the error at every index is where the list says, or the refusal is the one that the case says.
+fn same_errors(case: Case<'_>) -> bool {
+    let mut m = Matcher::new(case.records);
+    for index in case.events.chunks(INDEX_BYTES) {
+        let code = match scan_error(case.text, number_at(index, 0)) {
+            Ok(span) => {
+                m.numbers(&[span.start, span.end]);
+                0
             }
-            number(list, number(list, m, span.start), span.end)
-        }
-        Scanned::Refused(row) => {
-            if case.code != row {
-                return DIFFERENT;
-            }
-            m
+            Err(error) => u32::from(Refusal::from(error)),
+        };
+        if !case.returned.is_some_and(|returned| returned.code == code) {
+            return false;
         }
     }
-}
-
-// Whether the error at every index is where the list says.
-fn same_errors(text: &[u8], indices: &[u8], case: Case, list: &[u8]) -> bool {
-    let mut matched = START;
-    let mut at = 0;
-    while at < indices.len() {
-        let answer = scan_error(text, replay::case::number_at(indices, at));
-        matched = same_answer(answer, case, list, matched);
-        at += INDEX_BYTES;
-    }
-    is_whole(list, matched)
+    m.is_whole()
 }
 
 fn verdict(bytes: &[u8]) -> Verdict {
-    let case = replay::case::case_of(bytes);
-    let text = replay::case::bytes_of(bytes, case.text);
-    let indices = replay::case::bytes_of(bytes, case.events);
-    let list = replay::case::bytes_of(bytes, case.records);
-    if indices.len() == 0 {
-        return Verdict::Different;
-    }
-    replay::tally::judged(same_errors(text, indices, case, list))
+    let case = case_of(bytes);
+    judged(!case.events.is_empty() && same_errors(case))
 }
 
-// The largest case that there is room for, in bytes.
-const SPACE: usize = 65536;
-
 fn main(rt: HostRuntime) -> io::Result<()> {
-    let mut list = rt.reader();
-    let mut space = [0u8; SPACE];
-    let mut tally = replay::tally::START;
-    while tally.left > 0 {
-        let next = replay::stream::next_case(&mut list, &mut space);
-        let v = verdict(replay::stream::read_case(&space, next));
-        tally = replay::tally::after(tally, next, v);
-    }
-    replay::tally::print(&rt, tally)
+    replay::run(&rt, verdict)
 }

@@ -1,10 +1,12 @@
 // Replays the original's resolution of scalars: each case is one scalar, whose record has its kind and payload.
 #![tactic(auto)]
 
-use event::read::Event;
-use event::tag::YamlTag;
-use replay::tally::Verdict;
-use schema::plain::Resolved;
+use event::read::{Event, read_event};
+use event::string::Part;
+use replay::case::{Case, bytes_at, case_of, number_at};
+use replay::tally::{Verdict, judged};
+use schema::record::{kind_number, payload_of};
+use schema::tag::{Tag, resolve_scalar};
 use std::io;
 
 // Where a record's kind and its two payload numbers stand, in bytes.
@@ -12,65 +14,38 @@ const KIND_AT: usize = 0;
 
 const PAYLOAD_AT: usize = 40;
 
-// What the scalar with this value is.
-fn resolve(events: &[u8], value: &[u8], style: u8, tag: YamlTag) -> Resolved {
-    match tag {
-        YamlTag::Absent => schema::tag::resolve_scalar(value, style, false, value, value),
-        YamlTag::Present { handle, suffix } => {
-            let handle = replay::case::bytes_at(events, handle.at, handle.len);
-            let suffix = replay::case::bytes_at(events, suffix.at, suffix.len);
-            schema::tag::resolve_scalar(value, style, true, handle, suffix)
-        }
-    }
-}
-
-// Whether a record has the kind and the payload of what a scalar is, whose value starts at `place` and has `len` bytes.
-fn same_scalar(record: &[u8], resolved: Resolved, place: usize, len: usize) -> bool {
-    if 0xffff_ffff < place {
+// Whether the first event is a scalar, and the record has the kind and the payload of what it is.
+fn same_scalar(case: Case<'_>) -> bool {
+    let Ok(
+        Event::Scalar {
+            style,
+            tag,
+            value,
+            ..
+        },
+    ) = read_event(case.events, 0)
+    else {
         return false;
-    }
-    if 0xffff_ffff < len {
+    };
+    let (Ok(place), Ok(len)) = (u32::try_from(value.at), u32::try_from(value.len)) else {
         return false;
-    }
-    let payload = schema::record::payload_of(resolved, place as u32, len as u32);
-    if schema::record::kind_number(resolved) != replay::case::number_at(record, KIND_AT) {
-        return false;
-    }
-    if payload.first != replay::case::number_at(record, PAYLOAD_AT) {
-        return false;
-    }
-    payload.second == replay::case::number_at(record, PAYLOAD_AT + 4)
+    };
+    let bytes = |part: Part| bytes_at(case.events, part.at, part.len);
+    let tag = tag.map(|tag| Tag {
+        handle: bytes(tag.handle),
+        suffix: bytes(tag.suffix),
+    });
+    let resolved = resolve_scalar(bytes(value), style, tag);
+    let payload = payload_of(resolved, place, len);
+    kind_number(resolved) == number_at(case.records, KIND_AT)
+        && payload.first == number_at(case.records, PAYLOAD_AT)
+        && payload.second == number_at(case.records, PAYLOAD_AT + 4)
 }
 
 fn verdict(bytes: &[u8]) -> Verdict {
-    let case = replay::case::case_of(bytes);
-    let events = replay::case::bytes_of(bytes, case.events);
-    let record = replay::case::bytes_of(bytes, case.records);
-    let Event::Scalar {
-        style,
-        tag,
-        value,
-        ..
-    } = event::read::read_event(events, 0)
-    else {
-        return Verdict::Different;
-    };
-    let content = replay::case::bytes_at(events, value.at, value.len);
-    let resolved = resolve(events, content, style, tag);
-    replay::tally::judged(same_scalar(record, resolved, value.at, value.len))
+    judged(same_scalar(case_of(bytes)))
 }
 
-// The largest case that there is room for, in bytes.
-const SPACE: usize = 65536;
-
 fn main(rt: HostRuntime) -> io::Result<()> {
-    let mut list = rt.reader();
-    let mut space = [0u8; SPACE];
-    let mut tally = replay::tally::START;
-    while tally.left > 0 {
-        let next = replay::stream::next_case(&mut list, &mut space);
-        let v = verdict(replay::stream::read_case(&space, next));
-        tally = replay::tally::after(tally, next, v);
-    }
-    replay::tally::print(&rt, tally)
+    replay::run(&rt, verdict)
 }

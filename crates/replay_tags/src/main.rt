@@ -1,10 +1,14 @@
 // Replays the original's tag spans: each record with a tag has the tag's span and the suffix's length.
 #![tactic(auto)]
 
-ghost use Rattle.utf8.specs.Utf8.{Utf8};
+ghost use Rattle.std.specs.Prelude.{◌≡◌, true};
+ghost use Rattle.utf8.specs.Characters.{is_utf8};
 
-use replay::tally::Verdict;
+use replay::case::{case_of, number_at};
+use replay::tally::{Verdict, judged};
 use std::io;
+use tag::property::{TagSpan, make_tag_info};
+use utf8::utf8::{is_boundary, is_utf8};
 
 // A record's bytes, and where its span start, its tag span and the length of its tag's suffix stand in them.
 const RECORD_BYTES: usize = 48;
@@ -17,65 +21,36 @@ const SUFFIX_LEN_AT: usize = 24;
 
 const NO_TAG: u32 = 0xffff_ffff;
 
-// Whether the tag of the record at `place` is found, or guessed, where the record says.
-fn same_tag(text: &[u8], records: &[u8], place: usize) -> bool
-    requires { Utf8 text.now }
+// Whether the tag of a record, if it has one, is found, or guessed, where the record says.
+fn same_tag(text: &[u8], record: &[u8]) -> bool
+    requires { is_utf8 text.now ≡ true }
 {
-    if records.len() < place {
-        return false;
-    }
-    let start = replay::case::number_at(records, place + START_AT) as usize;
-    let tag_start = replay::case::number_at(records, place + TAG_AT);
+    let tag_start = number_at(record, TAG_AT);
     if tag_start == NO_TAG {
         return true;
     }
-    let tag_end = replay::case::number_at(records, place + TAG_AT + 4);
-    let suffix = replay::case::number_at(records, place + SUFFIX_LEN_AT) as usize;
-    if !utf8::utf8::is_boundary(text, start) {
+    let start = number_at(record, START_AT) as usize;
+    if !is_boundary(text, start) {
         return false;
     }
-    let span = tag::property::make_tag_info(text, start, suffix);
-    if span.start != tag_start as usize {
-        return false;
-    }
-    span.end == tag_end as usize
-}
-
-// Whether the tags of all records are.
-fn same_tags(text: &[u8], records: &[u8]) -> bool
-    requires { Utf8 text.now }
-{
-    let mut place = 0;
-    while place < records.len() {
-        if !same_tag(text, records, place) {
-            return false;
+    let suffix = number_at(record, SUFFIX_LEN_AT) as usize;
+    let tag_end = number_at(record, TAG_AT + 4);
+    make_tag_info(text, start, suffix)
+        == TagSpan {
+            start: tag_start as usize,
+            end: tag_end as usize,
         }
-        place += RECORD_BYTES;
-    }
-    true
 }
 
 fn verdict(bytes: &[u8]) -> Verdict {
-    let case = replay::case::case_of(bytes);
-    let text = replay::case::bytes_of(bytes, case.text);
-    let records = replay::case::bytes_of(bytes, case.records);
-    if !utf8::utf8::is_utf8(text) {
+    let case = case_of(bytes);
+    if !is_utf8(case.text) {
         return Verdict::Different;
     }
-    replay::tally::judged(same_tags(text, records))
+    let mut records = case.records.chunks(RECORD_BYTES);
+    judged(records.all(|record| same_tag(case.text, record)))
 }
 
-// The largest case that there is room for, in bytes.
-const SPACE: usize = 65536;
-
 fn main(rt: HostRuntime) -> io::Result<()> {
-    let mut list = rt.reader();
-    let mut space = [0u8; SPACE];
-    let mut tally = replay::tally::START;
-    while tally.left > 0 {
-        let next = replay::stream::next_case(&mut list, &mut space);
-        let v = verdict(replay::stream::read_case(&space, next));
-        tally = replay::tally::after(tally, next, v);
-    }
-    replay::tally::print(&rt, tally)
+    replay::run(&rt, verdict)
 }

@@ -1,12 +1,9 @@
--- `replay_offsets::same_offsets` is safe and ends. The loop's invariant: the cursor stands, and the records read lie within theirs. The
--- measure is what is left of the events.
-use Prim.Native.Nat.{◌+◌, ◌-◌, ◌≤◌}
-use lib.ListN.{length}
+-- `replay_offsets::same_offsets` is safe. The loop's invariant: the cursor stands in the text.
 use Rattle.text.specs.Offset.{Stands}
 use Rattle.replay_offsets.proofs.same_offsets.Given as goal
 
-abbrev pub invariant-loop-event : goal.invariant-loop-event
-invariant-loop-event l = (Stands l.text l.cursor.chars l.cursor.offset) × (l.event ≤ length l.events + 8) × (l.place ≤ length l.records)
-
-abbrev pub decreases-loop-event : goal.decreases-loop-event
-decreases-loop-event l = length l.events + 8 - l.event
+abbrev pub invariant-loop-alias : goal.invariant-loop-alias
+invariant-loop-alias l =
+    (goal.iterator-loop-alias).can_next l.alias-iterator
+    × (goal.iterator-loop-alias).is_finite l.alias-iterator
+    × Stands l.text.content.bytes.now l.cursor.chars l.cursor.offset

@@ -1,13 +1,7 @@
--- `replay::case::same_numbers` meets its contract. The loop's invariant: the rest of the buffer and of the list compare as the whole
--- does. The measure is what is left of the buffer.
-use mathlib.Core.Path.{◌≡◌}
-use Prim.Native.Nat.{◌-◌}
-use lib.ListN.{length, drop}
+-- `replay::case::same_numbers` meets its contract. The loop's invariant: the rest of the buffer and of the list compare as the whole does.
+use Rattle.std.proofs.Common.{◌≡◌, drop}
 use Rattle.replay.specs.Case.{same_numbers}
 use Rattle.replay.proofs.case.same_numbers.Given as goal
 
-abbrev pub invariant-loop-i : goal.invariant-loop-i
-invariant-loop-i l = same_numbers (drop l.i l.buffer) (drop l.at l.list) ≡ same_numbers l.buffer l.list
-
-abbrev pub decreases-loop-i : goal.decreases-loop-i
-decreases-loop-i l = length l.buffer - l.i
+abbrev pub invariant-loop-n : goal.invariant-loop-n
+invariant-loop-n l = same_numbers (drop l.n-index l.buffer) l.rest ≡ same_numbers l.buffer l.list

@@ -1,11 +1,7 @@
--- `replay_accessors::questions::about_children` meets its contract. The loop's invariant: the index past the last one and `back` before it were asked. The measure is what is left.
-use mathlib.Core.Path.{◌≡◌}
-use Prim.Native.Nat.{◌-◌, ◌≤◌}
+-- `replay_accessors::questions::about_children` meets its contract: the indices from the last one down to `i` were asked.
+use Rattle.std.proofs.Common.{◌≡◌, ◌≤◌, ◌-◌}
 use Rattle.replay_accessors.specs.Questions.{from_last}
 use Rattle.replay_accessors.proofs.questions.about_children.Given as goal
 
-abbrev pub invariant-loop-back : goal.invariant-loop-back
-invariant-loop-back l = (l.back ≤ l.most) × (l.matched ≡ from_last l.records l.n l.count l.list l.initial.matched l.back)
-
-abbrev pub decreases-loop-back : goal.decreases-loop-back
-decreases-loop-back l = l.most - l.back
+abbrev pub invariant-loop-i : goal.invariant-loop-i
+invariant-loop-i l = (l.count - l.limit ≤ l.i) × (l.m ≡ from_last l.records l.n l.count l.initial.m (l.count - l.i))

@@ -1,5 +1,0 @@
--- `replay::stream::read_case` meets its contract: by those of its calls.
-use Rattle.replay.proofs.stream.read_case.Goals as goal
-
-pub returns : goal.returns
-returns c = rw (c.bytes_at.ensures, c.case_len.ensures)

@@ -1,5 +1,0 @@
--- `replay_accessors::matched::two` meets its contract: by those of its calls.
-use Rattle.replay_accessors.proofs.matched.two.Goals as goal
-
-pub returns : goal.returns
-returns c = rw (c.number-2.ensures, c.number.ensures)
