@@ -6,6 +6,7 @@ use crate::malformed::Malformed;
 use crate::number::number_at;
 use crate::string::Part;
 use crate::tag::{YamlTag, start_tag, tag_at};
+use style::Style;
 use utf8::utf8::is_utf8;
 
 // The most event bytes of a call.
@@ -36,9 +37,6 @@ const EMPTY_SPAN: usize = 5;
 
 const YAML_TAG: usize = 6;
 
-// The last style: 0 plain, 1 single-quoted, 2 double-quoted, 3 literal, 4 folded.
-const FOLDED: u8 = 4;
-
 // An event: its marker index, what its body adds, and the place after it.
 #[derive(Clone, Copy, Debug, PartialEq, Eq)]
 pub enum Event {
@@ -63,7 +61,7 @@ pub enum Event {
     Scalar {
         index: u32,
         column: u32,
-        style: u8,
+        style: Style,
         empty_span: bool,
         tag: Option<YamlTag>,
         value: Part,
@@ -84,9 +82,9 @@ fn read_scalar(events: &[u8], index: u32, at: usize) -> Result<Event, Malformed>
         return Err(Malformed);
     }
     let column = number_at(events, at, 4);
-    let style = events[at + STYLE];
+    let style = Style::try_from(events[at + STYLE])?;
     let flag = events[at + EMPTY_SPAN];
-    if FOLDED < style || 1 < flag {
+    if 1 < flag {
         return Err(Malformed);
     }
     let (tag, from) = tag_at(events, at + YAML_TAG)?;

@@ -10,6 +10,7 @@ use Rattle.measure.specs.Length.{measured, assumed}
 use Rattle.measure.specs.Plain.{is_fold, begins_with, takes_run, plain_reach, plain_measure}
 use Rattle.measure.specs.Quoted.{passed_together, to_closing, quoted_len, quoted_measure}
 use Rattle.measure.specs.Block.{lines, is_blank, trimmed_len, ends_block, later_reach, block_reach, block_len}
+use Rattle.style.specs.StyleLaws.{StyleNumbers, style_numbers}
 use Rattle.measure.specs.Scalar.{plain, single_quoted, double_quoted, literal, folded, block_measure, style_measure, scalar_measure, scalar_len}
 
 abbrev a : ℕ
@@ -104,11 +105,6 @@ pub record Flags : Type 0 where
   pub block : scalar_measure (bytes "a\n b") [] folded false 1 ≡ measured 4
   pub empty_span_is : scalar_measure (bytes "a") [] literal true 0 ≡ measured 0
 
--- the styles by the numbers that an event has for them (E1); the cases above go by their names
-pub record StyleNumbers : Type 0 where
-  pub flow : (plain ≡ 0) × (single_quoted ≡ 1) × (double_quoted ≡ 2)
-  pub block : (literal ≡ 3) × (folded ≡ 4)
-
 pub record Worked : Type 0 where
   pub styles : StyleNumbers
   pub spans : CaseSpans
@@ -125,7 +121,7 @@ unfolding scalar_measure style_measure plain_measure plain_reach takes_run begin
     block_measure block_len block_reach later_reach ends_block trimmed_len is_blank lines
 worked =
     record {
-      styles = record { flow = (refl, refl, refl); block = (refl, refl) };
+      styles = style_numbers;
       spans = record { k7 = refl; k8 = refl; k9 = refl; k11 = refl };
       white_space_is = record { blank_line = refl; letter = refl; indent = refl; too_few = refl; run = refl };
       plains = record { equal_blanks = refl; no_newline = refl; last_equal = refl; empty_value = refl };

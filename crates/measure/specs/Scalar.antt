@@ -8,21 +8,7 @@ use Rattle.measure.specs.Quoted.{quoted_measure}
 use Rattle.utf8.specs.Ascii.{single_quote, double_quote}
 use Rattle.measure.specs.Block.{block_len}
 use Rattle.measure.specs.declared.length.Measure.{Measure}
-
-abbrev pub plain : ℕ
-plain = 0
-
-abbrev pub single_quoted : ℕ
-single_quoted = 1
-
-abbrev pub double_quoted : ℕ
-double_quoted = 2
-
-abbrev pub literal : ℕ
-literal = 3
-
-abbrev pub folded : ℕ
-folded = 4
+pub use Rattle.style.specs.Style.{plain, single_quoted, double_quoted, literal, folded}
 
 -- a block: 0 on an empty span (S7)
 unfoldable pub block_measure : List ℕ → Bool → ℕ → Measure

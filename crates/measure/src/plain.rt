@@ -1,12 +1,11 @@
 // The plain measure. (01: Reading rules, Plain; `plain_scalar_len`; P3, S5, F6. 02: (b).)
 ghost use Rattle.std.specs.Prelude.{◌≡◌};
-ghost use Rattle.utf8.specs.Utf8.{Utf8};
 ghost use Rattle.measure.specs.Plain.{plain_measure, is_fold};
 
 use crate::length::Measure;
 use crate::run::{NEWLINE, white_space_run};
 use letters::letter::letters;
-use utf8::utf8::first_char;
+use utf8::utf8::{Utf8Bytes, first_char};
 
 const BLANK: u32 = 0x20;
 
@@ -24,11 +23,10 @@ fn is_fold(code: u32) -> bool
 // `at` and `v` are how far the rest and the value are matched. The first unequal byte ends the whole measure: its break leaves both loops
 // with the value's length. `known` is where the white space that was last looked at ends: no newline stands before it, so it is not looked
 // at again. After an equal character come mostly letters, which are passed over at once.
-pub fn plain_scalar_len(rest: &[u8], value: &[u8]) -> Measure
-    requires utf8 { Utf8 rest.now }
-    requires value_utf8 { Utf8 value.now }
-    ensures { result ≡ plain_measure rest.now value.now }
+pub fn plain_scalar_len(rest: Utf8Bytes<'_>, value: Utf8Bytes<'_>) -> Measure
+    ensures { result ≡ plain_measure rest.entry.bytes.now value.entry.bytes.now }
 {
+    let (text, value) = (rest.bytes, value.bytes);
     let mut at = 0;
     let mut end = 0;
     let mut known = 0;
@@ -38,7 +36,7 @@ pub fn plain_scalar_len(rest: &[u8], value: &[u8]) -> Measure
             break Measure::measured(end);
         };
         if known <= at && is_fold(c.code) {
-            let run = white_space_run(&rest[at..]);
+            let run = white_space_run(rest.from(at));
             if run.newline {
                 at += run.len;
                 v += c.len;
@@ -47,13 +45,13 @@ pub fn plain_scalar_len(rest: &[u8], value: &[u8]) -> Measure
             known = at + run.len;
         }
         for (k, b) in value[v..v + c.len].iter().enumerate() {
-            if rest.get(at + k) != Some(b) {
+            if text.get(at + k) != Some(b) {
                 break 'characters Measure::assumed(value.len());
             }
         }
         at += c.len;
         v += c.len;
-        let n = letters(rest, at, value, v);
+        let n = letters(text, at, value, v);
         at += n;
         v += n;
         end = at;

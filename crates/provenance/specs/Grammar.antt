@@ -3,11 +3,11 @@
 -- on. Nothing is left of the source at its end and past it.
 --
 -- The escape table and the facts of the style are parameters.
-use Rattle.std.specs.Prelude.{ℕ, Bool, ◌&&◌, ◌||◌, cond, Option, Some, None, option_map, List, [], ◌∷◌, ltb, leb, eqb, length, take, drop, get_or}
+use Rattle.std.specs.Prelude.{ℕ, Bool, ◌&&◌, ◌||◌, cond, Option, Some, None, option_map, List, [], ◌∷◌, ltb, eqb, length, take, drop, get_or}
 use Rattle.std.specs.Option.{option_or}
 use Rattle.utf8.specs.Ascii.{same_bytes, tab, newline, carriage_return}
 use Rattle.utf8.specs.Class.{is_white_space_byte}
-use Rattle.measure.specs.Scalar.{literal}
+pub use Rattle.style.specs.Style.{is_block}
 use Rattle.provenance.specs.declared.escape.Escape.{Escape}
 use Rattle.provenance.specs.declared.step.Step.{Step}
 use Rattle.provenance.specs.declared.step.Step.TheVariants.{Verbatim, Replacement}
@@ -83,10 +83,7 @@ step r src val = option_or (break_step r src val) (option_or (escape_step r src)
 abbrev pub step_at : Rules → List ℕ → List ℕ → ℕ → ℕ → FittingStep
 step_at r src val s v = step r (drop s src) (drop v val)
 
--- ---- the rules of a style, which is a number as in `measure`: the literal one and what comes after it is a block
-
-abbrev pub is_block : ℕ → Bool
-is_block style = leb literal style
+-- ---- the rules of a style, which is a number as in `measure`
 
 abbrev pub rules_of : ℕ → ℕ → Rules
 rules_of style column = record { escapes = escapes_of style; block = is_block style; column = column }

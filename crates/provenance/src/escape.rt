@@ -1,12 +1,13 @@
 // Escapes: how many source bytes one takes, and how many content bytes it stands for. (01: `escape_len`; Piece grammar, step 2; P7.)
 ghost use Rattle.std.specs.Prelude.{◌≡◌, ◌≤◌, ◌<◌, IfSome, length, get_or};
 ghost use Rattle.text.specs.Admission.{text_limit};
+ghost use Rattle.style.specs.Style.{style_number};
 ghost use Rattle.utf8.specs.Utf8.{encode};
 ghost use Rattle.provenance.specs.Escape.{digits, radix16, code_content, is_one_of, one_byte_escapes, single_quote_escapes, backslash_escape, double_quote_escapes, escapes_of};
 
 use crate::run::{CARRIAGE_RETURN, NEWLINE, white_run};
 use measure::quoted::{BACKSLASH, SINGLE_QUOTE};
-use measure::scalar::{DOUBLE_QUOTED, SINGLE_QUOTED};
+use style::Style;
 use utf8::utf8::byte_at;
 
 // An escape takes so many source bytes and stands for so many content bytes. It is never compared with the value. (W2.)
@@ -128,13 +129,13 @@ fn double_quote_escape(tail: &[u8]) -> Option<Escape>
 
 // The escape that a source of this style begins with.
 #[tactic(auto, unfolding(crate::specs::Escape::escapes_of))]
-pub fn escape_len(tail: &[u8], style: u8) -> Option<Escape>
+pub fn escape_len(tail: &[u8], style: Style) -> Option<Escape>
     requires { length tail.now ≤ text_limit }
-    ensures { result ≡ escapes_of style tail.now }
+    ensures { result ≡ escapes_of (style_number style) tail.now }
 {
     match style {
-        SINGLE_QUOTED => single_quote_escape(tail),
-        DOUBLE_QUOTED => double_quote_escape(tail),
-        _ => None,
+        Style::SingleQuoted => single_quote_escape(tail),
+        Style::DoubleQuoted => double_quote_escape(tail),
+        Style::Plain | Style::Literal | Style::Folded => None,
     }
 }

@@ -15,7 +15,7 @@ pub const CARRIAGE_RETURN: u8 = 13;
 const BLANK: u8 = 32;
 
 // The white-space bytes that a source begins with: how many they are, how many newlines are among them, and how many go up to the
-// last newline, it counted in.
+// last newline, it counted in. By bytes: a measure has a run of its own, by code points, which counts other things.
 #[derive(Clone, Copy, Debug, PartialEq, Eq)]
 pub struct Run {
     pub len: usize,
@@ -62,6 +62,7 @@ pub fn cut_len(run: Run, block: bool, column: usize) -> usize
     }
 }
 
+// A measure asks the same of a code point.
 #[tactic(auto, unfolding(measure::specs::Plain::is_fold))]
 pub fn is_blank(b: u8) -> bool
     ensures { result ≡ is_fold b }

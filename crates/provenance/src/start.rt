@@ -1,21 +1,21 @@
 // Where a scalar's walk starts. (01: "The walk starts"; `at_empty_block_header`; S14.)
 ghost use Rattle.std.specs.Prelude.{◌≡◌, ◌+◌, ◌≤◌, length};
+ghost use Rattle.style.specs.Style.{style_number};
 ghost use Rattle.text.specs.Admission.{text_limit};
 ghost use Rattle.provenance.specs.Start.{is_quoted, is_header, at_empty_block_header, header_end, walk_start};
 
 use crate::run::{NEWLINE, only_newlines};
-use crate::step::is_block;
-use measure::scalar::{DOUBLE_QUOTED, SINGLE_QUOTED};
+use style::Style;
 use utf8::utf8::byte_at;
 
 const LITERAL_HEADER: u8 = b'|';
 
 const FOLDED_HEADER: u8 = b'>';
 
-fn is_quoted(style: u8) -> bool
-    ensures { result ≡ is_quoted style }
+fn is_quoted(style: Style) -> bool
+    ensures { result ≡ is_quoted (style_number style) }
 {
-    style == SINGLE_QUOTED || style == DOUBLE_QUOTED
+    matches!(style, Style::SingleQuoted | Style::DoubleQuoted)
 }
 
 fn is_header(b: u8) -> bool
@@ -41,15 +41,15 @@ fn header_end(rest: &[u8], len: usize) -> usize
 
 // The first byte of the walk of a scalar that starts at `start` and spans `len` bytes. It may lie past the text or inside a character.
 #[tactic(auto, unfolding(crate::specs::Start::walk_start))]
-pub fn walk_start(text: &[u8], start: usize, len: usize, value: &[u8], style: u8) -> usize
+pub fn walk_start(text: &[u8], start: usize, len: usize, value: &[u8], style: Style) -> usize
     requires { (length text.now ≤ text_limit) × (start + len ≤ length text.now) }
-    ensures { result ≡ walk_start text.now start len value.now style }
+    ensures { result ≡ walk_start text.now start len value.now (style_number style) }
 {
     if is_quoted(style) {
         return start + 1;
     }
     let rest = &text[start..];
-    if is_block(style) && at_empty_block_header(rest, value) {
+    if style.is_block() && at_empty_block_header(rest, value) {
         start + header_end(rest, len)
     } else {
         start

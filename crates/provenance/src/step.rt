@@ -1,16 +1,17 @@
 // The steps of the piece grammar. (01: Piece grammar; S11.)
 ghost use Rattle.std.specs.Prelude.{cond, ◌≡◌, ◌^◌, ◌≤◌, ◌<◌, [], ltb, length, drop};
+ghost use Rattle.style.specs.Style.{style_number, is_block};
 ghost use Rattle.text.specs.Admission.{text_limit};
 ghost use Rattle.provenance.specs.Run.{white_run};
 ghost use Rattle.provenance.specs.Counted.{place_limit, no_run, counted_run};
-ghost use Rattle.provenance.specs.Grammar.{is_block, rules_of, is_break_byte, opens_break, break_pair, end_step, step_at};
+ghost use Rattle.provenance.specs.Grammar.{rules_of, is_break_byte, opens_break, break_pair, end_step, step_at};
 ghost use Rattle.provenance.specs.Looked.{break_run, Tells, known_after};
 
 use crate::escape::escape_len;
 use crate::run::{
     CARRIAGE_RETURN, NEWLINE, NO_RUN, Run, TAB, blanks, cut_len, is_blank, only_newlines, white_run,
 };
-use measure::scalar::LITERAL;
+use style::Style;
 use utf8::class::is_white_space_byte;
 use utf8::utf8::byte_at;
 
@@ -23,10 +24,13 @@ pub enum Step {
     Replacement(usize, usize),
 }
 
-pub fn is_block(style: u8) -> bool
-    ensures { result ≡ is_block style }
-{
-    LITERAL <= style
+// What a walk goes through side by side, by the rules of a style and a column.
+#[derive(Clone, Copy)]
+pub struct Walk<'a> {
+    pub src: &'a [u8],
+    pub value: &'a [u8],
+    pub style: Style,
+    pub column: usize,
 }
 
 // Whether a break may begin at the value's byte `c`: a blank, a newline or a tab.
@@ -49,18 +53,6 @@ fn opens_break(block: bool, b: u8, c: u8) -> bool
         }
 }
 
-// The run that step 1 looks at. Before `known` no run holds a newline, and none is looked at.
-#[tactic(auto, unfolding(crate::specs::Looked::break_run))]
-pub fn break_run(src: &[u8], value: &[u8], s: usize, v: usize, style: u8, known: usize) -> Run
-    ensures { result ≡ cond (ltb s known) no_run (break_run (is_block style) (drop s src.now) (drop v value.now)) }
-{
-    if known <= s && opens_break(is_block(style), byte_at(src, s), byte_at(value, v)) {
-        white_run(&src[s..])
-    } else {
-        NO_RUN
-    }
-}
-
 // How far it is known that no run holds a newline, after the run at `s` was looked at.
 #[tactic(auto, unfolding(crate::specs::Looked::known_after))]
 pub fn known_after(known: usize, s: usize, run: Run) -> usize
@@ -74,29 +66,6 @@ pub fn known_after(known: usize, s: usize, run: Run) -> usize
     }
 }
 
-// Step 1 over a run with a newline in it.
-fn break_step(
-    src: &[u8],
-    value: &[u8],
-    s: usize,
-    v: usize,
-    block: bool,
-    column: usize,
-    run: Run,
-) -> Step
-    requires src_len_bound { (length src.now ≤ text_limit) × (s ≤ length src.now) × (v ≤ length value.now) × (column < 2 ^ 32) }
-    requires run_value { run ≡ counted_run (drop s src.now) }
-    ensures { result ≡ break_pair block column (white_run (drop s src.now)) (drop v value.now) }
-{
-    let a = cut_len(run, block, column);
-    let b = blanks(&value[v..], run.newlines);
-    if src[s..s + a] == value[v..v + b] {
-        Step::Verbatim(a)
-    } else {
-        Step::Replacement(a, b)
-    }
-}
-
 // Step 4: no source is left.
 #[tactic(auto, unfolding(crate::specs::Grammar::end_step))]
 fn end_step(tail: &[u8]) -> Option<Step>
@@ -105,28 +74,55 @@ fn end_step(tail: &[u8]) -> Option<Step>
     only_newlines(tail).then_some(Step::Replacement(0, tail.len()))
 }
 
-// The first step that fits. `run` is what step 1 looks at, or any run without a newline where that has none.
-pub fn step_at(
-    src: &[u8],
-    value: &[u8],
-    s: usize,
-    v: usize,
-    style: u8,
-    column: usize,
-    run: Run,
-) -> Option<Step>
-    requires src_len_bound { (length src.now ≤ text_limit) × (v < length value.now) × (column < 2 ^ 32) }
-    requires tells { Tells run (is_block style) (drop s src.now) (drop v value.now) }
-    ensures { result ≡ step_at (rules_of style column) src.now value.now s v }
-{
-    if 0 < run.newlines {
-        return Some(break_step(src, value, s, v, is_block(style), column, run));
+impl Walk<'_> {
+    // The run that step 1 looks at. Before `known` no run holds a newline, and none is looked at.
+    #[tactic(auto, unfolding(crate::specs::Looked::break_run))]
+    pub fn break_run(self, s: usize, v: usize, known: usize) -> Run
+        ensures { result ≡ cond (ltb s known) no_run (break_run (is_block (style_number self.entry.style)) (drop s self.entry.src.now) (drop v self.entry.value.now)) }
+    {
+        if known <= s
+            && opens_break(
+                self.style.is_block(),
+                byte_at(self.src, s),
+                byte_at(self.value, v),
+            )
+        {
+            white_run(&self.src[s..])
+        } else {
+            NO_RUN
+        }
     }
-    if src.len() <= s {
-        return end_step(&value[v..]);
+
+    // Step 1 over a run with a newline in it.
+    fn break_step(self, s: usize, v: usize, run: Run) -> Step
+        requires src_len_bound { (length self.src.now ≤ text_limit) × (s ≤ length self.src.now) × (v ≤ length self.value.now) × (self.column < 2 ^ 32) }
+        requires run_value { run ≡ counted_run (drop s self.src.now) }
+        ensures { result ≡ break_pair (is_block (style_number self.entry.style)) self.entry.column (white_run (drop s self.entry.src.now)) (drop v self.entry.value.now) }
+    {
+        let a = cut_len(run, self.style.is_block(), self.column);
+        let b = blanks(&self.value[v..], run.newlines);
+        if self.src[s..s + a] == self.value[v..v + b] {
+            Step::Verbatim(a)
+        } else {
+            Step::Replacement(a, b)
+        }
     }
-    if let Some(e) = escape_len(&src[s..], style) {
-        return Some(Step::Replacement(e.source, e.content));
+
+    // The first step that fits. `run` is what step 1 looks at, or any run without a newline where that has none.
+    pub fn step_at(self, s: usize, v: usize, run: Run) -> Option<Step>
+        requires src_len_bound { (length self.src.now ≤ text_limit) × (v < length self.value.now) × (self.column < 2 ^ 32) }
+        requires tells { Tells run (is_block (style_number self.style)) (drop s self.src.now) (drop v self.value.now) }
+        ensures { result ≡ step_at (rules_of (style_number self.entry.style) self.entry.column) self.entry.src.now self.entry.value.now s v }
+    {
+        if 0 < run.newlines {
+            return Some(self.break_step(s, v, run));
+        }
+        if self.src.len() <= s {
+            return end_step(&self.value[v..]);
+        }
+        if let Some(e) = escape_len(&self.src[s..], self.style) {
+            return Some(Step::Replacement(e.source, e.content));
+        }
+        (self.src[s] == self.value[v]).then_some(Step::Verbatim(1))
     }
-    (src[s] == value[v]).then_some(Step::Verbatim(1))
 }

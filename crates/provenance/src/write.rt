@@ -35,52 +35,59 @@ fn put_piece(pieces: &mut [u32], n: usize, kind: u32, start: u32, end: u32, cont
     }
 }
 
-// Writes the verbatim bytes `from..s` as piece number `n`, if there are any, and answers the next number.
-#[tactic(auto, unfolding(crate::specs::Writing::put_open))]
-pub fn put_open(pieces: &mut [u32], n: usize, base: usize, from: usize, s: usize) -> usize
-    requires { (base ≤ text_limit) × (s ≤ place_limit) × (n ≤ s + 1) }
-    ensures value { result ≡ count_open n from s }
-    ensures pieces_after { pieces.new ≡ put_open pieces.old n base from s }
-{
-    if from < s {
-        put_piece(
-            pieces,
-            n,
-            VERBATIM,
-            (base + from) as u32,
-            (base + s) as u32,
-            (s - from) as u32,
-        );
-        return n + 1;
-    }
-    n
+// How far the pieces of a walk are written: how many there are, where the source stands in its text, and from where its verbatim bytes are
+// not yet written.
+#[derive(Clone, Copy, Debug, PartialEq, Eq)]
+pub struct Written {
+    pub count: usize,
+    pub base: usize,
+    pub from: usize,
 }
 
-// Writes the verbatim bytes `from..s`, if there are any, then a replacement of `a` source bytes from `s` on by `b` content bytes.
-#[tactic(auto, unfolding(crate::specs::Writing::put_replacement))]
-pub fn put_replacement(
-    pieces: &mut [u32],
-    n: usize,
-    base: usize,
-    from: usize,
-    s: usize,
-    a: usize,
-    b: usize,
-) -> usize
-    requires { (base ≤ text_limit) × (s ≤ place_limit) × (n ≤ s + 1) × (a ≤ place_limit) × (b ≤ place_limit) }
-    ensures value { result ≡ count_open n from s + 1 }
-    ensures pieces_after { pieces.new ≡ put_replacement pieces.old n base from s a b }
-{
-    let next = put_open(pieces, n, base, from, s);
-    put_piece(
-        pieces,
-        next,
-        REPLACEMENT,
-        (base + s) as u32,
-        (base + s + a) as u32,
-        b as u32,
-    );
-    next + 1
+impl Written {
+    // Writes the verbatim bytes up to `s`, if there are any, and answers how many pieces there are then.
+    #[tactic(auto, unfolding(crate::specs::Writing::put_open))]
+    pub fn put_open(self, pieces: &mut [u32], s: usize) -> usize
+        requires { (self.base ≤ text_limit) × (s ≤ place_limit) × (self.count ≤ s + 1) }
+        ensures value { result ≡ count_open self.count self.from s }
+        ensures pieces_after { pieces.new ≡ put_open pieces.old self.count self.base self.from s }
+    {
+        if self.from < s {
+            put_piece(
+                pieces,
+                self.count,
+                VERBATIM,
+                (self.base + self.from) as u32,
+                (self.base + s) as u32,
+                (s - self.from) as u32,
+            );
+            return self.count + 1;
+        }
+        self.count
+    }
+
+    // Writes the verbatim bytes up to `s`, if there are any, then a replacement of `a` source bytes from `s` on by `b` content bytes.
+    #[tactic(auto, unfolding(crate::specs::Writing::put_replacement))]
+    pub fn put_replacement(self, pieces: &mut [u32], s: usize, a: usize, b: usize) -> Written
+        requires { (self.base ≤ text_limit) × (s ≤ place_limit) × (self.count ≤ s + 1) × (a ≤ place_limit) × (b ≤ place_limit) }
+        ensures value { result ≡ record { count = count_open self.count self.from s + 1; base = self.base; from = s + a } }
+        ensures pieces_after { pieces.new ≡ put_replacement pieces.old self.count self.base self.from s a b }
+    {
+        let next = self.put_open(pieces, s);
+        put_piece(
+            pieces,
+            next,
+            REPLACEMENT,
+            (self.base + s) as u32,
+            (self.base + s + a) as u32,
+            b as u32,
+        );
+        Written {
+            count: next + 1,
+            base: self.base,
+            from: s + a,
+        }
+    }
 }
 
 // How many numbers `n` pieces took of a buffer of `size`.

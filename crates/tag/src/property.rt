@@ -1,11 +1,9 @@
 // The tag property before a node, and the tag's span, found or guessed. (01: Reading rules, Tag span; S9, P6, F1, K12.)
 ghost use Rattle.std.specs.Prelude.{◌≡◌};
-ghost use Rattle.utf8.specs.Utf8.{Utf8};
-ghost use Rattle.utf8.specs.Boundary.{Boundary};
 ghost use Rattle.tag.specs.Tag.{tag_before, tag_property, tag_offset, tag_span};
 
 use crate::token::{back_over, opening_len};
-use utf8::utf8::byte_at;
+use utf8::utf8::{Place, byte_at};
 use utf8::white_space::is_white_space;
 
 // What a tag and an anchor begin with.
@@ -20,23 +18,21 @@ pub struct TagSpan {
     pub end: usize,
 }
 
-// The span of the tag property before the node that starts at byte `node`, found going back token by token.
-fn find_property(text: &[u8], node: usize) -> Option<TagSpan>
-    requires utf8 { Utf8 text.now }
-    requires boundary { Boundary text.now node }
-    ensures { result ≡ tag_before text.now node }
+// The span of the tag property before a node, found going back token by token: a loop, since how far each token reaches back is read.
+fn find_property(node: Place<'_>) -> Option<TagSpan>
+    ensures { result ≡ tag_before node.entry.text.bytes.now node.entry.at }
 {
     let mut before = node;
     loop {
-        let end = back_over(text, before, is_white_space);
-        let start = back_over(text, end, |c| !is_white_space(c));
-        let token = &text[start..end];
+        let end = back_over(before, is_white_space);
+        let start = back_over(end, |c| !is_white_space(c));
+        let token = &node.text.bytes[start.at..end.at];
         let dropped = opening_len(token);
         match byte_at(token, dropped) {
             TAG => {
                 return Some(TagSpan {
-                    start: start + dropped,
-                    end,
+                    start: start.at + dropped,
+                    end: end.at,
                 });
             }
             ANCHOR => before = start,
@@ -45,47 +41,42 @@ fn find_property(text: &[u8], node: usize) -> Option<TagSpan>
     }
 }
 
-// The tag property before the node that starts at byte `node`, as a part of the text; an empty part where there is none.
-pub fn find_tag_span(text: &[u8], node: usize) -> &[u8]
-    requires utf8 { Utf8 text.now }
-    requires boundary { Boundary text.now node }
-    ensures { result.now ≡ tag_property text.now node }
+// The tag property before a node, as a part of the text; an empty part where there is none.
+pub fn find_tag_span(node: Place<'_>) -> &[u8]
+    ensures { result.now ≡ tag_property node.entry.text.bytes.now node.entry.at }
 {
-    match find_property(text, node) {
+    let text = node.text.bytes;
+    match find_property(node) {
         Some(p) => &text[p.start..p.end],
-        None => &text[node..node],
+        None => &text[node.at..node.at],
     }
 }
 
-// The byte offset of that part; `node` where there is no property.
+// The byte offset of that part; the node's where there is no property.
 #[tactic(auto, unfolding(crate::specs::Tag::tag_offset, crate::specs::Tag::property_span))]
-pub fn find_tag_offset(text: &[u8], node: usize) -> usize
-    requires utf8 { Utf8 text.now }
-    requires boundary { Boundary text.now node }
-    ensures { result ≡ tag_offset text.now node }
+pub fn find_tag_offset(node: Place<'_>) -> usize
+    ensures { result ≡ tag_offset node.entry.text.bytes.now node.entry.at }
 {
-    find_property(text, node).map_or(node, |p| p.start)
+    find_property(node).map_or(node.at, |p| p.start)
 }
 
-// The span of the tag of the node that starts at byte `node`, its suffix being `suffix` bytes long: the property before the node, as
-// long as the part handed back, or else a guess, 1 plus the suffix's bytes from the node's start, cut to the text left. Only a property
-// that was found is searched for again, for its offset.
-pub fn make_tag_info(text: &[u8], node: usize, suffix: usize) -> TagSpan
-    requires utf8 { Utf8 text.now }
-    requires boundary { Boundary text.now node }
-    ensures { result ≡ tag_span text.now node suffix }
+// The span of a node's tag, its suffix being `suffix` bytes long: the property before the node, as long as the part handed back, or else a
+// guess, 1 plus the suffix's bytes from the node's start, cut to the text left. Only a property that was found is searched for again, for
+// its offset.
+pub fn make_tag_info(node: Place<'_>, suffix: usize) -> TagSpan
+    ensures { result ≡ tag_span node.entry.text.bytes.now node.entry.at suffix }
 {
-    let property = find_tag_span(text, node);
+    let property = find_tag_span(node);
     if !property.is_empty() {
-        let start = find_tag_offset(text, node);
+        let start = find_tag_offset(node);
         return TagSpan {
             start,
             end: start + property.len(),
         };
     }
-    let left = text.len() - node;
+    let left = node.text.bytes.len() - node.at;
     TagSpan {
-        start: node,
-        end: node + suffix.saturating_add(1).min(left),
+        start: node.at,
+        end: node.at + suffix.saturating_add(1).min(left),
     }
 }

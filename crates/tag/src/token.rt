@@ -1,28 +1,28 @@
 // The token before a place of a text. Tokens stand between white space, by code points. (01: Reading rules, Tag span; S9, W1.)
 ghost use Rattle.std.specs.Prelude.{◌≡◌, ℕ, Bool};
-ghost use Rattle.utf8.specs.Utf8.{Utf8};
-ghost use Rattle.utf8.specs.Boundary.{Boundary};
 ghost use Rattle.tag.specs.Tag.{is_opening, openings};
 ghost use Rattle.tag.specs.Back.{Tells, back_over};
 
-use utf8::utf8::last_char;
+use utf8::utf8::Place;
 
-// `i` moved back over the characters before it that are of a kind: over white space to where the last token before `i` ends, over all else
-// to where the token that ends at `i` starts. 0 where nothing else is left.
-pub fn back_over<F: Fn(u32) -> bool>(text: &[u8], i: usize, kind: F) -> usize
-    requires utf8 { Utf8 text.now }
-    requires boundary { Boundary text.now i }
+// Moved back over the characters before the place that are of a kind: over white space to where the last token before it ends, over all else
+// to where the token that ends at it starts; to the text's start where nothing else is left.
+pub fn back_over<'a, F: Fn(u32) -> bool>(place: Place<'a>, kind: F) -> Place<'a>
     requires callable { F.IsAlwaysCallable kind }
-    ensures { (test : ℕ → Bool) → Tells (F.post kind) test → result ≡ back_over test text.now i }
+    ensures same_text { result.text.bytes.now ≡ place.entry.text.bytes.now }
+    ensures value { (test : ℕ → Bool) → Tells (F.post kind) test → result.at ≡ back_over test place.entry.text.bytes.now place.entry.at }
 {
-    let mut j = i;
-    while let Some(c) = last_char(text, j) {
+    let mut place = place;
+    while let Some(c) = place.last_char() {
         if !kind(c.code) {
             break;
         }
-        j -= c.len;
+        place = Place {
+            text: place.text,
+            at: place.at - c.len,
+        };
     }
-    j
+    place
 }
 
 // Whether `b` is `[`, `{` or `,`.

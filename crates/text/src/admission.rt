@@ -1,10 +1,11 @@
 // What every public call tests first: the sizes, then UTF-8. (01: rows 1 and 2 of the table; R1, R2, RO.)
 ghost use Rattle.std.specs.Prelude.{◌≡◌, ◌≤◌, true, length, IfOk, IfErr, Ok, Err};
 ghost use Rattle.utf8.specs.Utf8.{is_ascii};
+ghost use Rattle.utf8.specs.Boundary.{Boundary};
 ghost use Rattle.utf8.specs.Characters.{is_utf8};
 ghost use Rattle.text.specs.Admission.{text_limit, admission, admission_of_both};
 
-use utf8::utf8::{is_ascii, is_utf8};
+use utf8::utf8::{Place, Utf8Bytes, is_ascii, is_utf8};
 
 // The most bytes of a text, and of the value of a call on one scalar.
 pub const TEXT_LIMIT: usize = 1_048_576;
@@ -24,6 +25,26 @@ pub struct Admitted<'a> {
     pub bytes: &'a [u8],
     ghost within: { length bytes.now ≤ text_limit },
     ghost utf8: { is_utf8 bytes.now ≡ true },
+}
+
+impl<'a> Admitted<'a> {
+    // The bytes as UTF-8, of any length.
+    pub fn utf8(self) -> Utf8Bytes<'a>
+        ensures { result.bytes.now ≡ self.entry.bytes.now }
+    {
+        Utf8Bytes { bytes: self.bytes }
+    }
+
+    // The place `at`.
+    pub fn place(self, at: usize) -> Place<'a>
+        requires { Boundary self.bytes.now at }
+        ensures { (result.text.bytes.now ≡ self.entry.bytes.now) × (result.at ≡ at) }
+    {
+        Place {
+            text: self.utf8(),
+            at,
+        }
+    }
 }
 
 // An admitted text, and whether it is ASCII: marker offsets go by that.

@@ -7,7 +7,7 @@ ghost use Rattle.text.specs.Starts;
 
 use crate::admission::Text;
 use utf8::class::is_continuation;
-use utf8::utf8::{char_len, last_char};
+use utf8::utf8::Place;
 
 // How many characters lie before a place of the text, and the place's byte offset.
 #[derive(Clone, Copy)]
@@ -57,14 +57,14 @@ fn next_boundary(s: &[u8], i: usize) -> usize
 
 // A cursor that stands in its text.
 #[derive(Clone, Copy)]
-struct Place<'a> {
+struct Standing<'a> {
     text: Text<'a>,
     cursor: Cursor,
     ghost counted: { cursor.chars ≤ length (codes text.content.bytes.now) },
     ghost placed: { cursor.offset ≡ byte_offset text.content.bytes.now cursor.chars },
 }
 
-impl Place<'_> {
+impl Standing<'_> {
     // Moved on over whole chunks, as long as they end before the character index `target`.
     fn over_chunks(self, target: usize) -> Cursor
         requires { self.cursor.chars ≤ target }
@@ -93,14 +93,14 @@ impl Place<'_> {
         requires { self.cursor.chars ≤ target }
         ensures { result ≡ cursor_at self.entry.text.content.bytes.now target }
     {
-        let text = self.text.content.bytes;
+        let text = self.text.content;
         let near = self.over_chunks(target);
         let mut offset = near.offset;
         for chars in near.chars..target {
-            if text.len() <= offset {
+            if text.bytes.len() <= offset {
                 return Cursor { chars, offset };
             }
-            offset += char_len(text, offset);
+            offset += text.place(offset).char_len();
         }
         Cursor {
             chars: target,
@@ -113,10 +113,10 @@ impl Place<'_> {
         requires { target ≤ self.cursor.chars }
         ensures { result ≡ cursor_at self.entry.text.content.bytes.now target }
     {
-        let text = self.text.content.bytes;
+        let text = self.text.content;
         let mut offset = self.cursor.offset;
         for _ in target..self.cursor.chars {
-            offset -= last_char(text, offset).unwrap().len;
+            offset -= text.place(offset).last_char().unwrap().len;
         }
         Cursor {
             chars: target,
@@ -159,7 +159,7 @@ pub fn byte_offset_of_char(text: Text<'_>, cursor: Cursor, target: usize) -> Cur
     requires { Stands text.content.bytes.now cursor.chars cursor.offset }
     ensures { result ≡ cursor_at text.entry.content.bytes.now target }
 {
-    let mut place = Place { text, cursor };
-    place.move_to(target);
-    place.cursor
+    let mut standing = Standing { text, cursor };
+    standing.move_to(target);
+    standing.cursor
 }

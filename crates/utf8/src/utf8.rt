@@ -1,6 +1,6 @@
 // UTF-8: the test of a text, and its characters forward and back.
-ghost use Rattle.std.specs.Prelude.{◌≡◌, ◌<◌, ◌≤◌, length, take, drop, get_or};
-ghost use Rattle.utf8.specs.Utf8.{Utf8, is_ascii};
+ghost use Rattle.std.specs.Prelude.{◌≡◌, ◌<◌, ◌≤◌, true, false, length, take, drop, get_or, IfSome, IfNone};
+ghost use Rattle.utf8.specs.Utf8.{is_ascii};
 ghost use Rattle.utf8.specs.Characters.{two_bytes, three_bytes, four_bytes, multi_byte, first_char, last_char, some_char, is_utf8};
 ghost use Rattle.utf8.specs.Boundary.{Boundary, is_boundary};
 
@@ -12,6 +12,21 @@ use crate::window::passes_windows;
 pub struct Char {
     pub code: u32,
     pub len: usize,
+}
+
+// Bytes that are UTF-8. No `str`: its own test would be a second one, and its places are characters, where spans and pieces are bytes.
+#[derive(Clone, Copy)]
+pub struct Utf8Bytes<'a> {
+    pub bytes: &'a [u8],
+    ghost utf8: { is_utf8 bytes.now ≡ true },
+}
+
+// A place between two characters: the end of a text, or where a character of it begins.
+#[derive(Clone, Copy)]
+pub struct Place<'a> {
+    pub text: Utf8Bytes<'a>,
+    pub at: usize,
+    ghost boundary: { Boundary text.bytes.now at },
 }
 
 // The byte at a place, 0 past the end.
@@ -90,21 +105,6 @@ pub fn first_char(s: &[u8], i: usize) -> Option<Char>
     multi_byte(a, byte_at(s, i + 1), byte_at(s, i + 2), byte_at(s, i + 3))
 }
 
-// How many bytes the character has that begins at the boundary `i` of a text: its first byte says so.
-pub fn char_len(s: &[u8], i: usize) -> usize
-    requires utf8 { Utf8 s.now }
-    requires boundary { Boundary s.now i }
-    requires i_in_bounds { i < length s.now }
-    ensures { result ≡ (first_char (drop i s.now)).len }
-{
-    match s[i] {
-        ..0x80 => 1,
-        0x80..0xe0 => 2,
-        0xe0..0xf0 => 3,
-        _ => 4,
-    }
-}
-
 // Whether `i` is the text's end or a character begins there.
 #[tactic(auto, unfolding(crate::specs::Boundary::is_boundary))]
 pub fn is_boundary(s: &[u8], i: usize) -> bool
@@ -113,14 +113,52 @@ pub fn is_boundary(s: &[u8], i: usize) -> bool
     i <= s.len() && !is_continuation(byte_at(s, i))
 }
 
-// The character that ends at the boundary `i` of a text; none at its start.
-pub fn last_char(s: &[u8], i: usize) -> Option<Char>
-    requires utf8 { Utf8 s.now }
-    requires boundary { Boundary s.now i }
-    ensures { result ≡ some_char (last_char (take i s.now)) }
-{
-    let start = s[..i].iter().rposition(|&b| !is_continuation(b))?;
-    first_char(s, start)
+impl<'a> Utf8Bytes<'a> {
+    // The bytes, if they are UTF-8.
+    pub fn new(bytes: &'a [u8]) -> Option<Self>
+        ensures some { IfSome result (λ t. (is_utf8 bytes.now ≡ true) × (t.bytes.now ≡ bytes.now)) }
+        ensures none { IfNone result (is_utf8 bytes.now ≡ false) }
+    {
+        if is_utf8(bytes) {
+            Some(Utf8Bytes { bytes })
+        } else {
+            None
+        }
+    }
+
+    // The bytes from `at` on, where that is between two characters.
+    pub fn from(self, at: usize) -> Self
+        requires { Boundary self.bytes.now at }
+        ensures { result.bytes.now ≡ drop at self.entry.bytes.now }
+    {
+        Utf8Bytes {
+            bytes: &self.bytes[at..],
+        }
+    }
+}
+
+impl Place<'_> {
+    // How many bytes the character has that begins here: its first byte says so.
+    pub fn char_len(self) -> usize
+        requires { self.at < length self.text.bytes.now }
+        ensures { result ≡ (first_char (drop self.entry.at self.entry.text.bytes.now)).len }
+    {
+        match self.text.bytes[self.at] {
+            ..0x80 => 1,
+            0x80..0xe0 => 2,
+            0xe0..0xf0 => 3,
+            _ => 4,
+        }
+    }
+
+    // The character that ends here; none at the text's start.
+    pub fn last_char(self) -> Option<Char>
+        ensures { result ≡ some_char (last_char (take self.entry.at self.entry.text.bytes.now)) }
+    {
+        let s = self.text.bytes;
+        let start = s[..self.at].iter().rposition(|&b| !is_continuation(b))?;
+        first_char(s, start)
+    }
 }
 
 // Whether the bytes are UTF-8, read character by character.

@@ -1,8 +1,8 @@
--- `text::offset::Place::over_chunks` meets its contract. The loop's invariant: `rest` is what is left from `offset` on, `chars` characters
+-- `text::offset::Standing::over_chunks` meets its contract. The loop's invariant: `rest` is what is left from `offset` on, `chars` characters
 -- begin before it, and the target is not passed.
 use Rattle.std.proofs.Common.{◌≡◌, ◌≤◌, length, take, drop}
 use Rattle.text.specs.Starts.{starts}
-use Rattle.text.proofs.offset.Place.over_chunks.Given as goal
+use Rattle.text.proofs.offset.Standing.over_chunks.Given as goal
 
 abbrev pub invariant-loop-chunk : goal.invariant-loop-chunk
 invariant-loop-chunk l =

@@ -2,7 +2,7 @@ use Rattle.std.proofs.Common.{◌≡◌, arith, subst, ℕ}
 use Rattle.utf8.proofs.Utf8Laws.{utf8_sound, char_room}
 use Rattle.text.specs.Offset.{Stands}
 use Rattle.text.proofs.OffsetLaws.{stands_boundary, stands_next, stands_cursor, stands_end}
-use Rattle.text.proofs.offset.Place.forward.Goals as goal
+use Rattle.text.proofs.offset.Standing.forward.Goals as goal
 
 pub returns-then-text-offset : goal.returns-then-text-offset
 returns-then-text-offset c = stands_end (utf8_sound _ c.args.self.text.content.utf8) c.loop-chars.invariant.0 c.if-text-offset.true c.args.target c.loop-chars.invariant.1

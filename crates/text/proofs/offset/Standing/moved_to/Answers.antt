@@ -1,7 +1,7 @@
--- `text::offset::Place::moved_to` meets its contract: in ASCII an index is its own offset, else the cursor moves there.
+-- `text::offset::Standing::moved_to` meets its contract: in ASCII an index is its own offset, else the cursor moves there.
 use Rattle.std.proofs.Common.{sym, ◌∙◌}
 use Rattle.text.proofs.OffsetLaws.{ascii_cursor}
-use Rattle.text.proofs.offset.Place.moved_to.Goals as goal
+use Rattle.text.proofs.offset.Standing.moved_to.Goals as goal
 
 pub returns-then-self : goal.returns-then-self
 returns-then-self c =

@@ -1,7 +1,7 @@
--- `text::offset::Place::move_to` meets its contract: the cursor at an index stands.
+-- `text::offset::Standing::move_to` meets its contract: the cursor at an index stands.
 use Rattle.text.specs.Offset.{Stands}
 use Rattle.text.proofs.OffsetLaws.{cursor_stands}
-use Rattle.text.proofs.offset.Place.move_to.Goals as goal
+use Rattle.text.proofs.offset.Standing.move_to.Goals as goal
 
 pub invariant_of-self : goal.invariant_of-self
 invariant_of-self c =

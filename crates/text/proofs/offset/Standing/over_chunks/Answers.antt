@@ -4,7 +4,7 @@ use Rattle.text.specs.Offset.{Stands}
 use Rattle.text.specs.Starts.{starts}
 use Rattle.text.proofs.OffsetLaws.{offset_within, stands_boundary}
 use Rattle.text.proofs.Starts.{starts_most, starts_part, stands_starts, starts_stands}
-use Rattle.text.proofs.offset.Place.over_chunks.Goals as goal
+use Rattle.text.proofs.offset.Standing.over_chunks.Goals as goal
 
 -- what is left from a place on
 tail : (s : List ℕ) (i : ℕ) → take (length s - i) (drop i s) ≡ drop i s

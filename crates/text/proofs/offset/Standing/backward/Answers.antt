@@ -5,7 +5,7 @@ use Rattle.utf8.proofs.Utf8Laws.{utf8_sound}
 use Rattle.utf8.proofs.SomeChar.{some_is}
 use Rattle.text.specs.Offset.{Stands}
 use Rattle.text.proofs.OffsetLaws.{StepsBack, stands_boundary, stands_previous, stands_cursor}
-use Rattle.text.proofs.offset.Place.backward.Goals as goal
+use Rattle.text.proofs.offset.Standing.backward.Goals as goal
 
 -- what a step back comes to, as far from the target as there are turns left
 step : {s : List ℕ} (target chars counter : ℕ) {offset : ℕ} → is_utf8 s ≡ true → Stands s (target + (chars - counter)) offset → counter < chars
