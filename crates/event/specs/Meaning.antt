@@ -3,6 +3,7 @@
 -- stands, in the words of `Exact`. (E1; R3.)
 use Rattle.std.specs.Prelude.{ℕ, ◌+◌, ◌≡◌, List, ◌++◌, ◌⊎◌, length, drop, Option, Some, None, Result, Ok, Err}
 use Rattle.event.specs.Encode.{Tag, untagged, tagged, YamlEvent, sequence_start, sequence_end, mapping_start, mapping_end, scalar, alias, encode_tag, encode_event, SoundEvent}
+use Rattle.style.specs.Style.{style_number, style_of}
 use Rattle.event.specs.Read.{malformed, part, part_of, yaml_tag}
 use Rattle.event.specs.declared.malformed.Malformed.{Malformed}
 use Rattle.event.specs.declared.tag.YamlTag.{YamlTag}
@@ -28,7 +29,7 @@ placed_body i n (sequence_start m t) = SequenceStart m (placed_tag i t) n
 placed_body i n (sequence_end m) = SequenceEnd m n
 placed_body i n (mapping_start m t) = MappingStart m (placed_tag i t) n
 placed_body i n (mapping_end m) = MappingEnd m n
-placed_body i n (scalar m c y f t v) = Scalar m c y f (placed_tag (i + 6) t) (part (i + 6 + length (encode_tag t)) (length v)) n
+placed_body i n (scalar m c y f t v) = Scalar m c (style_of y) f (placed_tag (i + 6) t) (part (i + 6 + length (encode_tag t)) (length v)) n
 placed_body i n (alias m) = Alias m n
 
 -- the answer for an event at the place i: header and marker index are passed, and the next event comes after its bytes
@@ -53,7 +54,7 @@ said s (Ok (SequenceStart m t n)) = Some (sequence_start m (said_tag s t))
 said s (Ok (SequenceEnd m n)) = Some (sequence_end m)
 said s (Ok (MappingStart m t n)) = Some (mapping_start m (said_tag s t))
 said s (Ok (MappingEnd m n)) = Some (mapping_end m)
-said s (Ok (Scalar m c y f t v n)) = Some (scalar m c y f (said_tag s t) (part_of s v))
+said s (Ok (Scalar m c y f t v n)) = Some (scalar m c (style_number y) f (said_tag s t) (part_of s v))
 said s (Ok (Alias m n)) = Some (alias m)
 said s (Err e) = None
 

@@ -3,6 +3,8 @@
 -- where the encoding of a sound one stands. (E1; row 3, R3.)
 use Rattle.std.specs.Prelude.{ℕ, ◌+◌, ◌-◌, Bool, cond, List, ltb, leb, eqb, length, get_or, take, drop, Option, Some, None, Result, Ok, Err}
 use Rattle.utf8.specs.Characters.{is_utf8}
+use Rattle.style.specs.Style.{style_of}
+use Rattle.style.specs.declared.Style.{Style}
 use Rattle.event.specs.Number.{number_at}
 use Rattle.event.specs.declared.malformed.Malformed.{Malformed}
 use Rattle.event.specs.declared.string.Part.{Part}
@@ -73,7 +75,7 @@ read_start_tag s i = do
 -- ---- bodies, from the byte after the marker index n on, in the bytes up to the body's end
 
 -- with column, style and empty span read: the value is what the YAML tag leaves
-abbrev pub with_value : List ℕ → ℕ → ℕ → ℕ → Bool → Option YamlTag × ℕ → Result Event Malformed
+abbrev pub with_value : List ℕ → ℕ → ℕ → Style → Bool → Option YamlTag × ℕ → Result Event Malformed
 with_value s n column style empty t =
     let value = part t.1 (length s - t.1) in
     cond (is_utf8 (part_of s value)) (Ok (Scalar n column style empty t.0 value (length s))) (Err malformed)
@@ -83,7 +85,7 @@ read_scalar s n i =
     cond (leb (i + 6) (length s))
     (cond (leb (get_or s (i + 4) 0) 4)
     (cond (leb (get_or s (i + 5) 0) 1)
-    (read_tag s (i + 6) >>= with_value s n (number_at s i 4) (get_or s (i + 4) 0) (eqb (get_or s (i + 5) 0) 1))
+    (read_tag s (i + 6) >>= with_value s n (number_at s i 4) (style_of (get_or s (i + 4) 0)) (eqb (get_or s (i + 5) 0) 1))
     (Err malformed))
     (Err malformed))
     (Err malformed)

@@ -7,7 +7,8 @@ ghost use Rattle.node.specs.Child.{place_at, record_before, last_child, child_be
 
 use crate::kind::{len, members};
 use crate::record::get_record;
-use records::record::{ARRAY, HASH, Node};
+use records::record::Node;
+use schema::record::Kind;
 
 // The number itself, if the record exists.
 #[tactic(auto, unfolding(crate::specs::Child::place_at))]
@@ -66,9 +67,9 @@ fn child_count(x: Node) -> usize
     ensures { result ≡ children x }
 {
     let count = x.payload.first as usize;
-    if x.kind < ARRAY {
+    if x.is_scalar() {
         0
-    } else if x.kind == HASH {
+    } else if x.is(Kind::Hash) {
         2 * count
     } else {
         count
@@ -91,7 +92,7 @@ pub fn child_from_last(records: &[u32], n: usize, k: usize) -> Option<usize>
 pub fn get_array_item(records: &[u32], n: usize, i: usize) -> Option<usize>
     ensures { result ≡ array_item records.now n i }
 {
-    let items = members(records, n, ARRAY)? as usize;
+    let items = members(records, n, Kind::Array.into())? as usize;
     if items <= i {
         return None;
     }

@@ -5,10 +5,11 @@ ghost use Rattle.node.specs.Entry.{pair_ending, hash_entry};
 use crate::child::{child_before, child_from_last};
 use crate::kind::members;
 use crate::source::source_info;
-use records::record::{Extent, HASH};
+use records::record::Extent;
+use schema::record::Kind;
 
 // The records of a key and its value, the span of each, and the span from the key's start to the value's end.
-#[derive(Clone, Copy)]
+#[derive(Clone, Copy, Debug, PartialEq, Eq)]
 pub struct YamlHashEntry {
     pub key: usize,
     pub value: usize,
@@ -42,7 +43,7 @@ pub fn pair_ending(records: &[u32], v: usize) -> Option<YamlHashEntry>
 pub fn hash_entry(records: &[u32], n: usize, i: usize) -> Option<YamlHashEntry>
     ensures { result ≡ hash_entry records.now n i }
 {
-    let pairs = members(records, n, HASH)? as usize;
+    let pairs = members(records, n, Kind::Hash.into())? as usize;
     if pairs <= i {
         return None;
     }

@@ -4,31 +4,31 @@ ghost use Rattle.node.specs.Record.{record_at};
 ghost use Rattle.node.specs.Kind.{is_scalar_at, is_array_at, is_hash_at, members_at, len_at, is_empty_at};
 
 use crate::record::get_record;
-use records::record::{ARRAY, HASH};
+use schema::record::Kind;
 
 // Whether record `n` is neither an array nor a hash.
 #[tactic(auto, unfolding(crate::specs::Kind::is_scalar_at))]
 pub fn is_scalar(records: &[u32], n: usize) -> Option<bool>
     ensures { result ≡ is_scalar_at records.now n }
 {
-    get_record(records, n).map(|x| x.kind < ARRAY)
+    get_record(records, n).map(|x| x.is_scalar())
 }
 
 #[tactic(auto, unfolding(crate::specs::Kind::is_array_at))]
 pub fn is_array(records: &[u32], n: usize) -> Option<bool>
     ensures { result ≡ is_array_at records.now n }
 {
-    get_record(records, n).map(|x| x.kind == ARRAY)
+    get_record(records, n).map(|x| x.is(Kind::Array))
 }
 
 #[tactic(auto, unfolding(crate::specs::Kind::is_hash_at))]
 pub fn is_hash(records: &[u32], n: usize) -> Option<bool>
     ensures { result ≡ is_hash_at records.now n }
 {
-    get_record(records, n).map(|x| x.kind == HASH)
+    get_record(records, n).map(|x| x.is(Kind::Hash))
 }
 
-// How many items or pairs record `n` says that it has, if it is of this kind.
+// How many items or pairs record `n` says that it has, if it is of the kind with this number, which may be any.
 pub fn members(records: &[u32], n: usize, kind: u32) -> Option<u32>
     ensures { result ≡ members_at records.now n kind }
 {
@@ -42,7 +42,7 @@ pub fn len(records: &[u32], n: usize) -> Option<u32>
     ensures { result ≡ len_at records.now n }
 {
     let x = get_record(records, n)?;
-    Some(if x.kind < ARRAY { 0 } else { x.payload.first })
+    Some(if x.is_scalar() { 0 } else { x.payload.first })
 }
 
 #[tactic(auto, unfolding(crate::specs::Kind::is_empty_at))]

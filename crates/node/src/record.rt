@@ -2,9 +2,10 @@
 ghost use Rattle.std.specs.Prelude.{◌≡◌};
 ghost use Rattle.node.specs.Record.{record_at};
 
-use records::record::{HASH, NULL, Node, RECORD_WIDTH, read_record};
+use records::record::{Node, RECORD_WIDTH, read_record};
+use schema::record::Kind;
 
-// Record number `n`, if it exists: it lies whole in the buffer, and its kind is 1 to 8.
+// Record number `n`, if it exists: it lies whole in the buffer, and its kind is one of the eight.
 #[tactic(auto, unfolding(crate::specs::Record::record_at, crate::specs::Record::existing))]
 pub fn get_record(records: &[u32], n: usize) -> Option<Node>
     ensures { result ≡ record_at records.now n }
@@ -13,5 +14,5 @@ pub fn get_record(records: &[u32], n: usize) -> Option<Node>
         return None;
     }
     let x = read_record(&records[RECORD_WIDTH * n..]);
-    (NULL <= x.kind && x.kind <= HASH).then_some(x)
+    Kind::try_from(x.kind).is_ok().then_some(x)
 }

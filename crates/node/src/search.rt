@@ -6,10 +6,8 @@ use crate::child::{child_before, record_before};
 use crate::entry::pair_ending;
 use crate::kind::members;
 use crate::record::get_record;
-use records::record::{HASH, Node};
-
-// The kind of a string.
-const STRING: u32 = 5;
+use records::record::Node;
+use schema::record::Kind;
 
 // Whether a node is a string with the bytes `key`.
 #[tactic(auto, unfolding(crate::specs::Search::string_is))]
@@ -18,7 +16,7 @@ fn string_is(events: &[u8], key: &[u8], x: Node) -> bool
 {
     let from = x.payload.first as usize;
     let end = from + x.payload.second as usize;
-    x.kind == STRING && end <= events.len() && &events[from..end] == key
+    x.is(Kind::Str) && end <= events.len() && &events[from..end] == key
 }
 
 // Whether record `k` is a string with the bytes `key`.
@@ -53,7 +51,7 @@ fn search_back(records: &[u32], events: &[u8], key: &[u8], v: usize, count: usiz
 pub fn get_hash_value(records: &[u32], events: &[u8], n: usize, key: &[u8]) -> Option<usize>
     ensures { result ≡ hash_value records.now events.now n key.now }
 {
-    let before_last = (members(records, n, HASH)? as usize).checked_sub(1)?;
+    let before_last = (members(records, n, Kind::Hash.into())? as usize).checked_sub(1)?;
     search_back(
         records,
         events,

@@ -1,9 +1,9 @@
 // Where a node stands: its span, its tag, its pieces. (01: `source_info`, `tag`, `content_source_info`; N3.)
 ghost use Rattle.std.specs.Prelude.{◌≡◌};
-ghost use Rattle.node.specs.Source.{is_absent, span_at, tag_of, piece_list_at};
+ghost use Rattle.node.specs.Source.{span_at, tag_of, piece_list_at};
 
 use crate::record::get_record;
-use records::record::{ABSENT, ARRAY, Extent, PieceList, TagInfo};
+use records::record::{ABSENT, Extent, NO_TAG, PieceList, TagInfo};
 
 // The bytes of the text that record `n` spans.
 #[tactic(auto, unfolding(crate::specs::Source::span_at))]
@@ -13,21 +13,13 @@ pub fn source_info(records: &[u32], n: usize) -> Option<Extent>
     get_record(records, n).map(|x| x.extent)
 }
 
-// Whether all four numbers of a tag say that there is none.
-#[tactic(auto, unfolding(crate::specs::Source::is_absent))]
-fn is_absent(tag: TagInfo) -> bool
-    ensures { result ≡ is_absent tag }
-{
-    tag.start == ABSENT && tag.end == ABSENT && tag.suffix == ABSENT && tag.len == ABSENT
-}
-
 // The tag's span in the text, and its suffix's place and length in the event bytes.
 #[tactic(auto, unfolding(crate::specs::Source::tag_of))]
 pub fn tag(records: &[u32], n: usize) -> Option<TagInfo>
     ensures { result ≡ tag_of records.now n }
 {
     let tag = get_record(records, n)?.tag;
-    (!is_absent(tag)).then_some(tag)
+    (tag != NO_TAG).then_some(tag)
 }
 
 // The first piece of a scalar and how many it has; an empty list is a list.
@@ -36,5 +28,5 @@ pub fn content_source_info(records: &[u32], n: usize) -> Option<PieceList>
     ensures { result ≡ piece_list_at records.now n }
 {
     let x = get_record(records, n)?;
-    (x.kind < ARRAY && x.list.first != ABSENT).then_some(x.list)
+    (x.is_scalar() && x.list.first != ABSENT).then_some(x.list)
 }

@@ -35,7 +35,7 @@ use Rattle.records.specs.Layout.{record_room, piece_room, piece_limit}
 use Rattle.parser.specs.Call.{admitted, building, one_scalar, scalar_call}
 use Rattle.records.specs.declared.record.Node.{Node}
 use Rattle.spans.specs.declared.open.Open.{Open}
-use Rattle.spans.specs.declared.scalar.ScalarMark.{ScalarMark}
+use Rattle.spans.specs.Scalar.{Mark}
 
 -- ---- a step
 
@@ -180,7 +180,7 @@ one_bounded r false (go st) g = g
 one_bounded r false (stop number) g = (g, omega arith)
 
 -- the call on one scalar: one node
-pub scalar_bounded : (text : List ℕ) (m : ScalarMark) (value : List ℕ) (pieces_size : ℕ) → Bounded 1 piece_limit (scalar_call text m value pieces_size)
+pub scalar_bounded : (text : List ℕ) (m : Mark) (value : List ℕ) (pieces_size : ℕ) → Bounded 1 piece_limit (scalar_call text m value pieces_size)
 unfolding scalar_call one_scalar
 scalar_bounded text m value pieces_size =
     let x = scalar_at text false m value 0 in

@@ -62,7 +62,7 @@ use Rattle.records.specs.Layout.{record_room, piece_room}
 use Rattle.parser.specs.Call as call
 use Rattle.parser.specs.Call.{record_of, measured_after, admitted, building, one_scalar, scalar_measured, scalar_call}
 use Rattle.parser.specs.Demand.{resolved_as, scalar_of, EntrySays, TagSays, walked_by, read_pieces, list_in, number_of, walked_in, ScalarDemand3, ScalarRecord, ScalarFlag, has_list, MeasuredPlain, Consecutive, ScalarListed, ListsBuilt, NoRoomAt, BuildDemand3}
-use Rattle.spans.specs.declared.scalar.ScalarMark.{ScalarMark}
+use Rattle.spans.specs.Scalar.{Mark}
 use Rattle.records.specs.declared.record.Extent.{Extent}
 use Rattle.records.specs.declared.record.TagInfo.{TagInfo}
 use Rattle.records.specs.declared.record.Node.{Node}
@@ -75,7 +75,7 @@ use Rattle.parser.proofs.Growths.{gate, past_root, past_room, Grown, run_grown}
 
 -- ---- the walk of a scalar starts where document 01 says
 
-module _ (text : List ℕ) (sound : AdmittedText text) (awaited : Bool) (m : ScalarMark) (value : List ℕ) where
+module _ (text : List ℕ) (sound : AdmittedText text) (awaited : Bool) (m : Mark) (value : List ℕ) where
   abbrev found : maybe.Option (List Piece)
   found = list_from (rules_of m.style m.column) text (walk_first text awaited m value) value
 
@@ -250,7 +250,7 @@ unfolding admission_of_both
 both_admitted text value s v =
     rw (le-ltb text_limit (length text) s.within, le-ltb text_limit (length value) v.within, utf8_complete s.utf8, utf8_complete v.utf8) refl
 
-module _ (text : List ℕ) (sound : AdmittedText text) (m : ScalarMark) (value : List ℕ) (value_sound : AdmittedText value) (known : m.style ≤ folded) (size : ℕ) where
+module _ (text : List ℕ) (sound : AdmittedText text) (m : Mark) (value : List ℕ) (value_sound : AdmittedText value) (known : m.style ≤ folded) (size : ℕ) where
   abbrev alone_node : Node
   alone_node = scalar_node text (scalar_at text false m value 0) no_tag (resolve_scalar value m.style None)
 
@@ -412,7 +412,7 @@ abbrev value_place : ℕ → Tag → ℕ
 value_place i tag = tag_place i + length (encode_tag tag)
 
 -- the value that a reader finds in the event bytes is the event's
-value_found : (events : List ℕ) (i : ℕ) (m : ScalarMark) (tag : Tag) (value : List ℕ) → StandsAt events i (scalar_of m tag value)
+value_found : (events : List ℕ) (i : ℕ) (m : Mark) (tag : Tag) (value : List ℕ) → StandsAt events i (scalar_of m tag value)
     → part_of events (part (value_place i tag) (length value)) ≡ value
 unfolding placed said
 value_found events i m tag value p =
@@ -420,7 +420,7 @@ value_found events i m tag value p =
     (Some (scalar_of m tag value)) = parts_are events i (scalar_of m tag value) p in
     cc
 
-tag_found : (events : List ℕ) (i : ℕ) (m : ScalarMark) (tag : Tag) (value : List ℕ) → StandsAt events i (scalar_of m tag value)
+tag_found : (events : List ℕ) (i : ℕ) (m : Mark) (tag : Tag) (value : List ℕ) → StandsAt events i (scalar_of m tag value)
     → said_tag events (placed_tag (tag_place i) tag) ≡ tag
 unfolding placed said
 tag_found events i m tag value p =
@@ -445,7 +445,7 @@ tag_says text events start j (tagged h x) e =
     (j + 1 + 2 + length h + 2, ex, refl)
 
 module _ (text events : List ℕ) (sound : AdmittedText text) (room most : ℕ) (small : most < absent)
-    (i : ℕ) (m : ScalarMark) (tag : Tag) (value : List ℕ) (stands : StandsAt events i (scalar_of m tag value)) (st : State) where
+    (i : ℕ) (m : Mark) (tag : Tag) (value : List ℕ) (stands : StandsAt events i (scalar_of m tag value)) (st : State) where
   abbrev awaited : Bool
   awaited = awaits_value st.opens
 
@@ -536,7 +536,7 @@ module _ (text events : List ℕ) (sound : AdmittedText text) (room most : ℕ) 
 
 -- only a scalar is refused by row 8
 other_number : (text events : List ℕ) (room most i : ℕ) (e : YamlEvent) (st : State) → on_event text events room most (Ok (placed i e)) st ≡ stop 8
-    → (m : ScalarMark) × (tag : Tag) × (value : List ℕ) × (e ≡ scalar_of m tag value)
+    → (m : Mark) × (tag : Tag) × (value : List ℕ) × (e ≡ scalar_of m tag value)
 unfolding placed on_start ended on_alias before_root within_depth within_room
 other_number text events room most i (sequence_start m t) st h = absurd (start_no_8 text false m (placed_tag (start_tag_place i) t) st h)
 other_number text events room most i (sequence_end m) st h = absurd (end_no_8 text room false m st.opens st h)
@@ -559,7 +559,7 @@ module _ (text events : List ℕ) (size pieces_size : ℕ) where
 
   module _ (sound : AdmittedText text) (es : List YamlEvent) (ok : AllSound es) (bytes : events ≡ encode_events es) (xs : List Node) (ps : List Piece)
       (runs : run_events text events records_in most ending 0 0 es empty ≡ built xs ps) where
-    listed : (before : List YamlEvent) (m : ScalarMark) (tag : Tag) (value : List ℕ) (here next : State)
+    listed : (before : List YamlEvent) (m : Mark) (tag : Tag) (value : List ℕ) (here next : State)
         → reached text events records_in most 0 before empty ≡ go here → (stands : StandsAt events (length (encode_events before)) (scalar_of m tag value))
         → Keeps most (node_here text events sound records_in most (room_small pieces_size) (length (encode_events before)) m tag value stands here)
         (found text sound (awaits_value here.opens) m value) here next → Grown most next (record { nodes = xs; opens = []; pieces = ps })
@@ -589,7 +589,7 @@ module _ (text events : List ℕ) (size pieces_size : ℕ) where
               (walk_demand3 text sound (awaits_value here.opens) m value room));
         }
 
-    each_scalar : (before after : List YamlEvent) (m : ScalarMark) (tag : Tag) (value : List ℕ)
+    each_scalar : (before after : List YamlEvent) (m : Mark) (tag : Tag) (value : List ℕ)
         → es ≡ before ++ (scalar_of m tag value ∷ after)
         → ScalarListed text events records_in most before m tag value xs (laid_pieces pieces_size ps)
     each_scalar before after m tag value split =
@@ -662,7 +662,7 @@ module _ (text events : List ℕ) (size pieces_size : ℕ) where
     no_room_here k p s = by s.event refl (other_number text events records_in most (0 + length (encode_events s.before)) s.event s.here s.stops)
       where
         by : (e : YamlEvent) → e ≡ s.event
-            → (m : ScalarMark) × (tag : Tag) × (value : List ℕ) × (s.event ≡ scalar_of m tag value) → NoRoomAt text events size pieces_size k
+            → (m : Mark) × (tag : Tag) × (value : List ℕ) × (s.event ≡ scalar_of m tag value) → NoRoomAt text events size pieces_size k
         by e same (m, tag, value, is) =
             let x : YamlEvent = scalar_of m tag value in
             let split : front.events ≡ s.before ++ (x ∷ s.after) = s.split ∙ ap (λ (y : YamlEvent). s.before ++ (y ∷ s.after)) is in

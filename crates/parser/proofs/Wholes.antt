@@ -26,7 +26,7 @@ use Rattle.records.specs.LayoutLaws.{take-replicate}
 use Rattle.records.specs.declared.record.Node.{Node}
 use Rattle.spans.specs.Scalar.{scalar_from, scalar_start, span_measure, list_at, tag_info, resolved_by, event_node}
 use Rattle.spans.specs.Fits.{scalar_entry}
-use Rattle.spans.specs.declared.scalar.ScalarMark.{ScalarMark}
+use Rattle.spans.specs.Scalar.{Mark}
 use Rattle.spans.specs.declared.scalar.Entry.{Entry}
 use Rattle.parser.specs.Machine.{State, empty, Outcome, built, refused, completed, keeping, scalar_kept, follow, run_all}
 use Rattle.parser.specs.Call.{row_number, building, one_scalar, scalar_measured, scalar_call, Delivered, DeliveredScalar}
@@ -120,12 +120,12 @@ module _ (size : ℕ) (small : size ≤ pieces_limit) (q : List ℕ) (len : leng
       let f = filled_fits size ps q w.1 len in
       rw (le-ltb (piece_room size) (0 + length ps) (omega arith), a) (record { answer = refl; one_record = refl; flag = refl; all_pieces = w.1 })
 
-  flag_is : (text : List ℕ) (m : ScalarMark) (value : List ℕ) (i : ℕ) → i ≡ byte_offset text m.index → (span_measure text (scalar_from i m value 0)).measured ≡ scalar_measured text m value
+  flag_is : (text : List ℕ) (m : Mark) (value : List ℕ) (i : ℕ) → i ≡ byte_offset text m.index → (span_measure text (scalar_from i m value 0)).measured ≡ scalar_measured text m value
   unfolding scalar_measured scalar_start
   flag_is text m value i e = ap (λ (k : ℕ). (span_measure text (scalar_from k m value 0)).measured) e
 
   -- the scalar's outcome goes by its record and its walk
-  pub one_told : (text : List ℕ) (m : ScalarMark) (value : List ℕ) (i : ℕ) (r : Resolved) (x : Entry)
+  pub one_told : (text : List ℕ) (m : Mark) (value : List ℕ) (i : ℕ) (r : Resolved) (x : Entry)
       → m.style ≤ folded → i ≡ byte_offset text m.index → r ≡ resolve_scalar value m.style None
       → x ≡ scalar_entry (room size) text (scalar_from i m value 0) no_tag r → q ≡ buffer_of size (list_at text (scalar_from i m value 0))
       → DeliveredScalar size (one_scalar text m value size) (scalar_measured text m value) (alone_answer x) q
@@ -134,7 +134,7 @@ module _ (size : ℕ) (small : size ≤ pieces_limit) (q : List ℕ) (len : leng
       rw (le-ltb folded m.style l, ← flag_is text m value i ei, ← ei, ← er, ex)
       (alone_kept _ _ _ _ (walks_of size (list_at text (scalar_from i m value 0)) _ q refl eq))
 
-module _ (text : List ℕ) (m : ScalarMark) (value : List ℕ) (size : ℕ) where
+module _ (text : List ℕ) (m : Mark) (value : List ℕ) (size : ℕ) where
   pub style_unknown : (q : List ℕ) → folded < m.style → q ≡ zeros size → DeliveredScalar size (one_scalar text m value size) (scalar_measured text m value) (Err Malformed) q
   unfolding one_scalar
   style_unknown q l z = rw (lt-ltb folded m.style l) (record { answer = refl; one_record = refl; flag = refl; all_pieces = z })

@@ -15,7 +15,7 @@ use Rattle.parser.specs.declared.answer.Refusal.{Refusal}
 use Rattle.parser.specs.declared.answer.Refusal.TheVariants as row
 use Rattle.parser.specs.declared.answer.Built.{Built}
 use Rattle.parser.specs.declared.answer.Refused.{Refused}
-use Rattle.spans.specs.declared.scalar.ScalarMark.{ScalarMark}
+use Rattle.spans.specs.Scalar.{Mark}
 use Rattle.parser.specs.declared.answer.Scalar.{Scalar}
 
 -- ---- the table
@@ -90,17 +90,17 @@ building text events size pieces_size =
     (admitted (admission text) (run_all text events (record_room size) (piece_room pieces_size)))
 
 -- one scalar, its text and value admitted: it awaits nothing, has no tag, and its value's place is 0
-unfoldable pub one_scalar : List ℕ → ScalarMark → List ℕ → ℕ → Outcome
+unfoldable pub one_scalar : List ℕ → Mark → List ℕ → ℕ → Outcome
 one_scalar text m value pieces_size =
     cond (ltb folded m.style) (refused 3 0)
     (follow (scalar_kept text [] (piece_room pieces_size) (scalar_at text false m value 0) None empty) (λ (st : State). built st.nodes st.pieces) 0)
 
 -- what the call on one scalar comes to
-unfoldable pub scalar_call : List ℕ → ScalarMark → List ℕ → ℕ → Outcome
+unfoldable pub scalar_call : List ℕ → Mark → List ℕ → ℕ → Outcome
 scalar_call text m value pieces_size = admitted (admission_of_both text value) (one_scalar text m value pieces_size)
 
 -- whether the span of the one scalar is measured (02, (b))
-unfoldable pub scalar_measured : List ℕ → ScalarMark → List ℕ → Bool
+unfoldable pub scalar_measured : List ℕ → Mark → List ℕ → Bool
 scalar_measured text m value = (span_measure text (scalar_at text false m value 0)).measured
 
 -- ---- what the calls promise: the answer, and each buffer afterwards
@@ -122,5 +122,5 @@ pub record DeliveredScalar (pieces_size : ℕ) (o : Outcome) (t : Bool) (r : Res
 abbrev pub Promised : List ℕ → List ℕ → List ℕ → List ℕ → Result Built Refused → List ℕ → List ℕ → Type 0
 Promised text events b p r b' p' = Delivered (length b) (length p) (building text events (length b) (length p)) r b' p'
 
-abbrev pub PromisedScalar : List ℕ → ScalarMark → List ℕ → List ℕ → Result Scalar Refusal → List ℕ → Type 0
+abbrev pub PromisedScalar : List ℕ → Mark → List ℕ → List ℕ → Result Scalar Refusal → List ℕ → Type 0
 PromisedScalar text m value p r p' = DeliveredScalar (length p) (scalar_call text m value (length p)) (scalar_measured text m value) r p'

@@ -31,7 +31,7 @@ use Rattle.parser.specs.EventRun.{reached}
 use Rattle.records.specs.Layout.{record_room, piece_room}
 use Rattle.parser.specs.Call as call
 use Rattle.parser.specs.Call.{record_of, building}
-use Rattle.spans.specs.declared.scalar.ScalarMark.{ScalarMark}
+use Rattle.spans.specs.Scalar.{Mark}
 use Rattle.records.specs.declared.record.TagInfo.{TagInfo}
 use Rattle.records.specs.declared.record.Node.{Node}
 use Rattle.records.specs.declared.record.PieceList.{PieceList}
@@ -44,11 +44,11 @@ resolved_as untagged value style = resolve_scalar value style None
 resolved_as (tagged handle suffix) value style = resolve_scalar value style (Some (handle, suffix))
 
 -- a scalar's event
-abbrev pub scalar_of : ScalarMark → Tag → List ℕ → YamlEvent
+abbrev pub scalar_of : Mark → Tag → List ℕ → YamlEvent
 scalar_of m tag value = scalar m.index m.column m.style m.empty tag value
 
 -- the scalar starts at its marker, spans what is measured from there, and is of this kind; its value stands at `place` of the event bytes
-pub record EntrySays (text : List ℕ) (awaited : Bool) (m : ScalarMark) (value : List ℕ)
+pub record EntrySays (text : List ℕ) (awaited : Bool) (m : Mark) (value : List ℕ)
     (r : Resolved) (place : ℕ) (t : TagInfo) (x : Node) : Type 0 where
   pub kind : x.kind ≡ kind_number r
   pub span :
@@ -90,7 +90,7 @@ abbrev pub walked_in : Outcome → Walked
 walked_in (built xs ps) = walked_by (record_of (built xs ps)).list
 walked_in (refused number place) = NoRoom
 
-pub record ScalarDemand3 (text : List ℕ) (m : ScalarMark) (value : List ℕ) (size : ℕ) (o : Outcome) : Type 0 where
+pub record ScalarDemand3 (text : List ℕ) (m : Mark) (value : List ℕ) (size : ℕ) (o : Outcome) : Type 0 where
   -- the table's number is the walk's
   pub number : number_of o ≡ walked_number (walked_in o)
   -- the record's list finds the pieces of demand 3 in the buffer
@@ -101,13 +101,13 @@ pub record ScalarDemand3 (text : List ℕ) (m : ScalarMark) (value : List ℕ) (
   pub all_numbers : call.pieces_after size o ≡ laid_pieces size (list_in (call.pieces_after size o) (record_of o).list)
 
 -- and the record that is handed back: no tag, and its value's place is 0
-pub record ScalarRecord (text : List ℕ) (m : ScalarMark) (value : List ℕ) (o : Outcome) : Type 0 where
+pub record ScalarRecord (text : List ℕ) (m : Mark) (value : List ℕ) (o : Outcome) : Type 0 where
   pub entry : (xs : List Node) (ps : List Piece) → o ≡ built xs ps
       → EntrySays text false m value (resolved_as untagged value m.style) 0 no_tag (record_of o)
   pub zero : (number place : ℕ) → o ≡ refused number place → record_of o ≡ zero_node
 
 -- and the flag: document 02's sentence where the scalar starts, and no on a refusal (02, (b))
-pub record ScalarFlag (text : List ℕ) (m : ScalarMark) (value : List ℕ) (o : Outcome) (t : Bool) : Type 0 where
+pub record ScalarFlag (text : List ℕ) (m : Mark) (value : List ℕ) (o : Outcome) (t : Bool) : Type 0 where
   pub says : (xs : List Node) (ps : List Piece) → o ≡ built xs ps → SaysMeasured (drop (start_at text false m value) text) value m.style t
   pub no : (number place : ℕ) → o ≡ refused number place → t ≡ false
 
@@ -116,7 +116,7 @@ abbrev pub has_list : PieceList → Bool
 has_list l = not (eqb l.first absent)
 
 -- a plain scalar that is measured has a list just if its walk goes along with its measure; its pieces then end so far past its span
-pub record MeasuredPlain (text : List ℕ) (m : ScalarMark) (value : List ℕ) (size : ℕ) (o : Outcome) : Type 0 where
+pub record MeasuredPlain (text : List ℕ) (m : Mark) (value : List ℕ) (size : ℕ) (o : Outcome) : Type 0 where
   pub list : has_list (record_of o).list ≡ reads_alike (codes value) (codes (drop (start_at text false m value) text))
   pub end : has_list (record_of o).list ≡ true
       → pieces_end (start_at text false m value) (list_in (call.pieces_after size o) (record_of o).list)
@@ -132,7 +132,7 @@ Consecutive a (x ∷ xs) e =
 
 -- the scalar event that comes after the events `before`, in a document of the nodes xs and the pieces buffer p
 pub record ScalarListed (text events : List ℕ) (room piece_room : ℕ) (before : List YamlEvent)
-    (m : ScalarMark) (tag : Tag) (value : List ℕ) (xs : List Node) (p : List ℕ) : Type 0 where
+    (m : Mark) (tag : Tag) (value : List ℕ) (xs : List Node) (p : List ℕ) : Type 0 where
   -- the events before it are let through to this state
   pub st : State
   pub let_through : reached text events room piece_room 0 before empty ≡ go st
@@ -157,7 +157,7 @@ pub record ListsBuilt (text events : List ℕ) (size pieces_size : ℕ) (xs : Li
   pub list : List YamlEvent
   pub sound : AllSound list
   pub bytes : events ≡ encode_events list
-  pub each : (before after : List YamlEvent) (m : ScalarMark) (tag : Tag) (value : List ℕ)
+  pub each : (before after : List YamlEvent) (m : Mark) (tag : Tag) (value : List ℕ)
       → list ≡ before ++ (scalar_of m tag value ∷ after)
       → ScalarListed text events (record_room size) (piece_room pieces_size) before m tag value xs (laid_pieces pieces_size ps)
   -- the lists are all the pieces there are
@@ -174,7 +174,7 @@ pub record NoRoomAt (text events : List ℕ) (size pieces_size k : ℕ) : Type 0
   pub number : length before ≡ k
   pub st : State
   pub let_through : reached text events (record_room size) (piece_room pieces_size) 0 before empty ≡ go st
-  pub mark : ScalarMark
+  pub mark : Mark
   pub tag : Tag
   pub value : List ℕ
   pub stands : StandsAt events (length (encode_events before)) (scalar_of mark tag value)

@@ -36,7 +36,7 @@ use Rattle.records.specs.Layout.{piece_room}
 use Rattle.parser.specs.Call.{record_of, building, one_scalar, scalar_measured, scalar_call}
 use Rattle.records.specs.declared.record.Node.{Node}
 use Rattle.records.specs.declared.record.PieceList.{PieceList}
-use Rattle.spans.specs.declared.scalar.ScalarMark.{ScalarMark}
+use Rattle.spans.specs.Scalar.{Mark}
 
 -- ---- events with their marker at index i
 
@@ -159,13 +159,13 @@ piece_room_lem = (refl, refl)
 -- ---- measured or assumed (02, (b)), and whether there is a list: the inputs of docs/DIFFERENCES.md
 
 -- the flag of the call on one scalar, its span and its list
-abbrev Flagged : List ℕ → ScalarMark → List ℕ → Bool → ℕ → ℕ → PieceList → Type 0
+abbrev Flagged : List ℕ → Mark → List ℕ → Bool → ℕ → ℕ → PieceList → Type 0
 Flagged text m value flag start end list =
     (scalar_measured text m value ≡ flag)
     × ((record_of (scalar_call text m value 12)).extent ≡ extent start end)
     × ((record_of (scalar_call text m value 12)).list ≡ list)
 
-abbrev plain_at : ℕ → ScalarMark
+abbrev plain_at : ℕ → Mark
 plain_at index = mark index 0 0 false
 
 pub record Flags : Type 0 where

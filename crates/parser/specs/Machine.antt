@@ -16,7 +16,7 @@ use Rattle.event.specs.declared.tag.YamlTag.{YamlTag}
 use Rattle.event.specs.declared.read.Event.{Event}
 use Rattle.event.specs.declared.read.Event.TheVariants.{SequenceStart, SequenceEnd, MappingStart, MappingEnd, Scalar, Alias}
 use Rattle.records.specs.Record.{with_list, alias_node}
-use Rattle.spans.specs.Scalar.{ScalarAt, mark, scalar_given, list_at, suffix_of, event_node, event_scalar}
+use Rattle.spans.specs.Scalar.{ScalarAt, scalar_given, list_at, suffix_of, event_node, event_scalar}
 use Rattle.spans.specs.Collection.{with_child, awaits_value, closes, collection_node}
 use Rattle.records.specs.declared.record.Node.{Node}
 use Rattle.spans.specs.declared.open.Open.{Open}
@@ -117,7 +117,7 @@ on_event text events room piece_room (Ok (SequenceEnd index n)) st = on_end text
 on_event text events room piece_room (Ok (MappingStart index tag n)) st = on_start text true index tag st
 on_event text events room piece_room (Ok (MappingEnd index n)) st = on_end text room true index st.opens st
 on_event text events room piece_room (Ok (Scalar index column style empty_span tag value n)) st =
-    on_scalar text events room piece_room (scalar_given (mark index column style empty_span) tag value) st
+    on_scalar text events room piece_room (scalar_given (record { index = index; column = column; style = style; empty = empty_span }) tag value) st
 on_event text events room piece_room (Ok (Alias index n)) st = on_alias text room index st
 on_event text events room piece_room (Err e) st = stop (event_number (Err e))
 

@@ -6,6 +6,7 @@ ghost use Rattle.parser.specs.declared.answer.Refusal.TheVariants as row;
 
 use event::malformed::Malformed;
 use records::record::Node;
+use style::UnknownStyle;
 use text::admission::TextError;
 
 // Why a call refuses: rows 1 to 9 of the table, in their order.
@@ -60,6 +61,14 @@ impl From<Malformed> for Refusal {
     }
 }
 
+impl From<UnknownStyle> for Refusal {
+    ghost from_gives = { λ e refusal. refusal ≡ row.Malformed };
+
+    fn from(_e: UnknownStyle) -> Refusal {
+        Refusal::Malformed
+    }
+}
+
 // A document whose buffers hold so many records and pieces.
 #[derive(Clone, Copy, Debug, PartialEq, Eq)]
 pub struct Built {
@@ -75,7 +84,7 @@ pub struct Refused {
 }
 
 // A scalar that is built: its record, whether its span was measured, and how many pieces the buffer holds.
-#[derive(Clone, Copy)]
+#[derive(Clone, Copy, Debug, PartialEq, Eq)]
 pub struct Scalar {
     pub node: Node,
     pub measured: bool,

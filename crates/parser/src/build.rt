@@ -29,41 +29,46 @@ fn next_place(e: Event) -> usize
     }
 }
 
+// A document: a text that is admitted, and event bytes within their limit.
+#[derive(Clone, Copy)]
+struct Document<'a> {
+    text: Text<'a>,
+    events: &'a [u8],
+    ghost short: { length events.now ≤ events_limit },
+}
+
 // The event at `at` is done, and answered by the place after it.
 fn step(
     builder: &mut Builder,
-    text: Text<'_>,
-    events: &[u8],
+    document: Document<'_>,
     at: usize,
     records: &mut [u32],
     pieces: &mut [u32],
 ) -> Result<usize, Refusal>
-    requires ready { Ready text.content.bytes.now builder.old records.old pieces.old }
-    requires events_short { length events.now ≤ events_limit }
-    ensures stepped { Follows text.entry.content.bytes.now builder.old records.old pieces.old
-        (λ room piece_room st. on_event text.entry.content.bytes.now events.now room piece_room (read_event events.now at) st) result builder.new records.new pieces.new }
-    ensures next { IfOk result (λ n. n ≡ next_place (read_event events.now at)) }
+    requires { Ready document.text.content.bytes.now builder.old records.old pieces.old }
+    ensures stepped { Follows document.entry.text.content.bytes.now builder.old records.old pieces.old
+        (λ room piece_room st. on_event document.entry.text.content.bytes.now document.entry.events.now room piece_room (read_event document.entry.events.now at) st) result builder.new records.new pieces.new }
+    ensures next { IfOk result (λ n. n ≡ next_place (read_event document.entry.events.now at)) }
 {
+    let Document { text, events } = document;
     let e = read_event(events, at)?;
     builder.on_event(text, events, records, pieces, e)?;
     Ok(next_place(e))
 }
 
-// All events in order, into buffers that are zero.
+// All events in order, into buffers that are zero. A loop: where the next event begins is read.
 fn fill(
-    text: Text<'_>,
-    events: &[u8],
+    document: Document<'_>,
     records: &mut [u32],
     pieces: &mut [u32],
 ) -> Result<Built, Refused>
-    requires events_short { length events.now ≤ events_limit }
-    requires buffers_zero { (records.old ≡ zeros (length records.old)) × (pieces.old ≡ zeros (length pieces.old)) × (length pieces.old ≤ pieces_limit) }
-    ensures { Fills text.entry.content.bytes.now events.now records.old pieces.old result records.new pieces.new }
+    requires { (records.old ≡ zeros (length records.old)) × (pieces.old ≡ zeros (length pieces.old)) × (length pieces.old ≤ pieces_limit) }
+    ensures { Fills document.entry.text.content.bytes.now document.entry.events.now records.old pieces.old result records.new pieces.new }
 {
     let mut builder = Builder::new();
     let mut at = 0;
     let mut number = 0;
-    while at < events.len() {
+    while at < document.events.len() {
         let refused = |refusal: Refusal| -> Refused
             ensures { result ≡ record { refusal = refusal; place = number } }
         {
@@ -72,7 +77,7 @@ fn fill(
                 place: number,
             }
         };
-        at = step(&mut builder, text, events, at, records, pieces).map_err(refused)?;
+        at = step(&mut builder, document, at, records, pieces).map_err(refused)?;
         number += 1;
     }
     if !builder.root_done() {
@@ -89,17 +94,15 @@ fn fill(
 
 // The same into as much of the pieces as is used; what was written before a refusal is cleared.
 fn fill_or_clear(
-    text: Text<'_>,
-    events: &[u8],
+    document: Document<'_>,
     records: &mut [u32],
     pieces: &mut [u32],
 ) -> Result<Built, Refused>
-    requires events_short { length events.now ≤ events_limit }
-    requires buffers_zero { (records.old ≡ zeros (length records.old)) × (pieces.old ≡ zeros (length pieces.old)) }
-    ensures { Settles text.entry.content.bytes.now events.now records.old pieces.old result records.new pieces.new }
+    requires { (records.old ≡ zeros (length records.old)) × (pieces.old ≡ zeros (length pieces.old)) }
+    ensures { Settles document.entry.text.content.bytes.now document.entry.events.now records.old pieces.old result records.new pieces.new }
 {
     let n = usable(pieces.len());
-    let r = fill(text, events, records, &mut pieces[..n]);
+    let r = fill(document, records, &mut pieces[..n]);
     if r.is_err() {
         clear(records);
         clear(pieces);
@@ -107,15 +110,18 @@ fn fill_or_clear(
     r
 }
 
-// The text, if it and the event bytes are let in: rows 1 and 2.
-fn admit<'a>(text: &'a [u8], events: &[u8]) -> Result<Text<'a>, Refusal>
-    ensures admitted { IfOk result (λ t. (length events.now ≤ events_limit) × (admission text.now ≡ Ok t.ascii) × (t.content.bytes.now ≡ text.now)) }
+// The document, if its text and event bytes are let in: rows 1 and 2.
+fn admit<'a>(text: &'a [u8], events: &'a [u8]) -> Result<Document<'a>, Refusal>
+    ensures admitted { IfOk result (λ d. (admission text.now ≡ Ok d.text.ascii) × (d.text.content.bytes.now ≡ text.now) × (d.events.now ≡ events.now)) }
     ensures refused { IfErr result (λ e. Refuses text.now events.now e) }
 {
     if EVENTS_LIMIT < events.len() {
         return Err(Refusal::TooLong);
     }
-    Ok(admit_text(text)?)
+    Ok(Document {
+        text: admit_text(text)?,
+        events,
+    })
 }
 
 // The events of a document over its text: the records of its nodes, in the order in which they are complete, and the pieces of its
@@ -131,7 +137,7 @@ pub fn build(
     clear(records);
     clear(pieces);
     match admit(text, events) {
-        Ok(text) => fill_or_clear(text, events, records, pieces),
+        Ok(document) => fill_or_clear(document, records, pieces),
         Err(refusal) => Err(Refused { refusal, place: 0 }),
     }
 }

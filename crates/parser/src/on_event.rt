@@ -11,12 +11,12 @@ use crate::stack::{DEPTH_LIMIT, Stack};
 use event::read::Event;
 use event::tag::YamlTag;
 use provenance::walk::Walked;
-use records::record::{Extent, NO_LIST, NO_TAG, NULL, Node, RECORD_WIDTH, put_record, with_list};
-use schema::record::Payload;
+use records::record::{Extent, NO_LIST, NO_TAG, Node, RECORD_WIDTH, put_record, with_list};
+use schema::record::{Kind, Payload};
 use spans::collection::{closes_open, collection_node};
 use spans::open::Open;
 use spans::scalar::{Entry, ScalarEvent, ScalarMark, event_scalar, suffix_of};
-use text::admission::Text;
+use text::admission::{AdmittedPlace, Text};
 use text::offset::{Cursor, START, byte_offset_of_char};
 
 // How many numbers a piece has.
@@ -148,7 +148,7 @@ impl Builder {
         self.cursor = byte_offset_of_char(text, self.cursor, index as usize);
         let at = self.cursor.offset as u32;
         let x = Node {
-            kind: NULL,
+            kind: Kind::Null.into(),
             extent: Extent { start: at, end: at },
             tag: NO_TAG,
             subtree: 1,
@@ -199,7 +199,11 @@ impl Builder {
         self.cursor = byte_offset_of_char(text, self.cursor, e.mark.index as usize);
         let awaited = self.stack.expecting_value();
         let free = &mut pieces[PIECE_WIDTH * self.used..];
-        let x = event_scalar(text.content, events, self.cursor.offset, awaited, e, free);
+        let at = AdmittedPlace {
+            text: text.content,
+            at: self.cursor.offset,
+        };
+        let x = event_scalar(at, events, awaited, e, free);
         self.keep_scalar(records, x)
     }
 

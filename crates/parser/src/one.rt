@@ -2,19 +2,19 @@
 ghost use Rattle.std.specs.Prelude.{◌≡◌, ◌≤◌, length};
 ghost use Rattle.provenance.specs.Layout.{zeros};
 ghost use Rattle.records.specs.Layout.{pieces_limit};
-ghost use Rattle.spans.specs.Scalar.{mark};
+ghost use Rattle.spans.specs.Scalar.{mark, mark_of};
 ghost use Rattle.parser.specs.Call.{scalar_measured, one_scalar, DeliveredScalar, PromisedScalar};
 ghost use Rattle.parser.specs.Held.{Counted, alone_answer};
 
 use crate::answer::{Refusal, Scalar};
-use measure::scalar::FOLDED;
 use provenance::walk::Walked;
 use provenance::write::clear;
 use records::buffer::usable;
 use records::record::{NO_TAG, with_list};
 use schema::tag::resolve_scalar;
 use spans::scalar::{Entry, ScalarMark, walk_scalar};
-use text::admission::{Admitted, Text, admit_text_and_value};
+use style::Style;
+use text::admission::{Admitted, AdmittedPlace, Text, admit_text_and_value};
 use text::offset::{START, byte_offset_of_char};
 
 // What the call on the scalar `x` answers, by its walk.
@@ -46,17 +46,17 @@ fn one_scalar(
     pieces: &mut [u32],
 ) -> Result<Scalar, Refusal>
     requires pieces_zero { (pieces.old ≡ zeros (length pieces.old)) × (length pieces.old ≤ pieces_limit) }
-    ensures { DeliveredScalar (length pieces.old) (one_scalar text.entry.content.bytes.now m value.entry.bytes.now (length pieces.old))
-        (scalar_measured text.entry.content.bytes.now m value.entry.bytes.now) result pieces.new }
+    ensures { DeliveredScalar (length pieces.old) (one_scalar text.entry.content.bytes.now (mark_of m) value.entry.bytes.now (length pieces.old))
+        (scalar_measured text.entry.content.bytes.now (mark_of m) value.entry.bytes.now) result pieces.new }
 {
-    if FOLDED < m.style {
-        return Err(Refusal::Malformed);
-    }
     let cursor = byte_offset_of_char(text, START, m.index as usize);
     let resolved = resolve_scalar(value.bytes, m.style, None);
+    let start = AdmittedPlace {
+        text: text.content,
+        at: cursor.offset,
+    };
     alone(walk_scalar(
-        text.content,
-        cursor.offset,
+        start,
         m,
         value,
         0,
@@ -81,12 +81,13 @@ pub fn scalar(
 {
     clear(pieces);
     let (text, value) = admit_text_and_value(text, value)?;
-    let n = usable(pieces.len());
+    let style = Style::try_from(style)?;
     let m = ScalarMark {
         index,
         column,
         style,
         empty,
     };
+    let n = usable(pieces.len());
     one_scalar(text, m, value, &mut pieces[..n])
 }

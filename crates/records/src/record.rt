@@ -1,10 +1,12 @@
 // A node's record: twelve numbers. Of all code only `record_numbers` and `read_record` know where each stands. (01: Events, records, pieces; E2.)
-ghost use Rattle.std.specs.Prelude.{◌≡◌, ◌/◌, ◌≤◌, ◌<◌, length};
+ghost use Rattle.std.specs.Prelude.{◌≡◌, ◌/◌, ◌≤◌, ◌<◌, eqb, ltb, length};
+ghost use Rattle.schema.specs.Record.{number_of};
+ghost use Rattle.schema.specs.declared.record.Kind.TheVariants as kind;
 ghost use Rattle.records.specs.Record.{record_width, node_numbers, node_of, with_list};
 ghost use Rattle.records.specs.Layout.{stored};
 
 use crate::buffer::put;
-use schema::record::Payload;
+use schema::record::{Kind, Payload};
 
 // What stands where there is none: no tag, no piece list. A number, as in the layout: a lent buffer may hold any numbers, and `read_record`
 // hands them back as they are.
@@ -12,13 +14,6 @@ pub const ABSENT: u32 = 0xffff_ffff;
 
 // How many numbers a record has.
 pub const RECORD_WIDTH: usize = 12;
-
-// The first of the eight kinds, which an alias has too, and the two of collections.
-pub const NULL: u32 = 1;
-
-pub const ARRAY: u32 = 7;
-
-pub const HASH: u32 = 8;
 
 // The bytes from `start` to `end`, `end` not counted in.
 #[derive(Clone, Copy, Debug, PartialEq, Eq)]
@@ -43,8 +38,9 @@ pub struct PieceList {
     pub count: u32,
 }
 
-#[derive(Clone, Copy)]
+#[derive(Clone, Copy, Debug, PartialEq, Eq)]
 pub struct Node {
+    // A kind's number, as in the layout: a lent buffer may hold any, and `read_record` hands it back.
     pub kind: u32,
     pub extent: Extent,
     pub tag: TagInfo,
@@ -65,6 +61,22 @@ pub const NO_LIST: PieceList = PieceList {
     first: ABSENT,
     count: 0,
 };
+
+impl Node {
+    // Whether it is of this kind.
+    pub fn is(self, kind: Kind) -> bool
+        ensures { result ≡ eqb self.kind (number_of kind) }
+    {
+        self.kind == u32::from(kind)
+    }
+
+    // Whether it is neither an array nor a hash, the two last kinds.
+    pub fn is_scalar(self) -> bool
+        ensures { result ≡ ltb self.kind (number_of kind.Array) }
+    {
+        self.kind < u32::from(Kind::Array)
+    }
+}
 
 // The node with the `count` pieces from number `first` on.
 pub fn with_list(x: Node, first: u32, count: u32) -> Node

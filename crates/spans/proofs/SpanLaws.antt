@@ -33,7 +33,7 @@ use Rattle.spans.specs.Scalar.{ScalarAt, step_past, colon, scalar_start, start_a
 use Rattle.spans.specs.Collection.{open_brace, close_brace, close_bracket, collection_start, collection_end, collection_over, collection_node}
 use Rattle.spans.specs.Fits.{TagFits}
 use Rattle.spans.specs.declared.open.Open.{Open}
-use Rattle.spans.specs.declared.scalar.ScalarMark.{ScalarMark}
+use Rattle.spans.specs.Scalar.{Mark}
 
 -- ---- a step past a byte
 
@@ -140,7 +140,7 @@ pub span_from : (text : List ℕ) (x : ScalarAt) → Boundary text x.start
 unfolding span_measure
 span_from text x on = rw (boundary_is on) refl
 
-module _ (text : List ℕ) (utf8 : Utf8 text) (awaited : Bool) (m : ScalarMark) (value : List ℕ) where
+module _ (text : List ℕ) (utf8 : Utf8 text) (awaited : Bool) (m : Mark) (value : List ℕ) where
   pub start_boundary : Boundary text (start_at text awaited m value)
   start_boundary = offset_start text utf8 value m.style awaited (byte_offset text m.index) (offset_boundary utf8 m.index)
 

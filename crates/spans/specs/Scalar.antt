@@ -3,6 +3,7 @@
 use Rattle.std.specs.Prelude.{ℕ, ◌+◌, Bool, ◌&&◌, cond, List, eqb, length, get_or, drop, Option, Some, None, option_map}
 use Rattle.std.proofs.Math.Option as maybe
 use Rattle.utf8.specs.Boundary.{is_boundary}
+use Rattle.style.specs.Style.{style_number}
 use Rattle.text.specs.Offset.{byte_offset}
 use Rattle.schema.specs.Tag.{resolve_scalar}
 use Rattle.schema.specs.Record.{kind_number, payload_of}
@@ -25,8 +26,18 @@ use Rattle.spans.specs.declared.scalar.ScalarMark.{ScalarMark}
 use Rattle.spans.specs.declared.scalar.ScalarEvent.{ScalarEvent}
 
 -- what an event gives of a scalar
-abbrev pub mark : ℕ → ℕ → ℕ → Bool → ScalarMark
+pub record Mark : Type 0 where
+  pub index : ℕ
+  pub column : ℕ
+  pub style : ℕ
+  pub empty : Bool
+
+abbrev pub mark : ℕ → ℕ → ℕ → Bool → Mark
 mark index column style empty_span = record { index = index; column = column; style = style; empty = empty_span }
+
+-- the code's mark, its style by its number
+abbrev pub mark_of : ScalarMark → Mark
+mark_of m = mark m.index m.column (style_number m.style) m.empty
 
 abbrev pub scalar_given : ScalarMark → Option YamlTag → Part → ScalarEvent
 scalar_given m tag value = record { mark = m; tag = tag; value = value }
@@ -40,7 +51,7 @@ pub record ScalarAt : Type 0 where
   pub value : List ℕ
   pub place : ℕ
 
-abbrev pub scalar_from : ℕ → ScalarMark → List ℕ → ℕ → ScalarAt
+abbrev pub scalar_from : ℕ → Mark → List ℕ → ℕ → ScalarAt
 scalar_from i m value place =
     record { start = i; column = m.column; style = m.style; empty_span = m.empty; value = value; place = place }
 
@@ -58,10 +69,10 @@ unfoldable pub scalar_start : List ℕ → ℕ → List ℕ → ℕ → Bool →
 scalar_start text i value style awaited = cond (awaited && (eqb style plain && eqb (length value) 0)) (step_past text colon i) i
 
 -- the start of the scalar whose marker has the index `m.index` (P1)
-abbrev pub start_at : List ℕ → Bool → ScalarMark → List ℕ → ℕ
+abbrev pub start_at : List ℕ → Bool → Mark → List ℕ → ℕ
 start_at text awaited m value = scalar_start text (byte_offset text m.index) value m.style awaited
 
-abbrev pub scalar_at : List ℕ → Bool → ScalarMark → List ℕ → ℕ → ScalarAt
+abbrev pub scalar_at : List ℕ → Bool → Mark → List ℕ → ℕ → ScalarAt
 scalar_at text awaited m value place = scalar_from (start_at text awaited m value) m value place
 
 -- ---- span and pieces: no length and no list where the start is past the text or inside a character (S1)
@@ -80,7 +91,7 @@ list_at text x =
     cond (is_boundary text x.start) (scalar_list text x.start (span_len text x) x.value x.style x.column) maybe.none
 
 -- the first byte of its walk, from the marker index on (P1, S1, S14); the span decides only where a block header has no newline
-unfoldable pub walk_first : List ℕ → Bool → ScalarMark → List ℕ → ℕ
+unfoldable pub walk_first : List ℕ → Bool → Mark → List ℕ → ℕ
 walk_first text awaited m value =
     walk_start text (start_at text awaited m value)
     (scalar_len (drop (start_at text awaited m value) text) value m.style m.empty m.column) value m.style
@@ -116,7 +127,7 @@ scalar_node text x tag r = scalar_over x.start (x.start + span_len text x) x.pla
 abbrev pub event_scalar : List ℕ → List ℕ → ℕ → Bool → ScalarEvent → ScalarAt
 event_scalar text events i awaited e =
     let value = part_of events e.value in
-    scalar_from (scalar_start text i value e.mark.style awaited) e.mark value e.value.at
+    scalar_from (scalar_start text i value (style_number e.mark.style) awaited) (mark_of e.mark) value e.value.at
 
 -- its record, by its tag
 unfoldable pub event_node : List ℕ → List ℕ → ScalarAt → Option YamlTag → Node

@@ -3,14 +3,15 @@ ghost use Rattle.std.specs.Prelude.{cond, ◌≡◌, ◌+◌, ◌-◌, ◌≤◌
 ghost use Rattle.utf8.specs.Boundary.{Boundary};
 ghost use Rattle.text.specs.Admission.{text_limit};
 ghost use Rattle.event.specs.Read.{events_limit};
+ghost use Rattle.schema.specs.Record.{number_of};
 ghost use Rattle.records.specs.Record.{extent};
 ghost use Rattle.spans.specs.Collection.{closes, hash, array, members, collection_end, collection_start, collection_over, collection_node};
 
 use crate::open::Open;
 use crate::scalar::{step_past, tag_info};
-use records::record::{ARRAY, Extent, HASH, NO_LIST, Node};
-use schema::record::Payload;
-use text::admission::Admitted;
+use records::record::{Extent, NO_LIST, Node};
+use schema::record::{Kind, Payload};
+use text::admission::{Admitted, AdmittedPlace};
 use utf8::utf8::byte_at;
 
 // Whether the end of a mapping, or of a sequence, ends `o`: no key may be without its value.
@@ -59,10 +60,10 @@ fn member_count(o: Open) -> u32
     }
 }
 
-fn kind_of(mapping: bool) -> u32
-    ensures { result ≡ cond mapping hash array }
+fn kind_of(mapping: bool) -> Kind
+    ensures { number_of result ≡ cond mapping hash array }
 {
-    if mapping { HASH } else { ARRAY }
+    if mapping { Kind::Hash } else { Kind::Array }
 }
 
 // The bytes from `start` to `end`, none where that comes first.
@@ -76,18 +77,17 @@ fn extent_to(start: usize, end: usize) -> Extent
     }
 }
 
-// The record of a collection over `start..end`; a negative length is 0.
+// The record of a collection from `start` to `end`; a negative length is 0.
 #[tactic(auto, unfolding(crate::specs::Collection::collection_over))]
-fn collection_over(text: Admitted<'_>, o: Open, start: usize, end: usize, nodes: usize) -> Node
-    requires boundary { Boundary text.bytes.now start }
-    requires end_in_bounds { end ≤ length text.bytes.now }
+fn collection_over(start: AdmittedPlace<'_>, o: Open, end: usize, nodes: usize) -> Node
+    requires end_in_bounds { end ≤ length start.text.bytes.now }
     requires before_le_nodes { (o.before ≤ nodes) × (nodes < events_limit) }
-    ensures { result ≡ collection_over text.entry.bytes.now o start end nodes }
+    ensures { result ≡ collection_over start.entry.text.bytes.now o start.entry.at end nodes }
 {
     Node {
-        kind: kind_of(o.mapping),
-        extent: extent_to(start, end),
-        tag: tag_info(text, start, o.suffix),
+        kind: kind_of(o.mapping).into(),
+        extent: extent_to(start.at, end),
+        tag: tag_info(start, o.suffix),
         subtree: nodes as u32 - o.before + 1,
         list: NO_LIST,
         payload: Payload {
@@ -105,7 +105,10 @@ pub fn collection_node(text: Admitted<'_>, o: Open, at: usize, nodes: usize) -> 
     requires before_le_nodes { (o.before ≤ nodes) × (nodes < events_limit) }
     ensures { result ≡ collection_node text.entry.bytes.now o at nodes }
 {
-    let start = collection_start(text.bytes, o);
+    let start = AdmittedPlace {
+        text,
+        at: collection_start(text.bytes, o),
+    };
     let end = collection_end(text.bytes, o.mapping, at);
-    collection_over(text, o, start, end, nodes)
+    collection_over(start, o, end, nodes)
 }

@@ -1,25 +1,26 @@
 // Scalars: their start, span, tag and pieces, what they are, and their record without pieces. (01: Reading rules, Start; S1, N1, E2. 02: (b).)
 ghost use Rattle.std.specs.Prelude.{◌≡◌, ◌≤◌, length};
-ghost use Rattle.utf8.specs.Boundary.{Boundary};
+ghost use Rattle.style.specs.Style.{style_number};
 ghost use Rattle.text.specs.Admission.{text_limit};
 ghost use Rattle.event.specs.Proved.{TextParts};
 ghost use Rattle.provenance.specs.Layout.{room, zeros, buffer_of};
-ghost use Rattle.spans.specs.Scalar.{step_past, scalar_start, scalar_from, list_at, suffix_of, tag_info, resolved_by};
+ghost use Rattle.spans.specs.Scalar.{mark_of, step_past, scalar_start, scalar_from, list_at, suffix_of, tag_info, resolved_by};
 ghost use Rattle.spans.specs.Scalar.{scalar_over, event_scalar};
 ghost use Rattle.spans.specs.Fits.{TagFits, EventFits, scalar_entry, event_entry};
 
 use crate::open::Suffix;
 use event::string::Part;
 use event::tag::YamlTag;
-use measure::scalar::{PLAIN, scalar_len};
+use measure::scalar::scalar_len;
 use provenance::scalar::scalar_provenance;
 use provenance::walk::Walked;
 use records::record::{Extent, NO_LIST, NO_TAG, Node, TagInfo};
 use schema::plain::Resolved;
 use schema::record::{kind_number, payload_of};
 use schema::tag::{Tag, resolve_scalar};
+use style::Style;
 use tag::property::make_tag_info;
-use text::admission::Admitted;
+use text::admission::{Admitted, AdmittedPlace};
 use utf8::utf8::byte_at;
 
 // What an event gives of a scalar beside its tag and value: its marker's index and column, its style, and whether its span is empty.
@@ -27,7 +28,7 @@ use utf8::utf8::byte_at;
 pub struct ScalarMark {
     pub index: u32,
     pub column: u32,
-    pub style: u8,
+    pub style: Style,
     pub empty: bool,
 }
 
@@ -40,7 +41,7 @@ pub struct ScalarEvent {
 }
 
 // A scalar's record, with no list yet, whether its span was measured, and what its walk answered.
-#[derive(Clone, Copy)]
+#[derive(Clone, Copy, Debug, PartialEq, Eq)]
 pub struct Entry {
     pub node: Node,
     pub measured: bool,
@@ -62,12 +63,20 @@ pub fn step_past(text: &[u8], byte: u8, at: usize) -> usize
 
 // The start of a scalar whose marker stands at `at`: an empty plain one that is awaited as a mapping's value steps past its colon.
 #[tactic(auto, unfolding(crate::specs::Scalar::scalar_start))]
-fn scalar_start(text: &[u8], at: usize, value: &[u8], style: u8, awaited: bool) -> usize
-    requires { at ≤ length text.now }
-    ensures { result ≡ scalar_start text.now at value.now style awaited }
+fn scalar_start<'a>(
+    at: AdmittedPlace<'a>,
+    value: &[u8],
+    style: Style,
+    awaited: bool,
+) -> AdmittedPlace<'a>
+    ensures same_text { result.text.bytes.now ≡ at.entry.text.bytes.now }
+    ensures value { result.at ≡ scalar_start at.entry.text.bytes.now at.entry.at value.now (style_number style) awaited }
 {
-    if awaited && style == PLAIN && value.is_empty() {
-        step_past(text, b':', at)
+    if awaited && style == Style::Plain && value.is_empty() {
+        AdmittedPlace {
+            text: at.text,
+            at: step_past(at.text.bytes, b':', at.at),
+        }
     } else {
         at
     }
@@ -87,14 +96,13 @@ pub fn suffix_of(tag: Option<YamlTag>) -> Option<Suffix>
 
 // The tag of a node that starts at `start`, its span searched from there.
 #[tactic(auto, unfolding(crate::specs::Scalar::tag_info))]
-pub fn tag_info(text: Admitted<'_>, start: usize, suffix: Option<Suffix>) -> TagInfo
-    requires { Boundary text.bytes.now start }
-    ensures { result ≡ tag_info text.entry.bytes.now start suffix }
+pub fn tag_info(start: AdmittedPlace<'_>, suffix: Option<Suffix>) -> TagInfo
+    ensures { result ≡ tag_info start.entry.text.bytes.now start.entry.at suffix }
 {
     let Some(Suffix { place, len }) = suffix else {
         return NO_TAG;
     };
-    let span = make_tag_info(text.bytes, start, len as usize);
+    let span = make_tag_info(start.place(), len as usize);
     TagInfo {
         start: span.start as u32,
         end: span.end as u32,
@@ -105,9 +113,9 @@ pub fn tag_info(text: Admitted<'_>, start: usize, suffix: Option<Suffix>) -> Tag
 
 // What a scalar is, by its value, style and tag.
 #[tactic(auto, unfolding(crate::specs::Scalar::resolved_by))]
-fn resolve(events: &[u8], value: &[u8], style: u8, tag: Option<YamlTag>) -> Resolved
+fn resolve(events: &[u8], value: &[u8], style: Style, tag: Option<YamlTag>) -> Resolved
     requires { TextParts events.now tag }
-    ensures { result ≡ resolved_by events.now value.now style tag }
+    ensures { result ≡ resolved_by events.now value.now (style_number style) tag }
 {
     let tag = tag.map(|t| Tag {
         handle: t.handle.bytes_in(events),
@@ -144,8 +152,7 @@ fn scalar_node(
 
 // A scalar that starts at `start`: its record, whether its span was measured, and its walk, which leaves its pieces in a buffer that is lent zero.
 pub fn walk_scalar(
-    text: Admitted<'_>,
-    start: usize,
+    start: AdmittedPlace<'_>,
     m: ScalarMark,
     value: Admitted<'_>,
     place: u32,
@@ -153,15 +160,15 @@ pub fn walk_scalar(
     resolved: Resolved,
     pieces: &mut [u32],
 ) -> Entry
-    requires boundary { Boundary text.bytes.now start }
     requires pieces_zero { pieces.old ≡ zeros (length pieces.old) }
-    ensures value { result ≡ scalar_entry (room (length pieces.old)) text.entry.bytes.now (scalar_from start m value.entry.bytes.now place) tag resolved }
-    ensures pieces_after { pieces.new ≡ buffer_of (length pieces.old) (list_at text.entry.bytes.now (scalar_from start m value.entry.bytes.now place)) }
+    ensures value { result ≡ scalar_entry (room (length pieces.old)) start.entry.text.bytes.now (scalar_from start.entry.at (mark_of m) value.entry.bytes.now place) tag resolved }
+    ensures pieces_after { pieces.new ≡ buffer_of (length pieces.old) (list_at start.entry.text.bytes.now (scalar_from start.entry.at (mark_of m) value.entry.bytes.now place)) }
 {
-    let (text, value, column) = (text.bytes, value.bytes, m.column as usize);
-    let span = scalar_len(&text[start..], value, m.style, m.empty, column);
-    let node = scalar_node(start, start + span.len, place, value.len(), tag, resolved);
-    let walked = scalar_provenance(text, start, span.len, value, m.style, column, pieces);
+    let (text, at, column) = (start.text, start.at, m.column as usize);
+    let span = scalar_len(text.utf8().from(at), value.utf8(), m.style, m.empty, column);
+    let (text, value) = (text.bytes, value.bytes);
+    let node = scalar_node(at, at + span.len, place, value.len(), tag, resolved);
+    let walked = scalar_provenance(text, at, span.len, value, m.style, column, pieces);
     Entry {
         node,
         measured: span.measured,
@@ -171,28 +178,25 @@ pub fn walk_scalar(
 
 // The scalar of an event whose marker stands at `at`, awaited as a mapping's value or not.
 pub fn event_scalar(
-    text: Admitted<'_>,
+    at: AdmittedPlace<'_>,
     events: &[u8],
-    at: usize,
     awaited: bool,
     e: ScalarEvent,
     pieces: &mut [u32],
 ) -> Entry
-    requires boundary { Boundary text.bytes.now at }
     requires event_fits { EventFits events.now e }
     requires pieces_zero { pieces.old ≡ zeros (length pieces.old) }
-    ensures value { result ≡ event_entry (room (length pieces.old)) text.entry.bytes.now events.now at awaited e }
-    ensures pieces_after { pieces.new ≡ buffer_of (length pieces.old) (list_at text.entry.bytes.now (event_scalar text.entry.bytes.now events.now at awaited e)) }
+    ensures value { result ≡ event_entry (room (length pieces.old)) at.entry.text.bytes.now events.now at.entry.at awaited e }
+    ensures pieces_after { pieces.new ≡ buffer_of (length pieces.old) (list_at at.entry.text.bytes.now (event_scalar at.entry.text.bytes.now events.now at.entry.at awaited e)) }
 {
     let value = Admitted {
         bytes: e.value.bytes_in(events),
     };
     let style = e.mark.style;
-    let start = scalar_start(text.bytes, at, value.bytes, style, awaited);
-    let tag = tag_info(text, start, suffix_of(e.tag));
+    let start = scalar_start(at, value.bytes, style, awaited);
+    let tag = tag_info(start, suffix_of(e.tag));
     let resolved = resolve(events, value.bytes, style, e.tag);
     walk_scalar(
-        text,
         start,
         e.mark,
         value,

@@ -27,22 +27,31 @@ pub struct Admitted<'a> {
     ghost utf8: { is_utf8 bytes.now ≡ true },
 }
 
+// A place between two characters of such bytes.
+#[derive(Clone, Copy)]
+pub struct AdmittedPlace<'a> {
+    pub text: Admitted<'a>,
+    pub at: usize,
+    ghost boundary: { Boundary text.bytes.now at },
+}
+
 impl<'a> Admitted<'a> {
-    // The bytes as UTF-8, of any length.
+    // The same as UTF-8 of any length.
     pub fn utf8(self) -> Utf8Bytes<'a>
         ensures { result.bytes.now ≡ self.entry.bytes.now }
     {
         Utf8Bytes { bytes: self.bytes }
     }
+}
 
-    // The place `at`.
-    pub fn place(self, at: usize) -> Place<'a>
-        requires { Boundary self.bytes.now at }
-        ensures { (result.text.bytes.now ≡ self.entry.bytes.now) × (result.at ≡ at) }
+impl<'a> AdmittedPlace<'a> {
+    // The same in UTF-8 of any length.
+    pub fn place(self) -> Place<'a>
+        ensures { (result.text.bytes.now ≡ self.entry.text.bytes.now) × (result.at ≡ self.entry.at) }
     {
         Place {
-            text: self.utf8(),
-            at,
+            text: self.text.utf8(),
+            at: self.at,
         }
     }
 }

@@ -93,14 +93,14 @@ impl Standing<'_> {
         requires { self.cursor.chars ≤ target }
         ensures { result ≡ cursor_at self.entry.text.content.bytes.now target }
     {
-        let text = self.text.content;
+        let text = self.text.content.utf8();
         let near = self.over_chunks(target);
         let mut offset = near.offset;
         for chars in near.chars..target {
             if text.bytes.len() <= offset {
                 return Cursor { chars, offset };
             }
-            offset += text.place(offset).char_len();
+            offset += Place { text, at: offset }.char_len();
         }
         Cursor {
             chars: target,
@@ -113,10 +113,10 @@ impl Standing<'_> {
         requires { target ≤ self.cursor.chars }
         ensures { result ≡ cursor_at self.entry.text.content.bytes.now target }
     {
-        let text = self.text.content;
+        let text = self.text.content.utf8();
         let mut offset = self.cursor.offset;
         for _ in target..self.cursor.chars {
-            offset -= text.place(offset).last_char().unwrap().len;
+            offset -= Place { text, at: offset }.last_char().unwrap().len;
         }
         Cursor {
             chars: target,

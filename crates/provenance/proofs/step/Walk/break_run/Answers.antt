@@ -2,8 +2,8 @@
 use Rattle.std.proofs.Common.{◌<◌, ◌∙◌, length, arith}
 use Rattle.provenance.specs.Grammar.{is_block}
 use Rattle.provenance.proofs.Steps.{opens_inside, opens_told}
-use Rattle.provenance.proofs.step.break_run.Goals as goal
-use Rattle.provenance.proofs.step.break_run.Goals.{Then-opens_break}
+use Rattle.provenance.proofs.step.Walk.break_run.Goals as goal
+use Rattle.provenance.proofs.step.Walk.break_run.Goals.{Then-opens_break}
 
 inside : (c : Then-opens_break) → c.args.s < length c.args.src.now
 inside c =

@@ -15,8 +15,8 @@ use Rattle.provenance.specs.StepLaws.{Fair, grammar_fair}
 use Rattle.provenance.proofs.Steps.{Clear, tells, run_small, clear_after, clear_on}
 use Rattle.provenance.proofs.Turn.{Going, begins, on_verbatim, on_letters, on_replacement}
 use Rattle.provenance.proofs.Walks.{ends_stuck, ends_listed, ends_full}
-use Rattle.provenance.proofs.walk.walk_scalar_provenance.Goals as goal
-use Rattle.provenance.proofs.walk.walk_scalar_provenance.Goals.{After-known_after-known, After-put_replacement-n, In-Replacement, In-Verbatim}
+use Rattle.provenance.proofs.step.Walk.walk_scalar_provenance.Goals as goal
+use Rattle.provenance.proofs.step.Walk.walk_scalar_provenance.Goals.{After-known_after-known, After-put_replacement-n, In-Replacement, In-Verbatim}
 
 -- ---- what is known in a turn
 -- the steps of the grammar are fair

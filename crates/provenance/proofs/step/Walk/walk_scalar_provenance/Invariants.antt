@@ -1,4 +1,4 @@
--- `provenance::walk::walk_scalar_provenance` meets its contract. The loop's invariant: a reading from here on gives one from the start and
+-- `provenance::step::Walk::walk_scalar_provenance` meets its contract. The loop's invariant: a reading from here on gives one from the start and
 -- the other way round, its pieces are those written and those of the rest (`Going`), and no run from here to `known` holds a newline. The
 -- measure is what is left of the source and of the value.
 use Prim.Native.Nat.{◌+◌, ◌-◌}
@@ -7,7 +7,7 @@ use Rattle.provenance.specs.Grammar.{rules_of, step_at}
 use Rattle.provenance.specs.Escape.{escapes_reach}
 use Rattle.provenance.proofs.Steps.{Clear}
 use Rattle.provenance.proofs.Turn.{Going}
-use Rattle.provenance.proofs.walk.walk_scalar_provenance.Given as goal
+use Rattle.provenance.proofs.step.Walk.walk_scalar_provenance.Given as goal
 
 abbrev pub invariant-loop-v : goal.invariant-loop-v
 invariant-loop-v l =

@@ -7,8 +7,8 @@ use Rattle.provenance.specs.Run.{white_run, newlines_in, cut, blank_run}
 use Rattle.provenance.specs.RunLaws.{run_within, last_within}
 use Rattle.letters.proofs.Chunks.{part_is}
 use Rattle.provenance.proofs.Steps.{numbers_of, cut_of, blanks_of, cut_inside, blanks_inside, pair_same, pair_other}
-use Rattle.provenance.proofs.step.break_step.Goals as goal
-use Rattle.provenance.proofs.step.break_step.Goals.{After-blanks-b, After-eq}
+use Rattle.provenance.proofs.step.Walk.break_step.Goals as goal
+use Rattle.provenance.proofs.step.Walk.break_step.Goals.{After-blanks-b, After-eq}
 
 -- how many bytes each side has
 left_len : (c : After-blanks-b) → c.cut_len-a.result ≡ length (cut c.args.block c.args.column (white_run (drop c.args.s c.args.src.now)))

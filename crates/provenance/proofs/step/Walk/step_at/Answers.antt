@@ -7,7 +7,7 @@ use Rattle.provenance.specs.Grammar.{is_block, rules_of, break_pair}
 use Rattle.letters.proofs.Chunks.{part_is}
 use Rattle.provenance.specs.EscapeLaws.{escape_nowhere}
 use Rattle.provenance.proofs.Steps.{found, found_inside, step_break, step_escape, step_end, step_byte}
-use Rattle.provenance.proofs.step.step_at.Goals as goal
+use Rattle.provenance.proofs.step.Walk.step_at.Goals as goal
 
 pub break_step-requires-clause-src_len_bound : goal.break_step-requires-clause-src_len_bound
 break_step-requires-clause-src_len_bound c =
