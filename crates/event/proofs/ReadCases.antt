@@ -2,6 +2,7 @@
 use Rattle.std.specs.Prelude.{◌≡◌, refl, Bool, true, false, cond, List, ℕ, ◌+◌, ◌≤◌, ◌<◌, eqb, length, get_or, take, None, Some, Result, Ok, Err, IfOk}
 use Rattle.std.proofs.Common.{◌∙◌, arith, lt-ltb, le-leb}
 use Rattle.utf8.specs.Characters.{is_utf8}
+use Rattle.style.specs.Style.{style_of}
 use Rattle.event.specs.Number.{number_at}
 use Rattle.event.specs.Read.{malformed, ◌>>=◌, part, part_of, yaml_tag, read_string, read_parts, read_tag, with_value, read_scalar, read_body, read_event}
 use Rattle.event.specs.declared.malformed.Malformed.{Malformed}
@@ -27,7 +28,7 @@ module _ (s : List ℕ) (i : ℕ) where
   tag_with_suffix l k h x p q = tag_present l k ∙ rw (p, q)
 
   pub scalar_tagged : (n : ℕ) → i + 6 ≤ length s → get_or s (i + 4) 0 ≤ 4 → get_or s (i + 5) 0 ≤ 1
-      → read_scalar s n i ≡ (read_tag s (i + 6) >>= with_value s n (number_at s i 4) (get_or s (i + 4) 0) (eqb (get_or s (i + 5) 0) 1))
+      → read_scalar s n i ≡ (read_tag s (i + 6) >>= with_value s n (number_at s i 4) (style_of (get_or s (i + 4) 0)) (eqb (get_or s (i + 5) 0) 1))
   unfolding read_scalar
   scalar_tagged n h k l = rw (le-leb (i + 6) (length s) h, le-leb (get_or s (i + 4) 0) 4 k, le-leb (get_or s (i + 5) 0) 1 l)
 

@@ -4,9 +4,11 @@
 -- slice of the code are.
 use Rattle.std.specs.Prelude.{◌≡◌, refl, Bool, List, [], ◌∷◌, ◌++◌, ◌⊎◌, ℕ, ◌+◌, length, drop, Some, Ok, Err}
 use Rattle.std.proofs.Common.{sym, ◌∙◌, ap, inl, inr, arith, append_assoc}
-use Rattle.event.specs.Number.{high_first}
 use Rattle.utf8.specs.Ascii.{Bytes}
-use Rattle.event.specs.Encode.{Tag, untagged, tagged, YamlEvent, sequence_start, sequence_end, mapping_start, mapping_end, scalar, alias, encode_string, encode_tag, encode_flag, marker_index, encode_rest, encode_event, SoundTag, SoundEvent}
+use Rattle.style.specs.Style.{style_of}
+use Rattle.style.specs.StyleLaws.{style_known, known_back}
+use Rattle.event.specs.Number.{high_first}
+use Rattle.event.specs.Encode.{Tag, untagged, tagged, YamlEvent, sequence_start, sequence_end, mapping_start, mapping_end, scalar, alias, encode_string, encode_tag, encode_flag, marker_index, encode_rest, encode_event, SoundTag, SoundRest, SoundEvent}
 use Rattle.event.specs.Read.{malformed, part, part_of, read_event}
 use Rattle.event.specs.Meaning.{StandsAt, placed_tag, placed_body, placed, Answers, said_tag, said, Exact}
 use Rattle.event.specs.Proved.{TextParts, EventPassed, EventWithin}
@@ -84,21 +86,21 @@ module _ (s : List ℕ) where
   value_part : (i : ℕ) (t : Tag) (v u : List ℕ) → drop i s ≡ encode_tag t ++ (v ++ u) → part_of s (part (i + length (encode_tag t)) (length v)) ≡ v
   value_part i t v u stands = part_stands s (i + length (encode_tag t)) v u (stands_after s i (encode_tag t) (v ++ u) stands (i + length (encode_tag t)) refl)
 
-  rest_said : (i n : ℕ) (e : YamlEvent) (u : List ℕ) → drop i s ≡ encode_rest e ++ u → said s (Ok (placed_body i n e)) ≡ Some e
+  rest_said : (i n : ℕ) (e : YamlEvent) (u : List ℕ) → drop i s ≡ encode_rest e ++ u → SoundRest e → said s (Ok (placed_body i n e)) ≡ Some e
   unfolding said encode_rest
-  rest_said i n (sequence_start m t) u stands = rw (tag_said i t u stands)
-  rest_said i n (sequence_end m) u stands = refl
-  rest_said i n (mapping_start m t) u stands = rw (tag_said i t u stands)
-  rest_said i n (mapping_end m) u stands = refl
-  rest_said i n (scalar m c y f t v) u stands =
+  rest_said i n (sequence_start m t) u stands sound = rw (tag_said i t u stands)
+  rest_said i n (sequence_end m) u stands sound = refl
+  rest_said i n (mapping_start m t) u stands sound = rw (tag_said i t u stands)
+  rest_said i n (mapping_end m) u stands sound = refl
+  rest_said i n (scalar m c y f t v) u stands sound =
       let on = tag_stands i m c y f t v u stands in
-      rw (tag_said (i + 6) t (v ++ u) on, value_part (i + 6) t v u on)
-  rest_said i n (alias m) u stands = refl
+      rw (known_back y sound.style_known, tag_said (i + 6) t (v ++ u) on, value_part (i + 6) t v u on)
+  rest_said i n (alias m) u stands sound = refl
 
   -- an answer's numbers, and the bytes of its parts, are those of the event that stands there
   pub parts_are : (i : ℕ) (e : YamlEvent) → StandsAt s i e → said s (Ok (placed i e)) ≡ Some e
   unfolding placed
-  parts_are i e p = rest_said (i + 3 + 4) (i + length (encode_event e)) e p.rest (rest-stands s i e p)
+  parts_are i e p = rest_said (i + 3 + 4) (i + length (encode_event e)) e p.rest (rest-stands s i e p) p.sound.rest
 
 -- ---- no two events have the same bytes
 
@@ -140,7 +142,7 @@ module _ (s : List ℕ) (i : ℕ) where
       record {
         passed = past;
         column_fits = ok.column_fits;
-        style_known = ok.style_known;
+        style_known = style_known (style_of y);
         tag_within = tag_within s (i + 3 + 4 + 6) t (v ++ p.rest) on ok.tag_sound;
         value_within = record { inside = let room = past.inside in omega arith; utf8 = rw (value_part s (i + 3 + 4 + 6) t v p.rest on) ok.value_utf8 };
       }

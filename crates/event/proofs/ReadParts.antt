@@ -6,6 +6,7 @@ use lib.Seq.{drop-drop, length-take-le}
 use Rattle.utf8.specs.Ascii.{Bytes}
 use Rattle.utf8.specs.Characters.{is_utf8}
 use Rattle.utf8.proofs.Utf8Laws.{utf8_sound}
+use Rattle.style.specs.Style.{style_of}
 use Rattle.event.specs.Number.{high_first, number_at}
 use Rattle.event.proofs.NumberLaws.{capacity, number_fits, number_written}
 use Rattle.event.specs.Encode.{Tag, untagged, tagged, YamlEvent, scalar, encode_string, encode_tag, encode_flag, tag_byte, marker_index, encode_rest, SoundString, SoundTag, SoundRest}
@@ -169,7 +170,7 @@ flag_written b h = go (eqb b 1) refl
 module _ (s : List ℕ) (bytes : Bytes s) where
   pub found_scalar : (m i : ℕ) (t : Option YamlTag × ℕ) → i + 6 ≤ length s → get_or s (i + 4) 0 ≤ 4 → get_or s (i + 5) 0 ≤ 1 → FoundTag s (i + 6) t.0 t.1
       → is_utf8 (part_of s (part t.1 (length s - t.1))) ≡ true
-      → FoundBody s 5 m i (Ok (Scalar m (number_at s i 4) (get_or s (i + 4) 0) (eqb (get_or s (i + 5) 0) 1) t.0 (part t.1 (length s - t.1)) (length s)))
+      → FoundBody s 5 m i (Ok (Scalar m (number_at s i 4) (style_of (get_or s (i + 4) 0)) (eqb (get_or s (i + 5) 0) 1) t.0 (part t.1 (length s - t.1)) (length s)))
   unfolding encode_rest capacity
   found_scalar m i t l known told p u =
       let column = number_at s i 4 in

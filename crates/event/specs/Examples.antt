@@ -1,6 +1,7 @@
 -- Worked encodings, by computation: each of the six events written and read back, with and without a YAML tag, and what row 3 refuses.
 use Rattle.std.specs.Prelude.{◌≡◌, refl, true, false, List, [], ◌∷◌, ℕ, Some, None, Ok, Err}
 use Rattle.utf8.specs.Characters.{is_utf8, all_some, chars_after, first_char, char_of, multi_byte, two_bytes}
+use Rattle.style.specs.declared.Style.TheVariants.{Plain, DoubleQuoted, Folded}
 use Rattle.event.specs.Number.{high_first, number_at}
 use Rattle.event.specs.Encode.{YamlEvent, untagged, tagged, sequence_start, sequence_end, mapping_start, mapping_end, scalar, alias, encode_string, encode_tag, encode_rest, encode_body, encode_event}
 use Rattle.event.specs.Read.{malformed, part, yaml_tag, read_string, read_tag, read_start_tag, read_scalar, read_body, read_event}
@@ -43,17 +44,17 @@ pub record Examples : Type 0 where
   pub plain-scalar :
       Worked (scalar 7 0 0 true untagged [])
       (5 ∷ 0 ∷ 11 ∷ 0 ∷ 0 ∷ 0 ∷ 7 ∷ 0 ∷ 0 ∷ 0 ∷ 0 ∷ 0 ∷ 1 ∷ 0 ∷ [])
-      (Scalar 7 0 0 true None (part 14 0) 14)
+      (Scalar 7 0 Plain true None (part 14 0) 14)
   -- double-quoted, at index 3 and column 2, with the value `é`
   pub quoted-scalar :
       Worked (scalar 3 2 2 false untagged (195 ∷ 169 ∷ []))
       (5 ∷ 0 ∷ 13 ∷ 0 ∷ 0 ∷ 0 ∷ 3 ∷ 0 ∷ 0 ∷ 0 ∷ 2 ∷ 2 ∷ 0 ∷ 0 ∷ 195 ∷ 169 ∷ [])
-      (Scalar 3 2 2 false None (part 14 2) 16)
+      (Scalar 3 2 DoubleQuoted false None (part 14 2) 16)
   -- folded, with the tag `!t` and the value `a`
   pub tagged-scalar :
       Worked (scalar 3 2 4 false (tagged (33 ∷ []) (116 ∷ [])) (97 ∷ []))
       (5 ∷ 0 ∷ 18 ∷ 0 ∷ 0 ∷ 0 ∷ 3 ∷ 0 ∷ 0 ∷ 0 ∷ 2 ∷ 4 ∷ 0 ∷ 1 ∷ 0 ∷ 1 ∷ 33 ∷ 0 ∷ 1 ∷ 116 ∷ 97 ∷ [])
-      (Scalar 3 2 4 false (Some (yaml_tag (part 16 1) (part 19 1))) (part 20 1) 21)
+      (Scalar 3 2 Folded false (Some (yaml_tag (part 16 1) (part 19 1))) (part 20 1) 21)
   -- index 5
   pub alias_event : Worked (alias 5) (6 ∷ 0 ∷ 4 ∷ 0 ∷ 0 ∷ 0 ∷ 5 ∷ []) (Alias 5 7)
   -- ---- what is refused (R3)
@@ -101,7 +102,7 @@ pub record Examples : Type 0 where
   -- ---- three events in a row, each read at the place that the one before it gave
 
   pub first : read_event in_arow 0 ≡ Ok (SequenceStart 0 None 8)
-  pub second : read_event in_arow 8 ≡ Ok (Scalar 3 2 2 false None (part 22 2) 24)
+  pub second : read_event in_arow 8 ≡ Ok (Scalar 3 2 DoubleQuoted false None (part 22 2) 24)
   pub third : read_event in_arow 24 ≡ Ok (SequenceEnd 1 31)
 
 pub examples : Examples

@@ -2,6 +2,7 @@
 -- no two lists of them, have the same bytes (`unambiguous`, proofs/EventListLaws.antt). That the reader is exact is said in `Meaning`.
 use Rattle.std.specs.Prelude.{ℕ, ◌+◌, ◌≤◌, ◌<◌, ◌≡◌, List, ◌++◌, length, Option, Some, None, Result, Ok, Err}
 use Rattle.utf8.specs.Utf8.{Utf8}
+use Rattle.style.specs.Style.{style_number}
 use Rattle.event.specs.Encode.{YamlEvent, encode_event, SoundEvent}
 use Rattle.event.specs.Read.{part_of}
 use Rattle.event.specs.EventList.{encode_events, AllSound}
@@ -40,7 +41,7 @@ EventWithin s i (Ok (SequenceStart m t n)) = EventPassed s i m n × TextParts s 
 EventWithin s i (Ok (SequenceEnd m n)) = EventPassed s i m n
 EventWithin s i (Ok (MappingStart m t n)) = EventPassed s i m n × TextParts s t
 EventWithin s i (Ok (MappingEnd m n)) = EventPassed s i m n
-EventWithin s i (Ok (Scalar m c y f t v n)) = ScalarWithin s i m c y t v n
+EventWithin s i (Ok (Scalar m c y f t v n)) = ScalarWithin s i m c (style_number y) t v n
 EventWithin s i (Ok (Alias m n)) = EventPassed s i m n
 EventWithin s i (Err e) = Unit {0}
 

@@ -17,7 +17,7 @@ const HEADER: usize = 3;
 // The bytes of the marker index, which every body starts with.
 const INDEX: usize = 4;
 
-// The tag bytes.
+// The tag bytes. Each is matched once, where its event is made: an enum of them would be a second `Event`.
 const SEQUENCE_START: u8 = 1;
 
 const SEQUENCE_END: u8 = 2;

@@ -95,7 +95,7 @@ fn ends_word(src: &[u8], n: usize) -> bool
     !is_continuation(byte_at(src, n)) && src[n - 1] != BLANK
 }
 
-// How many equal letters the source and the value begin with, up to the end of a word.
+// How many equal letters the source and the value begin with, up to the end of a word: a few steps back, which a loop says in a line.
 fn words(src: &[u8], value: &[u8]) -> usize
     ensures { Letters.Letters src.now value.now result }
 {

@@ -24,7 +24,6 @@ use Rattle.utf8.specs.Ascii.{newline}
 use Rattle.measure.specs.Plain.{is_fold, Reach, unmatched, reaches, past_equal, past_run, begins_with, takes_run, plain_reach, measured_or, plain_measure}
 use Rattle.measure.proofs.Places.{onward, bytes_cons, run_split, run_goes_on, run_stops}
 use Rattle.measure.specs.declared.run.Run.{Run}
-use Rattle.letters.proofs.Chunks.{part_is}
 use Rattle.measure.proofs.Read.{char_read, codes_end, has_byte}
 use Rattle.letters.specs.Letters.{WordByte, LetterByte, Letters}
 use Rattle.letters.proofs.Words.{Dark, dark, above_blank, letter_at, solid_at, word_solid, letter_here, fits, rest_of}
@@ -183,11 +182,7 @@ unfolding plain_reach plain_measure
 match_at-end {rest} {value} {at} {end} {known} {v} r h =
     ap (measured_or (length value)) (sym (ap (λ (cs : List ℕ). reach_by at end (plain_reach cs (codes (drop at rest)))) (codes_end value v h)) ∙ r.same)
 
--- the run m that was read of the part from a place on
-pub run_read : (s : List ℕ) (at : ℕ) {m : Run} → m ≡ run_of (codes (take (length s - at) (drop at s))) → m ≡ run_of (codes (drop at s))
-run_read s at e = e ∙ ap (λ (l : List ℕ). run_of (codes l)) (part_is s at)
-
--- it lies within the text
+-- the run m that was read lies within the text
 pub run_fits : {s : List ℕ} {at : ℕ} {m : Run} → Utf8 s → Boundary s at → m ≡ run_of (codes (drop at s)) → at + m.len ≤ length s
 unfolding run_of
 run_fits {s} {at} u b e = rw e (onward u b (white_space_run (codes (drop at s))) (after_run (codes (drop at s))) (run_split (codes (drop at s)))).boundary.within

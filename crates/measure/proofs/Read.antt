@@ -4,11 +4,10 @@ use Rattle.std.specs.Option.{option_eq}
 use Rattle.std.specs.List.{HoldsAt}
 use Rattle.std.proofs.Common.{Bor, sym, ◌∙◌, ap, subst, arith, lt-ltb, le-ltb, length-take, length-drop, drop_of_length-le, get_or-take, get_or-drop}
 use Rattle.std.proofs.Math.Decide.{dec_lt}
-use Rattle.letters.proofs.Chunks.{part_is}
 use Rattle.utf8.specs.Utf8.{Utf8}
 use Rattle.utf8.specs.Characters.{codes, chars_after, first_char, some_char}
 use Rattle.utf8.specs.Boundary.{Boundary}
-use Rattle.utf8.proofs.Utf8Laws.{CharAt, char_at, boundary_splits}
+use Rattle.utf8.proofs.Utf8Laws.{CharAt, char_at}
 use Rattle.utf8.proofs.SomeChar.{some_is, some_has_bytes, none_has_no_bytes}
 use Rattle.utf8.specs.declared.utf8.Char.{Char}
 
@@ -55,11 +54,6 @@ pub got_byte : (s : List ℕ) (i : ℕ) (r : Option (Bor ℕ)) (q : Bor ℕ) →
 unfolding has_byte
 got_byte s i None q g = rw (le-ltb i (length s) g)
 got_byte s i (Some x) q g = rw (lt-ltb i (length s) g.0, ← g.1 0)
-
--- ---- the part from a boundary on
-
-pub part_utf8 : {s : List ℕ} {i : ℕ} → Utf8 s → Boundary s i → Utf8 (take (length s - i) (drop i s))
-part_utf8 {s} {i} u b = rw (part_is s i) (boundary_splits u b).back
 
 -- ---- the part of n bytes from a place on
 

@@ -16,6 +16,8 @@ pub mod Scalar
 -- Statements: theorems and laws that a caller may use, and worked cases. Proved; nothing here is to be believed.
 -- what "measured" says, without the measures
 pub mod Measured
+-- a scalar by any number for its style
+pub mod Styles
 -- worked cases, by computation
 pub mod Examples
 -- For speed only: how fast paths are told. Nothing of 01 rests on them.

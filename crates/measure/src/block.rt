@@ -18,7 +18,7 @@ struct Line {
     len: usize,
 }
 
-// The line that a text begins with. Letters are passed over at once.
+// The line that a text begins with. Letters are passed over at once, so the loop goes by what it reads.
 fn first_line(tail: Utf8Bytes<'_>) -> Line
     ensures { result ≡ line_of (codes tail.entry.bytes.now) }
 {
@@ -44,7 +44,8 @@ fn first_line(tail: Utf8Bytes<'_>) -> Line
 }
 
 // The length in bytes of a block scalar whose first content character stands at the start of `rest`, at column `column`: it goes
-// on over lines that are blank or indented at least so far, and ends with the last one that is not blank.
+// on over lines that are blank or indented at least so far, and ends with the last one that is not blank. The loop goes line by line, each as
+// long as it is read to be.
 pub fn block_scalar_len(rest: Utf8Bytes<'_>, column: usize) -> usize
     ensures { result ≡ block_len rest.entry.bytes.now column }
 {

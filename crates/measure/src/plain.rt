@@ -22,7 +22,8 @@ fn is_fold(code: u32) -> bool
 //
 // `at` and `v` are how far the rest and the value are matched. The first unequal byte ends the whole measure: its break leaves both loops
 // with the value's length. `known` is where the white space that was last looked at ends: no newline stands before it, so it is not looked
-// at again. After an equal character come mostly letters, which are passed over at once.
+// at again. After an equal character come mostly letters, which are passed over at once. The two loops and the labelled break are a rule of the
+// project (F6).
 pub fn plain_scalar_len(rest: Utf8Bytes<'_>, value: Utf8Bytes<'_>) -> Measure
     ensures { result ≡ plain_measure rest.entry.bytes.now value.entry.bytes.now }
 {

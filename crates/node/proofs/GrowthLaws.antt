@@ -3,8 +3,7 @@
 use mathlib.Core.Path.{◌≡◌, refl, sym, ap, subst, ◌∙◌}
 use mathlib.Core.Bool.{Bool, true, false, ◌&&◌, not, cond}
 use mathlib.Core.List.{List, [], ◌∷◌, ◌++◌, append_assoc, append-nil}
-use Rattle.std.specs.Prelude.{Option, Result, Ok, Err}
-use Rattle.std.proofs.Math.Option as maybe
+use Rattle.std.specs.Prelude.{Option, Result, Ok, Err, None, Some}
 use Prim.Native.Nat.{ℕ, zero, suc, ◌+◌, ◌%◌, ◌<◌, ◌≤◌}
 use native.Mathlib.Decide.{dec_lt}
 use native.Mathlib.Omega.{arith}
@@ -24,7 +23,7 @@ use Rattle.event.specs.declared.read.Event.{Event}
 use Rattle.event.specs.declared.read.Event.TheVariants.{SequenceStart, SequenceEnd, MappingStart, MappingEnd, Scalar, Alias}
 use Rattle.event.specs.declared.tag.YamlTag.{YamlTag}
 use Rattle.records.specs.Record.{with_list, alias_node}
-use Rattle.spans.specs.Scalar.{ScalarAt, list_at, suffix_of, tag_info, resolved_by, scalar_over, scalar_node, mark, scalar_given, event_scalar, event_node}
+use Rattle.spans.specs.Scalar.{ScalarAt, list_at, suffix_of, tag_info, resolved_by, scalar_over, scalar_node, scalar_given, event_scalar, event_node}
 use Rattle.spans.specs.Collection.{with_child, awaits_value, closes, members, collection_over, collection_node}
 use Rattle.parser.specs.Machine.{State, empty, Next, go, stop, Outcome, built, refused, root_done, before_root, within_depth, within_room, completed, on_start, ended, on_end, on_alias, keeping, scalar_kept, on_scalar, on_event, next_place, ending, run, run_all}
 use Rattle.records.specs.Layout.{record_room, piece_room}
@@ -164,11 +163,11 @@ leaf-added (growing fs) st x ps k d t s =
 leaf-added (grown y others) st x ps k d t s = absurd (true_not_false (sym (root_is_done st y others k) ∙ d))
 
 leaf-kept :
-    (g : Progress) (st n : State) (room : ℕ) (x : Node) (l : maybe.Option (List Piece)) → Kept g st.opens st.nodes → root_done st ≡ false → Tree x nil → HasShape scalar x →
+    (g : Progress) (st n : State) (room : ℕ) (x : Node) (l : Option (List Piece)) → Kept g st.opens st.nodes → root_done st ≡ false → Tree x nil → HasShape scalar x →
     keeping room x l st ≡ go n → Advance leaf g st n
 unfolding keeping
-leaf-kept g st n room x maybe.none k d t s e = reached leaf g st (completed x st) n (leaf-added g st x st.pieces k d t s) e
-leaf-kept g st n room x (maybe.some ps) k d t s e =
+leaf-kept g st n room x None k d t s e = reached leaf g st (completed x st) n (leaf-added g st x st.pieces k d t s) e
+leaf-kept g st n room x (Some ps) k d t s e =
     let y = with_list x (length st.pieces) (length ps) in
     let u : Tree y nil = record { kind = t.kind; count = t.count; scalar = t.scalar; array = t.array; hash = t.hash } in
     let a = completed y (record { nodes = st.nodes; opens = st.opens; pieces = st.pieces ++ ps }) in
@@ -334,7 +333,7 @@ module _ (text events : List ℕ) (room piece_room : ℕ) where
   step_kept (Ok (Scalar index column style empty_span tag value m)) g st n k e =
       let a = cond_goes (root_done st) 5 _ n e in
       let b = cond_goes (leb room (length st.nodes)) 7 _ n a.1 in
-      scalar-kept text events piece_room (event_scalar text events (byte_offset text index) (awaits_value st.opens) (scalar_given (mark index column style empty_span) tag value)) tag g st n k a.0 b.1
+      scalar-kept text events piece_room (event_scalar text events (byte_offset text index) (awaits_value st.opens) (scalar_given (record { index = index; column = column; style = style; empty = empty_span }) tag value)) tag g st n k a.0 b.1
   step_kept (Ok (Alias index m)) g st n k e =
       let a = cond_goes (root_done st) 5 _ n e in
       let b = cond_goes (leb room (length st.nodes)) 7 _ n a.1 in

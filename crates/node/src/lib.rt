@@ -3,7 +3,7 @@
 // A node is a record's number. Every call reads any buffer, built here or not, and asks nothing of its caller.
 //
 // Buffer and number are two parameters and no handle: answers are numbers, as in the C interface, so a handle of both would be made anew for
-// each of them, at every step from one record to the next.
+// each of them, at every step from one record to the next. The event bytes and a key are two more, which only the search needs.
 #![tactic(auto)]
 
 pub mod child;

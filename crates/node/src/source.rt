@@ -14,7 +14,7 @@ pub fn source_info(records: &[u32], n: usize) -> Option<Extent>
 }
 
 // The tag's span in the text, and its suffix's place and length in the event bytes.
-#[tactic(auto, unfolding(crate::specs::Source::tag_of))]
+#[tactic(auto, unfolding(crate::specs::Source::tag_of, crate::specs::Source::is_absent))]
 pub fn tag(records: &[u32], n: usize) -> Option<TagInfo>
     ensures { result ≡ tag_of records.now n }
 {

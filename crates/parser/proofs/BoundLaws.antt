@@ -1,13 +1,11 @@
 -- What a call comes to is in bounds: the nodes and the place by the number of event bytes, since each node has an event and each event that
 -- leads on takes at least a byte; the pieces by their room; the number by the table's last. Of the events it is asked that they are bytes.
-use Rattle.std.specs.Prelude.{◌≡◌, Bool, cond, ltb, leb, Result, Ok, Err, Option, None}
+use Rattle.std.specs.Prelude.{◌≡◌, Bool, cond, ltb, leb, Result, Ok, Err, Option, None, Some}
 use Rattle.std.proofs.Math.Path.{refl}
 use Rattle.std.proofs.Common.{sym, ap, ◌∙◌, ltb-false}
 use Prim.Native.Nat.{ℕ, zero, suc, ◌+◌, ◌≤◌, ◌<◌}
 use Rattle.std.proofs.Math.Bool.{true, false}
 use mathlib.Core.List.{List, [], ◌∷◌, ◌++◌}
-use Rattle.std.proofs.Math.Option as maybe
-use Rattle.std.proofs.Math.Option.{none, some}
 use native.Mathlib.Omega.{arith}
 use Rattle.std.proofs.Math.ListN.{length, length-append}
 use Rattle.provenance.specs.Reading.{Piece}
@@ -21,13 +19,12 @@ use Rattle.event.specs.declared.read.Event.TheVariants.{SequenceStart, SequenceE
 use Rattle.text.specs.Admission.{admission, admission_of_both}
 use Rattle.text.specs.declared.admission.TextError.{TextError}
 use Rattle.text.specs.declared.admission.TextError.TheVariants.{TooLong, NotUtf8}
-use Rattle.measure.specs.Scalar.{folded}
+use Rattle.style.specs.Style.{folded}
 use Rattle.records.specs.Record.{with_list}
-use Rattle.spans.specs.Scalar.{ScalarAt}
+use Rattle.spans.specs.Scalar.{Mark, ScalarAt, scalar_at}
 use Rattle.spans.specs.Collection.{closes}
 use Rattle.parser.specs.Machine.{State, empty, Next, go, stop, Outcome, built, refused, depth_limit, root_done, before_root, within_depth, within_room}
 use Rattle.parser.specs.Machine.{completed, on_start, ended, on_end, on_alias, keeping, scalar_kept, on_scalar}
-use Rattle.spans.specs.Scalar.{scalar_at}
 use Rattle.parser.specs.Machine.{on_event, next_place, ending, follow, run, run_all}
 use Rattle.parser.proofs.RunLaws.{onward, stop_not_go}
 use Rattle.parser.specs.Bounds.{last_number, Bounded}
@@ -35,7 +32,6 @@ use Rattle.records.specs.Layout.{record_room, piece_room, piece_limit}
 use Rattle.parser.specs.Call.{admitted, building, one_scalar, scalar_call}
 use Rattle.records.specs.declared.record.Node.{Node}
 use Rattle.spans.specs.declared.open.Open.{Open}
-use Rattle.spans.specs.Scalar.{Mark}
 
 -- ---- a step
 
@@ -93,10 +89,10 @@ module _ (text events : List ℕ) (room r k : ℕ) where
       let fit = ltb-false r (length st.pieces + length ps) e in
       completes k r _ (with_pieces ps st) (h.0, simp length-append (omega arith))
 
-  keep_stepped : (x : Node) (l : maybe.Option (List Piece)) (st : State) → Holding k r st → Stepped (k + 1) r (keeping r x l st)
+  keep_stepped : (x : Node) (l : Option (List Piece)) (st : State) → Holding k r st → Stepped (k + 1) r (keeping r x l st)
   unfolding keeping
-  keep_stepped x none st h = completes k r x st h
-  keep_stepped x (some ps) st h = kept_in_room x ps st (ltb r (length st.pieces + length ps)) refl h
+  keep_stepped x None st h = completes k r x st h
+  keep_stepped x (Some ps) st h = kept_in_room x ps st (ltb r (length st.pieces + length ps)) refl h
 
   scalar_stepped : (x : ScalarAt) (tag : Option YamlTag) (st : State) → Holding k r st → Stepped (k + 1) r (scalar_kept text events r x tag st)
   unfolding scalar_kept

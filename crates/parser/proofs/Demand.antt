@@ -1,12 +1,10 @@
 -- Demand 3 at the public calls: `scalar_demand3` of the call on one scalar, `build_demand3` of a document. A scalar's start is a boundary
 -- of its text, so the pieces that the machine keeps are those of the walk from document 01's first byte; later events only add to them.
-use mathlib.Core.Path.{◌≡◌, refl, sym, ap, ◌∙◌, subst}
+use mathlib.Core.Path.{◌≡◌, refl, sym, ap, ap₂, ◌∙◌, subst}
 use mathlib.Core.Bool.{Bool, true, false, cond}
 use mathlib.Core.Logic.{◌⊎◌, inl, inr}
 use mathlib.Core.List.{List, [], ◌∷◌, ◌++◌, append-nil, append_assoc}
-use mathlib.Core.Option as maybe
-use mathlib.Core.Option.{none, some}
-use Rattle.std.specs.Prelude.{Some, None, Option, Result, Ok, Err}
+use Rattle.std.specs.Prelude.{is_some, Some, None, Option, Result, Ok, Err}
 use Prim.Native.Nat.{ℕ, ◌+◌, ◌-◌, ◌*◌, ◌≤◌, ◌<◌}
 use native.Mathlib.Omega.{arith}
 use borrow.Author.Tests.{lt-ltb, le-ltb, lt-leb, le-leb, ltb-true, ltb-false, leb-false, ne_eqb}
@@ -22,9 +20,11 @@ use Rattle.text.specs.declared.admission.TextError.{TextError}
 use Rattle.text.specs.declared.admission.TextError.TheVariants.{TooLong, NotUtf8}
 use Rattle.utf8.specs.Boundary.{Boundary}
 use Rattle.utf8.proofs.Utf8Laws.{utf8_complete}
+use Rattle.style.specs.Style.{plain, folded, style_number, style_of}
+use Rattle.style.specs.StyleLaws.{known_back}
 use Rattle.schema.specs.Tag.{resolve_scalar}
 use Rattle.schema.specs.declared.plain.Resolved.{Resolved}
-use Rattle.measure.specs.Scalar.{plain, folded, scalar_measure}
+use Rattle.measure.specs.Scalar.{scalar_measure}
 use Rattle.measure.specs.Measured.{SaysMeasured}
 use Rattle.measure.proofs.MeasuredLaws.{scalar_says}
 use Rattle.measure.specs.declared.length.Measure.{Measure}
@@ -46,13 +46,13 @@ use Rattle.provenance.specs.Reading.{Reading, Piece, pieces_of}
 use Rattle.provenance.specs.Start.{list_from}
 use Rattle.provenance.specs.Layout.{flat, laid_by, piece_numbers, walked_number, answer_of, left_of, laid_pieces}
 use Rattle.provenance.specs.Demand.{Demand3}
-use Rattle.provenance.specs.Alike.{pieces_end, is_some}
+use Rattle.provenance.specs.Alike.{pieces_end}
 use Rattle.provenance.proofs.DemandLaws.{listed_only, listed_if, demand3}
 use Rattle.provenance.specs.declared.step.Step.{Step}
 use Rattle.provenance.specs.declared.walk.Walked.{Walked}
 use Rattle.provenance.specs.declared.walk.Walked.TheVariants.{Listed, NoRoom, NoList}
 use Rattle.records.specs.Record.{absent, extent, no_tag, no_list, piece_list, with_list}
-use Rattle.spans.specs.Scalar.{mark, start_at, scalar_at, walk_first, suffix_of, tag_info, resolved_by, scalar_over, scalar_node, event_node}
+use Rattle.spans.specs.Scalar.{Mark, mark, start_at, scalar_at, walk_first, suffix_of, tag_info, resolved_by, scalar_over, scalar_node, event_node}
 use Rattle.spans.specs.Collection.{awaits_value, closes}
 use Rattle.parser.specs.Machine.{State, empty, Next, go, stop, Outcome, built, refused, depth_limit, root_done, before_root, within_depth, within_room, completed, on_start, ended, on_end, on_alias, keeping}
 use Rattle.parser.specs.Machine.{scalar_kept, on_scalar, on_event, follow, ending, run, run_all}
@@ -62,7 +62,6 @@ use Rattle.records.specs.Layout.{record_room, piece_room}
 use Rattle.parser.specs.Call as call
 use Rattle.parser.specs.Call.{record_of, measured_after, admitted, building, one_scalar, scalar_measured, scalar_call}
 use Rattle.parser.specs.Demand.{resolved_as, scalar_of, EntrySays, TagSays, walked_by, read_pieces, list_in, number_of, walked_in, ScalarDemand3, ScalarRecord, ScalarFlag, has_list, MeasuredPlain, Consecutive, ScalarListed, ListsBuilt, NoRoomAt, BuildDemand3}
-use Rattle.spans.specs.Scalar.{Mark}
 use Rattle.records.specs.declared.record.Extent.{Extent}
 use Rattle.records.specs.declared.record.TagInfo.{TagInfo}
 use Rattle.records.specs.declared.record.Node.{Node}
@@ -76,7 +75,7 @@ use Rattle.parser.proofs.Growths.{gate, past_root, past_room, Grown, run_grown}
 -- ---- the walk of a scalar starts where document 01 says
 
 module _ (text : List ℕ) (sound : AdmittedText text) (awaited : Bool) (m : Mark) (value : List ℕ) where
-  abbrev found : maybe.Option (List Piece)
+  abbrev found : Option (List Piece)
   found = list_from (rules_of m.style m.column) text (walk_first text awaited m value) value
 
   pub walk_demand3 : (most : ℕ)
@@ -135,7 +134,7 @@ none_found b l e = ap (λ (n : ℕ). read_pieces n (drop (4 * l.first) b)) e
 -- ---- what is kept of a scalar whose walk gives the list o, where `used` pieces are kept and at most `most` are let in
 
 -- of the record and the pieces that are added
-record Keeps (most : ℕ) (x : Node) (o : maybe.Option (List Piece)) (st : State) (st' : State) : Type 0 where
+record Keeps (most : ℕ) (x : Node) (o : Option (List Piece)) (st : State) (st' : State) : Type 0 where
   node : Node
   nodes : st'.nodes ≡ st.nodes ++ (node ∷ [])
   same : with_list node absent 0 ≡ with_list x absent 0
@@ -144,7 +143,7 @@ record Keeps (most : ℕ) (x : Node) (o : maybe.Option (List Piece)) (st : State
   finds : (size : ℕ) (rest : List Piece) → list_in (laid_pieces size ((st.pieces ++ left_of (most - length st.pieces) o) ++ rest)) node.list ≡ left_of (most - length st.pieces) o
 
 module _ (most : ℕ) (small : most < absent) (x : Node) (un : x.list ≡ no_list) (st : State) where
-  keeps_none : Keeps most x none st (completed x st)
+  keeps_none : Keeps most x None st (completed x st)
   unfolding completed answer_of left_of
   keeps_none =
       record {
@@ -157,7 +156,7 @@ module _ (most : ℕ) (small : most < absent) (x : Node) (un : x.list ≡ no_lis
       }
 
   keeps_some : (ps : List Piece) → length st.pieces + length ps ≤ most
-      → Keeps most x (some ps) st (completed (with_list x (length st.pieces) (length ps)) (record { nodes = st.nodes; opens = st.opens; pieces = st.pieces ++ ps }))
+      → Keeps most x (Some ps) st (completed (with_list x (length st.pieces) (length ps)) (record { nodes = st.nodes; opens = st.opens; pieces = st.pieces ++ ps }))
   unfolding completed answer_of left_of
   keeps_some ps fits =
       let le : leb (length ps) (most - length st.pieces) ≡ true = le-leb (length ps) (most - length st.pieces) (omega arith) in
@@ -171,57 +170,57 @@ module _ (most : ℕ) (small : most < absent) (x : Node) (un : x.list ≡ no_lis
         finds = λ size rest. rw le (list_found size st.pieces ps rest);
       }
 
-  keeps : (o : maybe.Option (List Piece)) (st' : State) → keeping most x o st ≡ go st' → Keeps most x o st st'
+  keeps : (o : Option (List Piece)) (st' : State) → keeping most x o st ≡ go st' → Keeps most x o st st'
   unfolding keeping
-  keeps none st' e = subst (λ (s : State). Keeps most x none st s) (go_is _ st' e) keeps_none
-  keeps (some ps) st' e =
+  keeps None st' e = subst (λ (s : State). Keeps most x None st s) (go_is _ st' e) keeps_none
+  keeps (Some ps) st' e =
       let w = gate (ltb most (length st.pieces + length ps)) 8 _ st' e in
-      subst (λ (s : State). Keeps most x (some ps) st s) (go_is _ st' w.1) (keeps_some ps (ltb-false most (length st.pieces + length ps) w.0))
+      subst (λ (s : State). Keeps most x (Some ps) st s) (go_is _ st' w.1) (keeps_some ps (ltb-false most (length st.pieces + length ps) w.0))
 
 -- ---- the call on one scalar
 
 -- what a call comes to whose scalar has the record x, without a list, and whose walk gives the list o
-abbrev kept_alone : ℕ → Node → maybe.Option (List Piece) → Outcome
+abbrev kept_alone : ℕ → Node → Option (List Piece) → Outcome
 kept_alone size x o = follow (keeping (piece_room size) x o empty) (λ (st : State). built st.nodes st.pieces) 0
 
-record KeptAlone (size : ℕ) (o : maybe.Option (List Piece)) (out : Outcome) : Type 0 where
+record KeptAlone (size : ℕ) (o : Option (List Piece)) (out : Outcome) : Type 0 where
   number : number_of out ≡ walked_number (walked_in out)
   answer : walked_in out ≡ answer_of (piece_room size) o
   finds : list_in (call.pieces_after size out) (record_of out).list ≡ left_of (piece_room size) o
   all_numbers : call.pieces_after size out ≡ laid_pieces size (left_of (piece_room size) o)
 
 module _ (size : ℕ) (x : Node) (un : x.list ≡ no_list) where
-  alone_no_room : (ps : List Piece) → piece_room size < length ps → KeptAlone size (some ps) (refused (walked_number NoRoom) 0)
+  alone_no_room : (ps : List Piece) → piece_room size < length ps → KeptAlone size (Some ps) (refused (walked_number NoRoom) 0)
   unfolding answer_of left_of read_pieces
   alone_no_room ps lt =
       let no_fit : leb (length ps) (piece_room size) ≡ false = lt-leb _ _ lt in
       record { number = refl; answer = rw no_fit refl; finds = rw no_fit refl; all_numbers = rw no_fit (sym (filled_none size)) }
 
-  alone_listed : (ps : List Piece) → length ps ≤ piece_room size → KeptAlone size (some ps) (built (with_list x 0 (length ps) ∷ []) ps)
+  alone_listed : (ps : List Piece) → length ps ≤ piece_room size → KeptAlone size (Some ps) (built (with_list x 0 (length ps) ∷ []) ps)
   unfolding answer_of left_of
   alone_listed ps le =
       let fit : leb (length ps) (piece_room size) ≡ true = le-leb _ _ le in
       let same : ([] ++ ps) ++ [] ≡ ps = append-nil ps in
       record { number = refl; answer = rw fit refl; finds = rw fit (rw same at (list_found size [] ps [])); all_numbers = rw fit refl }
 
-  alone : (o : maybe.Option (List Piece)) → KeptAlone size o (kept_alone size x o)
+  alone : (o : Option (List Piece)) → KeptAlone size o (kept_alone size x o)
   unfolding keeping completed answer_of left_of
-  alone none =
+  alone None =
       record {
         number = ap (λ (l : PieceList). walked_number (walked_by l)) (sym un);
         answer = ap walked_by un;
         finds = none_found _ x.list (ap (λ (l : PieceList). l.count) un);
         all_numbers = refl;
       }
-  alone (some ps) =
+  alone (Some ps) =
       by_order (piece_room size) (length ps)
       (λ lt. let e : ltb (piece_room size) (0 + length ps) ≡ true = lt-ltb (piece_room size) (0 + length ps) (omega arith) in rw e (alone_no_room ps lt))
       (λ le. let e : ltb (piece_room size) (0 + length ps) ≡ false = le-ltb (piece_room size) (0 + length ps) (omega arith) in rw e (alone_listed ps le))
 
 -- a record has a list just if its walk gave one, which its pieces are
-record Answered (l : PieceList) (most : ℕ) (o : maybe.Option (List Piece)) : Type 0 where
+record Answered (l : PieceList) (most : ℕ) (o : Option (List Piece)) : Type 0 where
   list : has_list l ≡ is_some o
-  found : has_list l ≡ true → o ≡ some (left_of most o)
+  found : has_list l ≡ true → o ≡ Some (left_of most o)
 
 -- what a walk answered, told apart
 abbrev told : Walked → ℕ
@@ -229,17 +228,17 @@ told NoList = 0
 told (Listed n) = 1
 told NoRoom = 2
 
-answered : (l : PieceList) (most : ℕ) (o : maybe.Option (List Piece)) → walked_by l ≡ answer_of most o → Answered l most o
+answered : (l : PieceList) (most : ℕ) (o : Option (List Piece)) → walked_by l ≡ answer_of most o → Answered l most o
 unfolding answer_of left_of
-answered l most none e = by (eqb l.first absent) refl e
+answered l most None e = by (eqb l.first absent) refl e
   where
-    by : (t : Bool) → eqb l.first absent ≡ t → cond t NoList (Listed l.count) ≡ NoList → Answered l most none
+    by : (t : Bool) → eqb l.first absent ≡ t → cond t NoList (Listed l.count) ≡ NoList → Answered l most None
     by true f e = record { list = rw f refl; found = λ h. absurd (clash (sym h ∙ rw f refl)) }
     by false f e = absurd (let z : ◌≡◌ {A = ℕ} 1 0 = ap told e in omega arith)
-answered l most (some ps) e = by (eqb l.first absent) refl (leb (length ps) most) refl e
+answered l most (Some ps) e = by (eqb l.first absent) refl (leb (length ps) most) refl e
   where
     by : (t : Bool) → eqb l.first absent ≡ t → (b : Bool) → leb (length ps) most ≡ b → cond t NoList (Listed l.count) ≡ cond b (Listed (length ps)) NoRoom
-        → Answered l most (some ps)
+        → Answered l most (Some ps)
     by true f true g e = absurd (let z : ◌≡◌ {A = ℕ} 0 1 = ap told e in omega arith)
     by true f false g e = absurd (let z : ◌≡◌ {A = ℕ} 0 2 = ap told e in omega arith)
     by false f true g e = record { list = rw f refl; found = λ h. rw g refl }
@@ -280,10 +279,10 @@ module _ (text : List ℕ) (sound : AdmittedText text) (m : Mark) (value : List 
             all_numbers = k.all_numbers ∙ ap (laid_pieces size) (sym k.finds);
           }
 
-  alone_same : (o : maybe.Option (List Piece)) (xs : List Node) (ps : List Piece) → kept_alone size alone_node o ≡ built xs ps → with_list (record_of (kept_alone size alone_node o)) absent 0 ≡ with_list alone_node absent 0
+  alone_same : (o : Option (List Piece)) (xs : List Node) (ps : List Piece) → kept_alone size alone_node o ≡ built xs ps → with_list (record_of (kept_alone size alone_node o)) absent 0 ≡ with_list alone_node absent 0
   unfolding keeping completed
-  alone_same none xs ps e = refl
-  alone_same (some qs) xs ps e = by (ltb (piece_room size) (0 + length qs)) e
+  alone_same None xs ps e = refl
+  alone_same (Some qs) xs ps e = by (ltb (piece_room size) (0 + length qs)) e
     where
       by : (t : Bool) → follow (cond t (stop 8) (go (completed (with_list alone_node 0 (length qs)) (record { nodes = []; opens = []; pieces = qs })))) (λ (st : State). built st.nodes st.pieces) 0 ≡ built xs ps
           → with_list (record_of (follow (cond t (stop 8) (go (completed (with_list alone_node 0 (length qs)) (record { nodes = []; opens = []; pieces = qs })))) (λ (st : State). built st.nodes st.pieces) 0)) absent 0 ≡ with_list alone_node absent 0
@@ -411,12 +410,19 @@ tag_place i = start_tag_place i + 6
 abbrev value_place : ℕ → Tag → ℕ
 value_place i tag = tag_place i + length (encode_tag tag)
 
+-- what a reader makes of a scalar's mark, its style by its number, is that mark
+abbrev as_read : Mark → Mark
+as_read m = mark m.index m.column (style_number (style_of m.style)) m.empty
+
+mark_read : (events : List ℕ) (i : ℕ) (m : Mark) (tag : Tag) (value : List ℕ) → StandsAt events i (scalar_of m tag value) → as_read m ≡ m
+mark_read events i m tag value p = ap (λ (y : ℕ). mark m.index m.column y m.empty) (known_back m.style p.sound.rest.style_known)
+
 -- the value that a reader finds in the event bytes is the event's
 value_found : (events : List ℕ) (i : ℕ) (m : Mark) (tag : Tag) (value : List ℕ) → StandsAt events i (scalar_of m tag value)
     → part_of events (part (value_place i tag) (length value)) ≡ value
 unfolding placed said
 value_found events i m tag value p =
-    let e : ◌≡◌ {A = Option YamlEvent} (Some (scalar_of m (said_tag events (placed_tag (tag_place i) tag)) (part_of events (part (value_place i tag) (length value)))))
+    let e : ◌≡◌ {A = Option YamlEvent} (Some (scalar_of (as_read m) (said_tag events (placed_tag (tag_place i) tag)) (part_of events (part (value_place i tag) (length value)))))
     (Some (scalar_of m tag value)) = parts_are events i (scalar_of m tag value) p in
     cc
 
@@ -424,7 +430,7 @@ tag_found : (events : List ℕ) (i : ℕ) (m : Mark) (tag : Tag) (value : List �
     → said_tag events (placed_tag (tag_place i) tag) ≡ tag
 unfolding placed said
 tag_found events i m tag value p =
-    let e : ◌≡◌ {A = Option YamlEvent} (Some (scalar_of m (said_tag events (placed_tag (tag_place i) tag)) (part_of events (part (value_place i tag) (length value)))))
+    let e : ◌≡◌ {A = Option YamlEvent} (Some (scalar_of (as_read m) (said_tag events (placed_tag (tag_place i) tag)) (part_of events (part (value_place i tag) (length value)))))
     (Some (scalar_of m tag value)) = parts_are events i (scalar_of m tag value) p in
     cc
 
@@ -465,14 +471,14 @@ module _ (text events : List ℕ) (sound : AdmittedText text) (room most : ℕ) 
   unfolding scalar_over
   no_list_yet = refl
 
-  abbrev found_here : maybe.Option (List Piece)
+  abbrev found_here : Option (List Piece)
   found_here = found text sound awaited m value
 
-  kept_is : scalar_kept text events most (scalar_at text awaited m (part_of events (part value_at (length value))) value_at) tag_at st ≡ keeping most node_here found_here st
+  kept_is : scalar_kept text events most (scalar_at text awaited (as_read m) (part_of events (part value_at (length value))) value_at) tag_at st ≡ keeping most node_here found_here st
   unfolding scalar_kept event_node
   kept_is =
-      ap (λ (v : List ℕ). scalar_kept text events most (scalar_at text awaited m v value_at) tag_at st) (value_found events i m tag value stands)
-      ∙ ap (λ (o : maybe.Option (List Piece)). keeping most node_here o st) (pieces_are text sound.utf8 awaited m value value_at)
+      ap₂ (λ (n : Mark) (v : List ℕ). scalar_kept text events most (scalar_at text awaited n v value_at) tag_at st) (mark_read events i m tag value stands) (value_found events i m tag value stands)
+      ∙ ap (λ (o : Option (List Piece)). keeping most node_here o st) (pieces_are text sound.utf8 awaited m value value_at)
 
   abbrev step_here : Next
   step_here = on_event text events room most (Ok (placed i (scalar_of m tag value))) st
@@ -508,16 +514,16 @@ module _ (text events : List ℕ) (sound : AdmittedText text) (room most : ℕ) 
       let a = gate_stop (root_done st) 5 8 _ (λ z. omega arith) e in
       let b = gate_stop (leb room (length st.nodes)) 7 8 _ (λ z. omega arith) a.1 in
       listed_only (rules_of m.style m.column) (style_fair m.style) text (walk_first text awaited m value) value
-      (λ none_here. absurd (no_list_goes_on (sym (ap (λ (o : maybe.Option (List Piece)). keeping most node_here o st) none_here) ∙ sym kept_is ∙ b.1)))
+      (λ none_here. absurd (no_list_goes_on (sym (ap (λ (o : Option (List Piece)). keeping most node_here o st) none_here) ∙ sym kept_is ∙ b.1)))
       (λ can ts reads is.
       let over : most < length st.pieces + length (pieces_of (walk_first text awaited m value) ts) =
-      no_fit (pieces_of (walk_first text awaited m value) ts) (sym (ap (λ (o : maybe.Option (List Piece)). keeping most node_here o st) is) ∙ sym kept_is ∙ b.1) in
+      no_fit (pieces_of (walk_first text awaited m value) ts) (sym (ap (λ (o : Option (List Piece)). keeping most node_here o st) is) ∙ sym kept_is ∙ b.1) in
       record { before_root_lem = a.0; record_room_is = leb-false room (length st.nodes) b.0; can_start = can; steps = ts; reading = reads; too_many = over })
     where
-      no_list_goes_on : keeping most node_here none st ≡ stop 8 → ⊥
+      no_list_goes_on : keeping most node_here None st ≡ stop 8 → ⊥
       no_list_goes_on f = stop_not_go 8 _ (sym f)
 
-      no_fit : (ps : List Piece) → keeping most node_here (some ps) st ≡ stop 8 → most < length st.pieces + length ps
+      no_fit : (ps : List Piece) → keeping most node_here (Some ps) st ≡ stop 8 → most < length st.pieces + length ps
       no_fit ps f = by (ltb most (length st.pieces + length ps)) refl f
         where
           by : (t : Bool) → ltb most (length st.pieces + length ps) ≡ t → cond t (stop 8) (go (completed (with_list node_here (length st.pieces) (length ps)) (record { nodes = st.nodes; opens = st.opens; pieces = st.pieces ++ ps }))) ≡ stop 8
@@ -528,11 +534,11 @@ module _ (text events : List ℕ) (sound : AdmittedText text) (room most : ℕ) 
   too_many_if : TooMany → step_here ≡ stop (walked_number NoRoom)
   unfolding placed on_scalar before_root within_room keeping
   too_many_if t =
-      let is : found_here ≡ some (pieces_of (walk_first text awaited m value) t.steps) =
+      let is : found_here ≡ Some (pieces_of (walk_first text awaited m value) t.steps) =
       listed_if (rules_of m.style m.column) (style_fair m.style) text (walk_first text awaited m value) value t.can_start t.steps t.reading in
       let r : leb room (length st.nodes) ≡ false = lt-leb room (length st.nodes) t.record_room_is in
       let over = lt-ltb most (length st.pieces + length (pieces_of (walk_first text awaited m value) t.steps)) t.too_many in
-      rw (t.before_root_lem, r) (kept_is ∙ ap (λ (o : maybe.Option (List Piece)). keeping most node_here o st) is ∙ rw over refl)
+      rw (t.before_root_lem, r) (kept_is ∙ ap (λ (o : Option (List Piece)). keeping most node_here o st) is ∙ rw over refl)
 
 -- only a scalar is refused by row 8
 other_number : (text events : List ℕ) (room most i : ℕ) (e : YamlEvent) (st : State) → on_event text events room most (Ok (placed i e)) st ≡ stop 8
@@ -565,7 +571,7 @@ module _ (text events : List ℕ) (size pieces_size : ℕ) where
         (found text sound (awaits_value here.opens) m value) here next → Grown most next (record { nodes = xs; opens = []; pieces = ps })
         → ScalarListed text events records_in most before m tag value xs (laid_pieces pieces_size ps)
     listed before m tag value here next to_here stands k g =
-        let o : maybe.Option (List Piece) = found text sound (awaits_value here.opens) m value in
+        let o : Option (List Piece) = found text sound (awaits_value here.opens) m value in
         let room : ℕ = most - length here.pieces in
         let left : List Piece = left_of room o in
         let i : ℕ = length (encode_events before) in

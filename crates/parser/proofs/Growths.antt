@@ -1,12 +1,10 @@
 -- What a step of the machine adds: nodes behind those there are, pieces behind those there are, and the lists of the new nodes take the new
 -- pieces one after the other. So what stands in the buffers stays where it is, up to the end of the run (`run_grown`).
-use Rattle.std.specs.Prelude.{Option, Result, Ok, Err}
+use Rattle.std.specs.Prelude.{Option, Result, Ok, Err, Some, None}
 use mathlib.Core.Path.{◌≡◌, refl, sym, ap, ◌∙◌, subst}
 use mathlib.Core.Bool.{Bool, true, false, cond}
 use mathlib.Core.Logic.{inl, inr}
 use mathlib.Core.List.{List, [], ◌∷◌, ◌++◌, append-nil, append_assoc}
-use mathlib.Core.Option as maybe
-use mathlib.Core.Option.{none, some}
 use Prim.Native.Nat.{ℕ, ◌+◌, ◌≤◌, ◌<◌}
 use native.Mathlib.Omega.{arith}
 use borrow.Author.Tests.{ltb-false}
@@ -121,10 +119,10 @@ grown_listed most x st ps small fits =
     }
 
 -- a scalar is complete, with the list that its walk gave
-pub grown_kept : (most : ℕ) (x : Node) (o : maybe.Option (List Piece)) (st st' : State) → most < absent → x.list ≡ no_list → keeping most x o st ≡ go st' → Grown most st st'
+pub grown_kept : (most : ℕ) (x : Node) (o : Option (List Piece)) (st st' : State) → most < absent → x.list ≡ no_list → keeping most x o st ≡ go st' → Grown most st st'
 unfolding keeping
-grown_kept most x none st st' small un e = subst (λ (s : State). Grown most st s) (go_is (completed x st) st' e) (grown_node most x st st un refl refl)
-grown_kept most x (some ps) st st' small un e =
+grown_kept most x None st st' small un e = subst (λ (s : State). Grown most st s) (go_is (completed x st) st' e) (grown_node most x st st un refl refl)
+grown_kept most x (Some ps) st st' small un e =
     let w = gate (ltb most (length st.pieces + length ps)) 8 _ st' e in
     let fits = ltb-false most (length st.pieces + length ps) w.0 in
     subst (λ (s : State). Grown most st s) (go_is _ st' w.1) (grown_listed most x st ps small fits)

@@ -72,18 +72,9 @@ first_head text events b p c new zb zp l =
     (record {
       st = empty;
       held = record {
-        size_is = refl;
-        pieces_size_is = refl;
-        nodes_are = refl;
-        opens_are = refl;
-        pieces_are = refl;
-        records_hold = zb ∙ sym (nodes_none (length b));
-        pieces_hold = zp ∙ sym (filled_none (length p));
-        records_fit = zero-le;
-        pieces_fit = zero-le;
-        pieces_few = l;
-        below = tt;
-        on_boundaries = tt;
+        records_held = record { size_is = refl; nodes_are = refl; records_hold = zb ∙ sym (nodes_none (length b)); records_fit = zero-le };
+        pieces_held = record { pieces_size_is = refl; pieces_are = refl; pieces_hold = zp ∙ sym (filled_none (length p)); pieces_fit = zero-le; pieces_few = l };
+        opens_held = record { opens_are = refl; below = tt; on_boundaries = tt };
         cursor_stands = stands_start text;
       };
       same = let e : length events - 0 ≡ length events = omega arith in rw e;
@@ -101,7 +92,7 @@ moved_stop : (text : List ℕ) (size pieces_size k : ℕ) (n : Next) (e : Refusa
 moved_stop text size pieces_size k (go st) e d b p h = absurd h
 moved_stop text size pieces_size k (stop n) e d b p h = ap stop h
 
-module _ (text events : List ℕ) (size pieces_size : ℕ) (c : Builder) (b p : List ℕ) (i k : ℕ) (h : Head text events size pieces_size c b p i k) where
+module _ {text events : List ℕ} {size pieces_size : ℕ} {c : Builder} {b p : List ℕ} {i k : ℕ} (h : Head text events size pieces_size c b p i k) where
   pub ready : length events ≤ events_limit → i < length events → Ready text c b p
   ready l m = let f = h.few in let n = h.numbered in record { size = size; pieces_size = pieces_size; st = h.st; held = h.held; few = omega arith }
 

@@ -1,13 +1,11 @@
 -- Room for records (R7): every event takes at least seven bytes and completes at most one node. So with room for a record to each seven
 -- event bytes row 7 refuses nothing. Of the events it is asked that they are bytes.
-use Rattle.std.specs.Prelude.{◌≡◌, refl, Bool, cond, ◌⊎◌, ltb, leb, Result, Ok, Err, Option}
+use Rattle.std.specs.Prelude.{◌≡◌, refl, Bool, cond, ◌⊎◌, ltb, leb, Result, Ok, Err, Option, Some, None}
 use Rattle.std.proofs.Common.{ap, ◌∙◌, inl, inr}
 use Prim.{Unit}
 use Prim.Native.Nat.{ℕ, zero, suc, ◌+◌, ◌*◌, ◌/◌, ◌≤◌, ◌<◌}
 use Rattle.std.proofs.Math.Bool.{true, false}
 use mathlib.Core.List.{List, [], ◌∷◌}
-use Rattle.std.proofs.Math.Option as maybe
-use Rattle.std.proofs.Math.Option.{none, some}
 use native.Mathlib.Omega.{arith}
 use Rattle.std.proofs.lemmas.Bool.{lt-leb}
 use Rattle.std.proofs.Math.ListN.{length}
@@ -73,10 +71,10 @@ module _ (room : ℕ) (st : State) (free : length st.nodes < room) where
   end_passes text mapping index [] = λ e. omega arith
   end_passes text mapping index (o ∷ os) = pick_passes (closes mapping o) (ended text room index o os st) (stop 4) (within_room_lem _ tt) (λ e. omega arith)
 
-  keep_passes : (r : ℕ) (x : Node) (l : maybe.Option (List Piece)) → Passes (keeping r x l st)
+  keep_passes : (r : ℕ) (x : Node) (l : Option (List Piece)) → Passes (keeping r x l st)
   unfolding keeping
-  keep_passes r x none = tt
-  keep_passes r x (some ps) = pick_passes (ltb r (length st.pieces + length ps)) (stop 8) _ (λ e. omega arith) tt
+  keep_passes r x None = tt
+  keep_passes r x (Some ps) = pick_passes (ltb r (length st.pieces + length ps)) (stop 8) _ (λ e. omega arith) tt
 
   step_passes : (text events : List ℕ) (r : ℕ) (e : Result Event Malformed) → Passes (on_event text events room r e st)
   unfolding on_scalar scalar_kept on_alias

@@ -1,19 +1,17 @@
 -- What the code does to its stack and buffers is what the machine does to its state, on plain values.
-use mathlib.Core.Path.{◌≡◌, refl, sym, ap, ap₂, ◌∙◌}
-use mathlib.Core.Bool.{Bool, true, false}
+use mathlib.Core.Path.{◌≡◌, refl, sym, ap, ◌∙◌}
+use mathlib.Core.Bool.{Bool, true}
 use mathlib.Core.List.{List, [], ◌∷◌, ◌++◌}
-use mathlib.Core.Option as maybe
-use mathlib.Core.Option.{none, some}
 use Prim.Native.Nat.{ℕ, ◌+◌, ◌-◌, ◌*◌, ◌/◌, ◌≤◌, ◌<◌}
 use native.Mathlib.Omega.{arith}
-use borrow.Author.Tests.{lt-ltb, le-ltb, le-leb, lt-leb, leb-false}
+use borrow.Author.Tests.{lt-ltb, le-ltb, le-leb, lt-leb}
 use lib.Dec.{leb}
-use lib.ListN.{length, take, drop, replicate, length-append}
+use lib.ListN.{length, take, replicate, length-append}
 use Rattle.utf8.specs.Utf8.{Utf8}
 use Rattle.utf8.specs.Boundary.{Boundary}
 use Rattle.utf8.proofs.Utf8Laws.{boundary_start}
 use Rattle.text.specs.Offset.{byte_offset, cursor_at, Stands}
-use Rattle.text.proofs.OffsetLaws.{cursor_stands, offset_boundary}
+use Rattle.text.proofs.OffsetLaws.{cursor_stands}
 use Rattle.text.specs.declared.offset.Cursor.{Cursor}
 use Rattle.provenance.specs.Reading.{Piece}
 use Rattle.provenance.specs.Layout.{room, laid_pieces, answer_of, buffer_of}
@@ -25,42 +23,51 @@ use Rattle.spans.specs.Scalar.{suffix_of}
 use Rattle.spans.specs.Collection.{with_child, closes, collection_node}
 use Rattle.parser.specs.Machine.{State, Next, go, stop, depth_limit, root_done, before_root, within_depth, within_room, completed, on_start, ended, on_end, keeping}
 use Rattle.records.specs.Layout.{stored, record_room, piece_limit}
-use Rattle.event.specs.Read.{events_limit}
 use Rattle.parser.specs.Opens.{Below, OnBoundaries}
-use Rattle.parser.specs.Held.{is_root_done, Held, Pushable, Moved, Counted}
+use Rattle.parser.specs.Held.{gate, is_root_done, Held, Moved, Counted}
 use Rattle.records.specs.declared.record.Node.{Node}
 use Rattle.spans.specs.declared.open.Open.{Open}
 use Rattle.parser.specs.declared.on_event.Builder.{Builder}
-use Rattle.std.specs.Prelude.{Option, Ok}
+use Rattle.std.specs.Prelude.{Option, Result, Ok, Err, IsErrAnd, Some, None}
 use Rattle.records.specs.LayoutLaws.{nodes_more}
-use Rattle.parser.proofs.Pieces.{Walks, walks_of, filled_fits, lent_length, lent_zero, back_with, back_zero, back_length}
+use Rattle.parser.proofs.Pieces.{Walks, walks_of, back_zero, back_with}
 use Rattle.parser.proofs.Opens.{below_more, boundaries_more}
-use Rattle.parser.proofs.Starts.{cursor_offset}
+use Rattle.parser.specs.declared.answer.Refusal.{Refusal}
+use Rattle.parser.specs.declared.answer.Refusal.TheVariants.{AfterRoot, NoRecordRoom}
+use Rattle.parser.proofs.Gates.{gate_shut, gate_open, handed_on}
+use Rattle.parser.proofs.Starts.{cursor_offset, cursor_boundary}
 
 abbrev pub builder : ℕ → ℕ → Cursor → List Open → Builder
 builder nodes used cursor stack = record { nodes = nodes; used = used; cursor = cursor; stack = stack }
 
--- one node more
-pub moved_on : (text : List ℕ) (size pieces_size : ℕ) (st : State) (c b' : Builder) (x : Node) (b p : List ℕ) → length st.nodes ≡ c.nodes
-    → Held text size pieces_size (completed x st) b' b p → Held text size pieces_size (completed x st) b' b p × (b'.nodes ≤ c.nodes + 1)
-unfolding completed
-moved_on text size pieces_size st c b' x b p e h =
-    (h, let n : length st.nodes + 1 ≡ b'.nodes = sym (length-append st.nodes (x ∷ [])) ∙ h.nodes_are in omega arith)
-
 module _ {text : List ℕ} {size pieces_size : ℕ} {st : State} {c : Builder} {b p : List ℕ} (h : Held text size pieces_size st c b p) where
-  -- ---- rows
+  -- ---- rows: where a gate was shut, and where it was open
 
   pub root_is : root_done st ≡ is_root_done c
   unfolding root_done
   root_is = rw (h.opens_are, h.nodes_are)
 
-  pub after_root : (n : Next) → is_root_done c ≡ true → before_root st n ≡ stop 5
+  pub root_refused : (n : Next) (x : Refusal) (r : Result (Unit {0}) Refusal) → gate (is_root_done c) AfterRoot ≡ Err x → IsErrAnd r (λ y. y ≡ x)
+      → (b' : Builder) (records' pieces' : List ℕ) → Moved text size pieces_size c.nodes (before_root st n) r b' records' pieces'
   unfolding before_root
-  after_root n e = rw (root_is, e)
+  root_refused n x r shut on b' records' pieces' =
+      let is = gate_shut _ _ _ shut in
+      rw (root_is, is.0, handed_on _ _ _ on is.1) refl
 
-  pub before_root_lem : (n : Next) → is_root_done c ≡ false → before_root st n ≡ n
+  pub past_root : (n : Next) (u : Unit {0}) → gate (is_root_done c) AfterRoot ≡ Ok u → before_root st n ≡ n
   unfolding before_root
-  before_root_lem n e = rw (root_is, e)
+  past_root n u e = rw (root_is, gate_open _ _ _ e)
+
+  pub room_refused : (n : Next) (x : Refusal) (r : Result (Unit {0}) Refusal) → gate (leb (length b / record_width) c.nodes) NoRecordRoom ≡ Err x → IsErrAnd r (λ y. y ≡ x)
+      → (b' : Builder) (records' pieces' : List ℕ) → Moved text size pieces_size c.nodes (within_room (record_room size) st n) r b' records' pieces'
+  unfolding within_room
+  room_refused n x r shut on b' records' pieces' =
+      let is = gate_shut _ _ _ shut in
+      rw (h.nodes_are, ← h.size_is, is.0, handed_on _ _ _ on is.1) refl
+
+  pub in_room : (n : Next) (u : Unit {0}) → gate (leb (length b / record_width) c.nodes) NoRecordRoom ≡ Ok u → within_room (record_room size) st n ≡ n
+  unfolding within_room
+  in_room n u e = rw (h.nodes_are, ← h.size_is, gate_open _ _ _ e)
 
   pub too_deep : (n : Next) → depth_limit ≤ length c.stack → within_depth st n ≡ stop 6
   unfolding within_depth
@@ -70,33 +77,10 @@ module _ {text : List ℕ} {size pieces_size : ℕ} {st : State} {c : Builder} {
   unfolding within_depth
   not_deep n l = rw (h.opens_are, lt-leb depth_limit (length c.stack) l)
 
-  pub no_room : (n : Next) → leb (length b / record_width) c.nodes ≡ true → within_room (record_room size) st n ≡ stop 7
-  unfolding within_room
-  no_room n e = rw (h.nodes_are, ← h.size_is, e)
-
-  pub in_room : (n : Next) → leb (length b / record_width) c.nodes ≡ false → within_room (record_room size) st n ≡ n
-  unfolding within_room
-  in_room n e = rw (h.nodes_are, ← h.size_is, e)
-
   -- ---- the cursor moves
 
   pub moved_cursor : (cur : Cursor) → Stands text cur.chars cur.offset → Held text size pieces_size st (builder c.nodes c.used cur c.stack) b p
-  moved_cursor cur on =
-      record {
-        size_is = h.size_is;
-        pieces_size_is = h.pieces_size_is;
-        nodes_are = h.nodes_are;
-        opens_are = h.opens_are;
-        pieces_are = h.pieces_are;
-        records_hold = h.records_hold;
-        pieces_hold = h.pieces_hold;
-        records_fit = h.records_fit;
-        pieces_fit = h.pieces_fit;
-        pieces_few = h.pieces_few;
-        below = h.below;
-        on_boundaries = h.on_boundaries;
-        cursor_stands = on;
-      }
+  moved_cursor cur on = record { records_held = h.records_held; pieces_held = h.pieces_held; opens_held = h.opens_held; cursor_stands = on }
 
   -- ---- a node is complete
 
@@ -105,50 +89,49 @@ module _ {text : List ℕ} {size pieces_size : ℕ} {st : State} {c : Builder} {
   unfolding completed
   pushed x b' l on lb eb =
       record {
-        size_is = lb ∙ h.size_is;
-        pieces_size_is = h.pieces_size_is;
-        nodes_are = length-append st.nodes (x ∷ []) ∙ ap (λ (n : ℕ). n + 1) h.nodes_are;
-        opens_are = ap (with_child x.extent.start) h.opens_are;
-        pieces_are = h.pieces_are;
-        records_hold = eb ∙ ap (λ (r : List ℕ). stored r c.nodes x) h.records_hold ∙ nodes_more size st.nodes c.nodes x (sym h.nodes_are) (omega arith);
-        pieces_hold = h.pieces_hold;
-        records_fit = omega arith;
-        pieces_fit = h.pieces_fit;
-        pieces_few = h.pieces_few;
-        below = below_more x.extent.start c.stack c.nodes h.below;
-        on_boundaries = boundaries_more text x.extent.start c.stack on h.on_boundaries;
+        records_held = record {
+          size_is = lb ∙ h.size_is;
+          nodes_are = length-append st.nodes (x ∷ []) ∙ ap (λ (n : ℕ). n + 1) h.nodes_are;
+          records_hold = eb ∙ ap (λ (r : List ℕ). stored r c.nodes x) h.records_hold ∙ nodes_more size st.nodes c.nodes x (sym h.nodes_are) (omega arith);
+          records_fit = omega arith;
+        };
+        pieces_held = h.pieces_held;
+        opens_held = record {
+          opens_are = ap (with_child x.extent.start) h.opens_are;
+          below = below_more x.extent.start c.stack c.nodes h.below;
+          on_boundaries = boundaries_more text x.extent.start c.stack on h.on_boundaries;
+        };
         cursor_stands = h.cursor_stands;
       }
 
-  pub pushable : c.nodes < events_limit → leb (length b / record_width) c.nodes ≡ false → Pushable c b
-  pushable few l =
-      record { room = leb-false _ _ l; few = few; below = h.below }
+  -- which is one node more
+  pub moved_on : (x : Node) (c' : Builder) (b' p' : List ℕ) → Held text size pieces_size (completed x st) c' b' p' → Held text size pieces_size (completed x st) c' b' p' × (c'.nodes ≤ c.nodes + 1)
+  unfolding completed
+  moved_on x c' b' p' g =
+      let n : length st.nodes + 1 ≡ c'.nodes = sym (length-append st.nodes (x ∷ [])) ∙ g.nodes_are in
+      let m = h.nodes_are in
+      (g, omega arith)
 
   -- ---- a collection starts
 
   abbrev pub opening : Bool → ℕ → Option YamlTag → Open
   opening mapping i tag = record { mapping = mapping; start = i; suffix = suffix_of tag; children = 0; first = 0; before = c.nodes }
 
-  pub opened : (mapping : Bool) (index : ℕ) (tag : Option YamlTag) (cur : Cursor) → Utf8 text → cur ≡ cursor_at text index
-      → is_root_done c ≡ false → length c.stack < depth_limit
+  pub opened : (mapping : Bool) (index : ℕ) (tag : Option YamlTag) (cur : Cursor) (v : Unit {0}) → Utf8 text → cur ≡ cursor_at text index
+      → gate (is_root_done c) AfterRoot ≡ Ok v → length c.stack < depth_limit
       → Moved text size pieces_size c.nodes (on_start text mapping index tag st) (Ok (tt {0})) (builder c.nodes c.used cur (opening mapping cur.offset tag ∷ c.stack)) b p
   unfolding on_start
-  opened mapping index tag cur u e r l =
+  opened mapping index tag cur v u e g l =
       let o : cur.offset ≡ byte_offset text index = cursor_offset text index cur e in
-      rw (before_root_lem _ r, not_deep _ l) (
+      rw (past_root _ _ g, not_deep _ l) (
         record {
-          size_is = h.size_is;
-          pieces_size_is = h.pieces_size_is;
-          nodes_are = h.nodes_are;
-          opens_are = rw (← o, h.nodes_are, h.opens_are) refl;
-          pieces_are = h.pieces_are;
-          records_hold = h.records_hold;
-          pieces_hold = h.pieces_hold;
-          records_fit = h.records_fit;
-          pieces_fit = h.pieces_fit;
-          pieces_few = h.pieces_few;
-          below = (omega arith, h.below);
-          on_boundaries = (rw o (offset_boundary u index), boundary_start u, h.on_boundaries);
+          records_held = h.records_held;
+          pieces_held = h.pieces_held;
+          opens_held = record {
+            opens_are = rw (← o, h.nodes_are, h.opens_are) refl;
+            below = (omega arith, h.below);
+            on_boundaries = (cursor_boundary u index cur e, boundary_start u, h.on_boundaries);
+          };
           cursor_stands = rw e (cursor_stands text index);
         },
         omega arith,
@@ -156,15 +139,9 @@ module _ {text : List ℕ} {size pieces_size : ℕ} {st : State} {c : Builder} {
 
   -- ---- a collection ends
 
-  pub none_open : (room index : ℕ) (mapping : Bool) → c.stack ≡ [] → on_end text room mapping index st.opens st ≡ stop 4
-  none_open room index mapping e = rw (h.opens_are, e)
-
   module _ (inner : Open) (os : List Open) (is : c.stack ≡ inner ∷ os) where
     abbrev pub outside : State
     outside = record { nodes = st.nodes; opens = os; pieces = st.pieces }
-
-    pub mismatched : (room index : ℕ) (mapping : Bool) → closes mapping inner ≡ false → on_end text room mapping index st.opens st ≡ stop 4
-    mismatched room index mapping e = rw (h.opens_are, is, e)
 
     pub matched : (room index : ℕ) (mapping : Bool) → closes mapping inner ≡ true
         → on_end text room mapping index st.opens st ≡ within_room room st (go (completed (collection_node text inner (byte_offset text index) c.nodes) outside))
@@ -181,92 +158,56 @@ module _ {text : List ℕ} {size pieces_size : ℕ} {st : State} {c : Builder} {
     pub popped : (cur : Cursor) → Stands text cur.chars cur.offset → Held text size pieces_size outside (builder c.nodes c.used cur os) b p
     popped cur on =
         record {
-          size_is = h.size_is;
-          pieces_size_is = h.pieces_size_is;
-          nodes_are = h.nodes_are;
-          opens_are = refl;
-          pieces_are = h.pieces_are;
-          records_hold = h.records_hold;
-          pieces_hold = h.pieces_hold;
-          records_fit = h.records_fit;
-          pieces_fit = h.pieces_fit;
-          pieces_few = h.pieces_few;
-          below = inner_below.1;
-          on_boundaries = inner_on.2;
+          records_held = h.records_held;
+          pieces_held = h.pieces_held;
+          opens_held = record { opens_are = refl; below = inner_below.1; on_boundaries = inner_on.2 };
           cursor_stands = on;
         }
 
   -- ---- a scalar's walk in the free part of the pieces
 
-  used_is : 4 * c.used ≡ 4 * length st.pieces
-  used_is = let e = h.pieces_are in omega arith
-
-  abbrev pub free : List ℕ
-  free = take (length p - 4 * c.used) (drop (4 * c.used) p)
-
-  pub free_zero : free ≡ replicate (length free) 0
-  free_zero = lent_zero pieces_size (4 * c.used) st.pieces p h.pieces_hold used_is h.pieces_size_is h.pieces_fit
-
-  pub free_len : length free ≡ pieces_size - 4 * c.used
-  free_len = lent_length pieces_size (4 * c.used) st.pieces p h.pieces_hold used_is h.pieces_size_is h.pieces_fit
-
   -- what the walk left there
   module _ (y : List ℕ) (len : length y ≡ pieces_size - 4 * c.used) where
-    pub walk_no_room : (x : Node) (o : maybe.Option (List Piece)) → Walks (length y) o NoRoom y → keeping (pieces_size / 4) x o st ≡ stop 8
+    pub walk_no_room : (x : Node) (o : Option (List Piece)) → Walks (length y) o NoRoom y → keeping (pieces_size / 4) x o st ≡ stop 8
     unfolding keeping
-    walk_no_room x none w = absurd w
-    walk_no_room x (some ps) w =
+    walk_no_room x None w = absurd w
+    walk_no_room x (Some ps) w =
         let l = w.0 in
         let f = h.pieces_fit in
         rw (h.pieces_are, lt-ltb (pieces_size / 4) (c.used + length ps) (omega arith))
 
     -- the buffer is as it was, and the node has no list
-    pub walk_no_list : (x : Node) (o : maybe.Option (List Piece)) → Walks (length y) o NoList y
+    pub walk_no_list : (x : Node) (o : Option (List Piece)) → Walks (length y) o NoList y
         → (keeping (pieces_size / 4) x o st ≡ go (completed x st)) × (take (4 * c.used) p ++ y ≡ p)
     unfolding keeping
-    walk_no_list x none w =
-        (refl, back_zero pieces_size (4 * c.used) st.pieces p h.pieces_hold used_is h.pieces_size_is h.pieces_fit y (w ∙ ap (λ (n : ℕ). replicate n 0) len))
-    walk_no_list x (some ps) w = absurd w
+    walk_no_list x None w =
+        (refl, back_zero h.pieces_held y (w ∙ ap (λ (n : ℕ). replicate n 0) len))
+    walk_no_list x (Some ps) w = absurd w
 
     -- n pieces more
-    pub record Listing (x : Node) (o : maybe.Option (List Piece)) (n : ℕ) : Type 0 where
-      pub with_pieces_lem : State
-      pub held : Held text size pieces_size with_pieces_lem (builder c.nodes (c.used + n) c.cursor c.stack) b (take (4 * c.used) p ++ y)
-      pub kept : keeping (pieces_size / 4) x o st ≡ go (completed (with_list x c.used n) with_pieces_lem)
+    pub record Listing (x : Node) (o : Option (List Piece)) (n : ℕ) : Type 0 where
+      pub with_pieces : State
+      pub held : Held text size pieces_size with_pieces (builder c.nodes (c.used + n) c.cursor c.stack) b (take (4 * c.used) p ++ y)
+      pub kept : keeping (pieces_size / 4) x o st ≡ go (completed (with_list x c.used n) with_pieces)
       pub fits : c.used + n ≤ piece_limit
 
-    pub walk_listed : (x : Node) (o : maybe.Option (List Piece)) (n : ℕ) → Walks (length y) o (Listed n) y → Listing x o n
+    pub walk_listed : (x : Node) (o : Option (List Piece)) (n : ℕ) → Walks (length y) o (Listed n) y → Listing x o n
     unfolding keeping
-    walk_listed x none n w = absurd w
-    walk_listed x (some ps) n w =
+    walk_listed x None n w = absurd w
+    walk_listed x (Some ps) n w =
         let a : n ≡ length ps = w.0 in
-        let z = h.pieces_fit in
+        let more = back_with h.pieces_held ps y (w.1 ∙ ap (λ (m : ℕ). laid_pieces m ps) len) len in
+        let fit = more.pieces_fit in
         let few = h.pieces_few in
-        let within : 4 * length ps ≤ length y = filled_fits (length y) ps y w.1 refl in
-        let in_room : c.used + length ps ≤ pieces_size / 4 = omega arith in
         record {
-          with_pieces_lem = record { nodes = st.nodes; opens = st.opens; pieces = st.pieces ++ ps };
-          held = record {
-            size_is = h.size_is;
-            pieces_size_is = back_length pieces_size (4 * c.used) st.pieces p h.pieces_hold used_is h.pieces_size_is z y len;
-            nodes_are = h.nodes_are;
-            opens_are = h.opens_are;
-            pieces_are = length-append st.pieces ps ∙ ap₂ ◌+◌ h.pieces_are (sym a);
-            records_hold = h.records_hold;
-            pieces_hold = back_with pieces_size (4 * c.used) st.pieces p h.pieces_hold used_is h.pieces_size_is z ps y (w.1 ∙ ap (λ (m : ℕ). laid_pieces m ps) len);
-            records_fit = h.records_fit;
-            pieces_fit = omega arith;
-            pieces_few = few;
-            below = h.below;
-            on_boundaries = h.on_boundaries;
-            cursor_stands = h.cursor_stands;
-          };
+          with_pieces = record { nodes = st.nodes; opens = st.opens; pieces = st.pieces ++ ps };
+          held = record { records_held = h.records_held; pieces_held = rw a more; opens_held = h.opens_held; cursor_stands = h.cursor_stands };
           kept = rw (h.pieces_are, ← a, le-ltb (pieces_size / 4) (c.used + n) (omega arith)) refl;
           fits = omega arith;
         }
 
     -- so what is listed can be counted
-    pub walk_counted : (x : Node) (o : maybe.Option (List Piece)) (w : Walked) → w ≡ answer_of (room (length y)) o → y ≡ buffer_of (length y) o → Counted c.used w
+    pub walk_counted : (x : Node) (o : Option (List Piece)) (w : Walked) → w ≡ answer_of (room (length y)) o → y ≡ buffer_of (length y) o → Counted c.used w
     walk_counted x o NoRoom e f = tt
     walk_counted x o NoList e f = tt
     walk_counted x o (Listed n) e f = (walk_listed x o n (walks_of (length y) o (Listed n) y e f)).fits

@@ -1,20 +1,21 @@
 -- From what the inner calls leave to what the public calls promise.
 use mathlib.Core.Path.{◌≡◌, refl, sym, ap, ◌∙◌}
-use mathlib.Core.Bool.{Bool, true, false}
+use mathlib.Core.Bool.{Bool, false}
 use mathlib.Core.List.{List, [], ◌∷◌, ◌++◌}
-use mathlib.Core.Option.{Option, none, some}
 use Prim.Native.Nat.{ℕ, ◌+◌, ◌/◌, ◌≤◌, ◌<◌, min}
 use native.Mathlib.Omega.{arith}
-use Rattle.std.specs.Prelude.{None, Result, Ok, Err, is_err}
+use Rattle.std.specs.Prelude.{Some, None, Result, Ok, Err, is_err, Option}
 use borrow.Author.Tests.{lt-ltb, le-ltb}
-use lib.ListN.{length, take, drop, length-replicate, length-append, length-drop}
+use Rattle.std.proofs.lemmas.Bool.Decides.{nat_tests}
+use lib.ListN.{length, take, drop, length-replicate}
 use Rattle.utf8.specs.Tests.{clash}
 use Rattle.text.specs.Admission.{admission, admission_of_both, error_number}
 use Rattle.text.specs.Offset.{byte_offset}
 use Rattle.text.specs.declared.admission.TextError.{TextError}
 use Rattle.schema.specs.Tag.{resolve_scalar}
 use Rattle.schema.specs.declared.plain.Resolved.{Resolved}
-use Rattle.measure.specs.Scalar.{folded}
+use Rattle.style.specs.Style.{folded, style_number, style_numbered}
+use Rattle.style.specs.declared.Style.{Style}
 use Rattle.event.specs.Read.{events_limit}
 use Rattle.provenance.specs.Reading.{Piece}
 use Rattle.provenance.specs.Layout.{room, zeros, answer_of, buffer_of, piece_width}
@@ -24,9 +25,8 @@ use Rattle.records.specs.Record.{no_tag}
 use Rattle.records.specs.Layout.{pieces_limit, record_room, piece_room}
 use Rattle.records.specs.LayoutLaws.{take-replicate}
 use Rattle.records.specs.declared.record.Node.{Node}
-use Rattle.spans.specs.Scalar.{scalar_from, scalar_start, span_measure, list_at, tag_info, resolved_by, event_node}
+use Rattle.spans.specs.Scalar.{Mark, scalar_from, scalar_start, span_measure, list_at, tag_info, resolved_by, event_node}
 use Rattle.spans.specs.Fits.{scalar_entry}
-use Rattle.spans.specs.Scalar.{Mark}
 use Rattle.spans.specs.declared.scalar.Entry.{Entry}
 use Rattle.parser.specs.Machine.{State, empty, Outcome, built, refused, completed, keeping, scalar_kept, follow, run_all}
 use Rattle.parser.specs.Call.{row_number, building, one_scalar, scalar_measured, scalar_call, Delivered, DeliveredScalar}
@@ -41,10 +41,6 @@ use Rattle.parser.proofs.Pieces.{Walks, walks_of, filled_none, filled_fits, fill
 -- the first numbers of a buffer of zeros
 pub zeros_front : (n size : ℕ) (p : List ℕ) → p ≡ zeros size → n ≤ length p → take n p ≡ zeros n
 zeros_front n size p e l = ap (take n) e ∙ take-replicate n size 0 (omega (arith, ap length e, length-replicate {A = ℕ} size 0))
-
--- the whole buffer, its front come back
-pub length_front : (p q : List ℕ) (n : ℕ) → length q ≡ n → n ≤ length p → length (q ++ drop n p) ≡ length p
-length_front p q n e h = length-append q (drop n p) ∙ rw (length-drop n p, e) (omega arith)
 
 -- the pieces that fit are those that fit in the part that is used
 pub room_used : (size n : ℕ) → n ≡ min size pieces_limit → n / piece_width ≡ piece_room size
@@ -63,12 +59,6 @@ module _ (size pieces_size n : ℕ) (is-n : n ≡ min pieces_size pieces_limit) 
   settled_built (refused m k) (Ok x) e h = absurd (two_not_three m k 0 x.nodes x.pieces (sym h))
   settled_built (refused m k) (Err x) e h = absurd (clash e)
 
-  pub settled_refused : (o : Outcome) (r : Result Built Refused) → is_err r ≡ true → Filled size n o r b q → (b' p' : List ℕ) → b' ≡ zeros size → p' ≡ zeros pieces_size
-      → Delivered size pieces_size o r b' p'
-  settled_refused (built xs ps) (Ok x) e h b' p' u v = absurd (clash (sym e))
-  settled_refused (built xs ps) (Err x) e h b' p' u v = absurd (two_not_three (row_number x.refusal) x.place 0 (length xs) (length ps) h.0)
-  settled_refused (refused m k) r e h b' p' u v = record { answer = h; all_records = u; all_pieces = v }
-
 module _ (text events : List ℕ) where
   -- rows 1 and 2
   pub events_too_long : events_limit < length events → (e : Refusal) → row_number e ≡ 1 → Refuses text events e
@@ -80,10 +70,6 @@ module _ (text events : List ℕ) where
   text_refused l x e told is = λ size pieces_size. rw (le-ltb events_limit (length events) l, told, is) refl
 
   module _ (size pieces_size : ℕ) (b p : List ℕ) where
-    pub not_let_in : (e : Refusal) → Refuses text events e → b ≡ zeros size → p ≡ zeros pieces_size
-        → Delivered size pieces_size (building text events size pieces_size) (Err (record { refusal = e; place = 0 })) b p
-    not_let_in e h zb zp = rw (h size pieces_size) (record { answer = refl; all_records = zb; all_pieces = zp })
-
     pub let_in : length events ≤ events_limit → (ascii : Bool) (r : Result Built Refused) → admission text ≡ Ok ascii
         → Delivered size pieces_size (run_all text events (record_room size) (piece_room pieces_size)) r b p → Delivered size pieces_size (building text events size pieces_size) r b p
     unfolding building
@@ -91,14 +77,21 @@ module _ (text events : List ℕ) where
 
 -- ---- one scalar
 
+-- the style of a number has that number, and a number without one is above 4
+pub style_is : (n : ℕ) (s : Style) → Some s ≡ style_numbered n → style_number s ≡ n
+style_is n s e = grind (arith, nat_tests)
+
+pub no_style : (n : ℕ) → None ≡ style_numbered n → folded < n
+no_style n e = grind (arith, nat_tests)
+
 abbrev outcome : State → Outcome
 outcome st = built st.nodes st.pieces
 
 -- by what its walk answered, in a buffer q of `size` numbers
 module _ (size : ℕ) (small : size ≤ pieces_limit) (q : List ℕ) (len : length q ≡ size) where
   listed_few : (o : Option (List Piece)) (n : ℕ) → Walks size o (Listed n) q → Counted 0 (Listed n)
-  listed_few none n w = absurd w
-  listed_few (some ps) n w = let a = w.0 in omega (arith, filled_fits size ps q w.1 len)
+  listed_few None n w = absurd w
+  listed_few (Some ps) n w = let a = w.0 in omega (arith, filled_fits size ps q w.1 len)
 
   pub alone_counted : (o : Option (List Piece)) (w : Walked) → w ≡ answer_of (room size) o → q ≡ buffer_of size o → Counted 0 w
   alone_counted o NoRoom e f = tt
@@ -108,14 +101,14 @@ module _ (size : ℕ) (small : size ≤ pieces_limit) (q : List ℕ) (len : leng
   alone_kept : (y : Node) (t : Bool) (o : Option (List Piece)) (w : Walked) → Walks size o w q
       → DeliveredScalar size (follow (keeping (piece_room size) y o empty) outcome 0) t (alone_answer (record { node = y; measured = t; walked = w })) q
   unfolding keeping completed
-  alone_kept y t none NoRoom w = absurd w
-  alone_kept y t (some ps) NoRoom w =
+  alone_kept y t None NoRoom w = absurd w
+  alone_kept y t (Some ps) NoRoom w =
       let a = w.0 in
       rw (lt-ltb (piece_room size) (0 + length ps) (omega arith)) (record { answer = refl; one_record = refl; flag = refl; all_pieces = w.1 })
-  alone_kept y t none NoList w = record { answer = refl; one_record = refl; flag = refl; all_pieces = w ∙ sym (filled_none size) }
-  alone_kept y t (some ps) NoList w = absurd w
-  alone_kept y t none (Listed n) w = absurd w
-  alone_kept y t (some ps) (Listed n) w =
+  alone_kept y t None NoList w = record { answer = refl; one_record = refl; flag = refl; all_pieces = w ∙ sym (filled_none size) }
+  alone_kept y t (Some ps) NoList w = absurd w
+  alone_kept y t None (Listed n) w = absurd w
+  alone_kept y t (Some ps) (Listed n) w =
       let a = w.0 in
       let f = filled_fits size ps q w.1 len in
       rw (le-ltb (piece_room size) (0 + length ps) (omega arith), a) (record { answer = refl; one_record = refl; flag = refl; all_pieces = w.1 })
@@ -135,9 +128,10 @@ module _ (size : ℕ) (small : size ≤ pieces_limit) (q : List ℕ) (len : leng
       (alone_kept _ _ _ _ (walks_of size (list_at text (scalar_from i m value 0)) _ q refl eq))
 
 module _ (text : List ℕ) (m : Mark) (value : List ℕ) (size : ℕ) where
-  pub style_unknown : (q : List ℕ) → folded < m.style → q ≡ zeros size → DeliveredScalar size (one_scalar text m value size) (scalar_measured text m value) (Err Malformed) q
-  unfolding one_scalar
-  style_unknown q l z = rw (lt-ltb folded m.style l) (record { answer = refl; one_record = refl; flag = refl; all_pieces = z })
+  pub style_unknown : (ascii : Bool) → admission_of_both text value ≡ Ok ascii → folded < m.style → (q : List ℕ) → q ≡ zeros size
+      → DeliveredScalar size (scalar_call text m value size) (scalar_measured text m value) (Err Malformed) q
+  unfolding scalar_call one_scalar
+  style_unknown ascii e l q z = rw (e, lt-ltb folded m.style l) (record { answer = refl; one_record = refl; flag = refl; all_pieces = z })
 
   pub scalar_refused : (x : TextError) (e : Refusal) (q : List ℕ) → admission_of_both text value ≡ Err x → row_number e ≡ error_number x → q ≡ zeros size
       → DeliveredScalar size (scalar_call text m value size) (scalar_measured text m value) (Err e) q

@@ -3,11 +3,11 @@
 use Rattle.std.specs.Prelude.{◌≡◌, ℕ, Bool, false, cond, List, [], ◌∷◌, ltb, length, replicate, None, Result, Ok, Err}
 use Rattle.text.specs.Admission.{admission, admission_of_both, error_number}
 use Rattle.text.specs.declared.admission.TextError.{TextError}
-use Rattle.measure.specs.Scalar.{folded}
+use Rattle.style.specs.Style.{folded}
 use Rattle.event.specs.Read.{events_limit}
 use Rattle.records.specs.Record.{zero_node}
 use Rattle.parser.specs.Machine.{State, empty, Outcome, built, refused, scalar_kept, follow, run_all}
-use Rattle.spans.specs.Scalar.{scalar_at, span_measure}
+use Rattle.spans.specs.Scalar.{Mark, scalar_at, span_measure}
 use Rattle.records.specs.Layout.{laid_nodes, record_room, piece_room}
 use Rattle.provenance.specs.Layout.{laid_pieces}
 use Rattle.records.specs.declared.record.Node.{Node}
@@ -15,7 +15,6 @@ use Rattle.parser.specs.declared.answer.Refusal.{Refusal}
 use Rattle.parser.specs.declared.answer.Refusal.TheVariants as row
 use Rattle.parser.specs.declared.answer.Built.{Built}
 use Rattle.parser.specs.declared.answer.Refused.{Refused}
-use Rattle.spans.specs.Scalar.{Mark}
 use Rattle.parser.specs.declared.answer.Scalar.{Scalar}
 
 -- ---- the table

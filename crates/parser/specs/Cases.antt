@@ -19,7 +19,8 @@ use Rattle.measure.specs.Run.{white_space_run, after_run, holds_newline}
 use Rattle.measure.specs.Plain.{is_fold, begins_with, takes_run, plain_reach, plain_measure}
 use Rattle.measure.specs.Quoted.{passed_together, to_closing, quoted_len, quoted_measure}
 use Rattle.measure.specs.Block.{lines, is_blank, trimmed_len, ends_block, later_reach, block_reach, block_len}
-use Rattle.measure.specs.Scalar.{plain, single_quoted, double_quoted, literal, block_measure, style_measure, scalar_measure}
+use Rattle.style.specs.Style.{plain, single_quoted, double_quoted, literal}
+use Rattle.measure.specs.Scalar.{block_measure, style_measure, scalar_measure}
 use Rattle.provenance.specs.Run.{white_run, newlines_in, through_last, cut, blank_run, only_newlines}
 use Rattle.provenance.specs.Escape.{digits_from, digits, radix16, code_content, single_quote_escapes, is_one_of, one_byte_escapes, backslash_escape, double_quote_escapes, escapes_of}
 use Rattle.provenance.specs.Grammar.{break_pair, opens_break, break_step, equal_step, end_step, step}

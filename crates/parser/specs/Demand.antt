@@ -24,14 +24,13 @@ use Rattle.provenance.specs.declared.step.Step.{Step}
 use Rattle.provenance.specs.declared.walk.Walked.{Walked}
 use Rattle.provenance.specs.declared.walk.Walked.TheVariants.{Listed, NoRoom, NoList}
 use Rattle.records.specs.Record.{absent, extent, no_tag, no_list, zero_node}
-use Rattle.spans.specs.Scalar.{start_at, walk_first, with_span}
+use Rattle.spans.specs.Scalar.{Mark, start_at, walk_first, with_span}
 use Rattle.spans.specs.Collection.{awaits_value}
 use Rattle.parser.specs.Machine.{State, empty, go, Outcome, built, refused, root_done}
 use Rattle.parser.specs.EventRun.{reached}
 use Rattle.records.specs.Layout.{record_room, piece_room}
 use Rattle.parser.specs.Call as call
 use Rattle.parser.specs.Call.{record_of, building}
-use Rattle.spans.specs.Scalar.{Mark}
 use Rattle.records.specs.declared.record.TagInfo.{TagInfo}
 use Rattle.records.specs.declared.record.Node.{Node}
 use Rattle.records.specs.declared.record.PieceList.{PieceList}

@@ -29,14 +29,13 @@ use Rattle.schema.specs.Record.{two_numbers}
 use Rattle.event.specs.Number.{number_at}
 use Rattle.event.specs.Read.{events_limit, read_string, read_tag, read_start_tag, read_scalar, read_body, read_event}
 use Rattle.records.specs.Record.{extent, no_tag, no_list, piece_list, alias_node}
-use Rattle.spans.specs.Scalar.{step_past, scalar_start, span_measure, list_at, tag_info, resolved_by, scalar_over, event_node, mark}
+use Rattle.spans.specs.Scalar.{Mark, step_past, scalar_start, span_measure, list_at, tag_info, resolved_by, scalar_over, event_node, mark}
 use Rattle.spans.specs.Collection.{closes, collection_end, collection_start, members, collection_over, collection_node}
 use Rattle.parser.specs.Machine.{Outcome, built, refused, root_done, before_root, within_depth, within_room, completed, on_start, ended, on_alias, keeping, scalar_kept, on_scalar, ending, run, run_all}
 use Rattle.records.specs.Layout.{piece_room}
 use Rattle.parser.specs.Call.{record_of, building, one_scalar, scalar_measured, scalar_call}
 use Rattle.records.specs.declared.record.Node.{Node}
 use Rattle.records.specs.declared.record.PieceList.{PieceList}
-use Rattle.spans.specs.Scalar.{Mark}
 
 -- ---- events with their marker at index i
 

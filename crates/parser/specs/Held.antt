@@ -1,6 +1,5 @@
 -- What the code's values hold of the machine's state. Cited by the inner calls' contracts only.
-use Rattle.std.specs.Prelude.{◌≡◌, ℕ, ◌+◌, ◌-◌, ◌*◌, ◌/◌, ◌≤◌, ◌<◌, Bool, true, false, List, ◌++◌, ◌&&◌, eqb, ltb, length, take, Result, Ok, Err}
-use Rattle.std.proofs.Math.Option.{Option}
+use Rattle.std.specs.Prelude.{◌≡◌, ℕ, ◌+◌, ◌-◌, ◌*◌, ◌/◌, ◌≤◌, ◌<◌, Bool, true, false, List, ◌++◌, ◌&&◌, eqb, ltb, length, take, Result, Ok, Err, Option}
 use Rattle.utf8.specs.Boundary.{Boundary}
 use Rattle.text.specs.Offset.{Stands}
 use Rattle.text.specs.Admission.{text_limit}
@@ -17,6 +16,7 @@ use Rattle.parser.specs.Machine.{State, Next, go, stop, Outcome, built, refused,
 use Rattle.records.specs.Layout.{piece_limit, pieces_limit, record_room, piece_room, laid_nodes}
 use Rattle.parser.specs.Call.{row_number, returned, table_row, building, Delivered}
 use Rattle.records.specs.declared.record.Node.{Node}
+use Rattle.spans.specs.declared.open.Open.{Open}
 use Rattle.spans.specs.declared.scalar.Entry.{Entry}
 use Rattle.parser.specs.declared.answer.Scalar as answer
 use Rattle.parser.specs.declared.answer.Refusal.{Refusal}
@@ -28,20 +28,35 @@ use Rattle.parser.specs.Opens.{Below, OnBoundaries}
 
 -- ---- the state
 
+-- n records, of the nodes xs
+pub record RecordsHeld (size : ℕ) (xs : List Node) (n : ℕ) (records : List ℕ) : Type 0 where
+  pub size_is : length records ≡ size
+  pub nodes_are : length xs ≡ n
+  pub records_hold : records ≡ laid_nodes size xs
+  pub records_fit : record_width * n ≤ size
+
+-- n pieces, which are ps
+pub record PiecesHeld (size : ℕ) (ps : List Piece) (n : ℕ) (pieces : List ℕ) : Type 0 where
+  pub pieces_size_is : length pieces ≡ size
+  pub pieces_are : length ps ≡ n
+  pub pieces_hold : pieces ≡ laid_pieces size ps
+  pub pieces_fit : piece_width * n ≤ size
+  pub pieces_few : size ≤ pieces_limit
+
+-- the collections that are open after n nodes
+pub record OpensHeld (text : List ℕ) (os : List Open) (n : ℕ) (stack : List Open) : Type 0 where
+  pub opens_are : os ≡ stack
+  pub below : Below stack n
+  pub on_boundaries : OnBoundaries text stack
+
 -- of a builder, its records and its pieces
 pub record Held (text : List ℕ) (size pieces_size : ℕ) (st : State) (b : Builder) (records pieces : List ℕ) : Type 0 where
-  pub size_is : length records ≡ size
-  pub pieces_size_is : length pieces ≡ pieces_size
-  pub nodes_are : length st.nodes ≡ b.nodes
-  pub opens_are : st.opens ≡ b.stack
-  pub pieces_are : length st.pieces ≡ b.used
-  pub records_hold : records ≡ laid_nodes size st.nodes
-  pub pieces_hold : pieces ≡ laid_pieces pieces_size st.pieces
-  pub records_fit : record_width * b.nodes ≤ size
-  pub pieces_fit : piece_width * b.used ≤ pieces_size
-  pub pieces_few : pieces_size ≤ pieces_limit
-  pub below : Below b.stack b.nodes
-  pub on_boundaries : OnBoundaries text b.stack
+  pub records_held : RecordsHeld size st.nodes b.nodes records
+  pub open records_held use *
+  pub pieces_held : PiecesHeld pieces_size st.pieces b.used pieces
+  pub open pieces_held use *
+  pub opens_held : OpensHeld text st.opens b.nodes b.stack
+  pub open opens_held use *
   pub cursor_stands : Stands text b.cursor.chars b.cursor.offset
 
 -- a value is no longer than a text may be

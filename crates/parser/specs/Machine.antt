@@ -3,8 +3,7 @@
 -- no cursor here: an offset is `byte_offset` of its index. `room` is how many records fit, `piece_room` how many pieces.
 --
 -- `run` counts down the length of the event bytes, which are more than the events; what a reader expects of it stands in `RunLaws`.
-use Rattle.std.specs.Prelude.{ℕ, zero, suc, ◌+◌, Bool, true, false, ◌&&◌, cond, List, [], ◌∷◌, ◌++◌, eqb, ltb, leb, length, Option, Result, Ok, Err}
-use Rattle.std.proofs.Math.Option as maybe
+use Rattle.std.specs.Prelude.{ℕ, zero, suc, ◌+◌, Bool, true, false, ◌&&◌, cond, List, [], ◌∷◌, ◌++◌, eqb, ltb, leb, length, Option, Result, Ok, Err, Some, None}
 use Rattle.text.specs.Offset.{byte_offset}
 use Rattle.provenance.specs.Reading.{Piece}
 use Rattle.provenance.specs.Layout.{walked_number}
@@ -92,9 +91,9 @@ unfoldable pub on_alias : List ℕ → ℕ → ℕ → State → Next
 on_alias text room index st = before_root st (within_room room st (go (completed (alias_node (byte_offset text index)) st)))
 
 -- R8: a node, and the pieces of its walk if that gave a list, even an empty one; the first is the next free entry (E4, N1)
-unfoldable pub keeping : ℕ → Node → maybe.Option (List Piece) → State → Next
-keeping piece_room x maybe.none st = go (completed x st)
-keeping piece_room x (maybe.some ps) st =
+unfoldable pub keeping : ℕ → Node → Option (List Piece) → State → Next
+keeping piece_room x None st = go (completed x st)
+keeping piece_room x (Some ps) st =
     cond (ltb piece_room (length st.pieces + length ps)) (stop (walked_number NoRoom))
     (go (completed (with_list x (length st.pieces) (length ps)) (record { nodes = st.nodes; opens = st.opens; pieces = st.pieces ++ ps })))
 

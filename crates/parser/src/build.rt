@@ -1,5 +1,6 @@
 // The call on a whole document. (01: the table; R0 to R9, RO, RZ, B1.)
 ghost use Rattle.std.specs.Prelude.{◌≡◌, ◌≤◌, length, IfOk, IfErr, Ok};
+ghost use Rattle.utf8.specs.Ascii.{Bytes};
 ghost use Rattle.text.specs.Admission.{admission};
 ghost use Rattle.provenance.specs.Layout.{zeros};
 ghost use Rattle.event.specs.Read.{events_limit, read_event};
@@ -35,6 +36,7 @@ struct Document<'a> {
     text: Text<'a>,
     events: &'a [u8],
     ghost short: { length events.now ≤ events_limit },
+    ghost bytes: { Bytes events.now },
 }
 
 // The event at `at` is done, and answered by the place after it.
@@ -57,11 +59,7 @@ fn step(
 }
 
 // All events in order, into buffers that are zero. A loop: where the next event begins is read.
-fn fill(
-    document: Document<'_>,
-    records: &mut [u32],
-    pieces: &mut [u32],
-) -> Result<Built, Refused>
+fn fill(document: Document<'_>, records: &mut [u32], pieces: &mut [u32]) -> Result<Built, Refused>
     requires { (records.old ≡ zeros (length records.old)) × (pieces.old ≡ zeros (length pieces.old)) × (length pieces.old ≤ pieces_limit) }
     ensures { Fills document.entry.text.content.bytes.now document.entry.events.now records.old pieces.old result records.new pieces.new }
 {

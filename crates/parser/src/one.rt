@@ -55,15 +55,7 @@ fn one_scalar(
         text: text.content,
         at: cursor.offset,
     };
-    alone(walk_scalar(
-        start,
-        m,
-        value,
-        0,
-        NO_TAG,
-        resolved,
-        pieces,
-    ))
+    alone(walk_scalar(start, m, value, 0, NO_TAG, resolved, pieces))
 }
 
 // One scalar, given as its event would give it: it awaits nothing, has no tag, and its value has the place 0. What it answers, the record

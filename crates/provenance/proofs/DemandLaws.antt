@@ -1,9 +1,8 @@
 -- Demand 3 holds of the walk: `demand3` over any rules with a fair table of escapes, `demand3_of_scalars` of every scalar.
-use Rattle.std.specs.Prelude.{◌≡◌, refl, ◌⊎◌, Some, ℕ, ◌+◌, ◌-◌, ◌*◌, ◌≤◌, ◌<◌, length, take, drop}
+use Rattle.std.specs.Prelude.{◌≡◌, refl, ◌⊎◌, Some, ℕ, ◌+◌, ◌-◌, ◌*◌, ◌≤◌, ◌<◌, length, take, drop, None, Option}
 use Rattle.std.proofs.Common.{sym, ap, ◌∙◌, inl, inr, arith, le-leb}
 use Rattle.std.proofs.Math.Path.{subst}
 use Rattle.std.proofs.Math.Bool.{true}
-use Rattle.std.proofs.Math.Option.{Option, none, some}
 use mathlib.Core.List.{List, [], ◌∷◌}
 use Prim.{tt}
 use Rattle.std.proofs.Math.ListN.{length-drop}
@@ -29,11 +28,11 @@ use Rattle.provenance.proofs.PieceLaws.{laid, laid_is, first_starts, others_foll
 
 -- ---- answers and what is left of a list
 
-none_accepted : (most : ℕ) → Accepts (answer_of most none) → ⊥
+none_accepted : (most : ℕ) → Accepts (answer_of most None) → ⊥
 unfolding answer_of
 none_accepted most a = a
 
-some_accepted : (most : ℕ) (ps : List Piece) → Accepts (answer_of most (some ps))
+some_accepted : (most : ℕ) (ps : List Piece) → Accepts (answer_of most (Some ps))
 unfolding answer_of
 some_accepted most ps = by_order most (length ps) (λ lt. rw (lt-leb _ _ lt) tt) (λ le. rw (le-leb _ _ le) tt)
 
@@ -43,34 +42,34 @@ no_room_listed n h = let z : ◌≡◌ {A = ℕ} 0 1 = cc in omega arith
 no_list_listed : (n : ℕ) → NoList ≡ Listed n → ⊥
 no_list_listed n h = let z : ◌≡◌ {A = ℕ} 0 1 = cc in omega arith
 
-none_no_room : (most : ℕ) → walked_number (answer_of most none) ≡ 8 → ⊥
+none_no_room : (most : ℕ) → walked_number (answer_of most None) ≡ 8 → ⊥
 unfolding answer_of
 none_no_room most h = omega arith
 
-some_no_room : (most : ℕ) (ps : List Piece) → walked_number (answer_of most (some ps)) ≡ 8 → most < length ps
+some_no_room : (most : ℕ) (ps : List Piece) → walked_number (answer_of most (Some ps)) ≡ 8 → most < length ps
 unfolding answer_of
 some_no_room most ps h =
     by_order most (length ps) (λ lt. lt) (λ le. absurd (let z : ◌≡◌ {A = ℕ} 0 8 = rw (le-leb _ _ le) at h in omega arith))
 
-no_room_is : (most : ℕ) (ps : List Piece) → most < length ps → walked_number (answer_of most (some ps)) ≡ 8
+no_room_is : (most : ℕ) (ps : List Piece) → most < length ps → walked_number (answer_of most (Some ps)) ≡ 8
 unfolding answer_of
 no_room_is most ps lt = rw (lt-leb _ _ lt)
 
-listed_is : (most : ℕ) (ps : List Piece) (n : ℕ) → answer_of most (some ps) ≡ Listed n → (n ≡ length ps) × (length ps ≤ most) × (left_of most (some ps) ≡ ps)
+listed_is : (most : ℕ) (ps : List Piece) (n : ℕ) → answer_of most (Some ps) ≡ Listed n → (n ≡ length ps) × (length ps ≤ most) × (left_of most (Some ps) ≡ ps)
 unfolding answer_of left_of
 listed_is most ps n h =
     by_order most (length ps)
     (λ lt. absurd (no_room_listed n (rw (lt-leb _ _ lt) at h)))
     (λ le. let e : Listed (length ps) ≡ Listed n = rw (le-leb _ _ le) at h in let e' : length ps ≡ n = cc in (sym e', le, rw (le-leb _ _ le)))
 
-none_listed : (most n : ℕ) → answer_of most none ≡ Listed n → ⊥
+none_listed : (most n : ℕ) → answer_of most None ≡ Listed n → ⊥
 unfolding answer_of
 none_listed most n h = no_list_listed n h
 
 nothing_listed : (most : ℕ) (o : Option (List Piece)) → ((n : ℕ) → answer_of most o ≡ Listed n → ⊥) → left_of most o ≡ []
 unfolding answer_of left_of
-nothing_listed most none h = refl
-nothing_listed most (some ps) h =
+nothing_listed most None h = refl
+nothing_listed most (Some ps) h =
     by_order most (length ps)
     (λ lt. rw (lt-leb _ _ lt))
     (λ le. absurd (h (length ps) (rw (le-leb _ _ le))))
@@ -81,7 +80,7 @@ module _ (r : Rules) {reach : EscapeReach} (fair : FairTable r.escapes reach) (t
   abbrev src : List ℕ
   src = drop first text
 
-  pub listed_only : {X : Type 0} → (list_from r text first value ≡ none → X) → (Boundary text first → (ts : List Step) → Reading r src value ts → list_from r text first value ≡ some (pieces_of first ts) → X) → X
+  pub listed_only : {X : Type 0} → (list_from r text first value ≡ None → X) → (Boundary text first → (ts : List Step) → Reading r src value ts → list_from r text first value ≡ Some (pieces_of first ts) → X) → X
   unfolding list_from pieces_if
   listed_only {X} f g =
       by_answer (is_boundary text first)
@@ -89,10 +88,10 @@ module _ (r : Rules) {reach : EscapeReach} (fair : FairTable r.escapes reach) (t
       (λ b. f (rw b))
     where
       go : is_boundary text first ≡ true → (o : Option (List Step)) → reading_of r src value ≡ o → X
-      go b none e = f (rw (b, e))
-      go b (some ts) e = g (is_boundary_lem b) ts (found_is_reading r fair src value ts e) (rw (b, e))
+      go b None e = f (rw (b, e))
+      go b (Some ts) e = g (is_boundary_lem b) ts (found_is_reading r fair src value ts e) (rw (b, e))
 
-  pub listed_if : Boundary text first → (ts : List Step) → Reading r src value ts → list_from r text first value ≡ some (pieces_of first ts)
+  pub listed_if : Boundary text first → (ts : List Step) → Reading r src value ts → list_from r text first value ≡ Some (pieces_of first ts)
   unfolding list_from pieces_if
   listed_if b ts h = rw (boundary_is b, reading_is_found r fair src value ts h)
 

@@ -1,8 +1,7 @@
 -- A plain scalar that its measure finds in the text (S5): whether the walk finds a reading of it, and where that ends. The rest is the text
 -- from the scalar's start on.
-use Rattle.std.specs.Prelude.{ℕ, ◌+◌, ◌≡◌, refl, Bool, true, false, cond, List, [], ◌∷◌, drop}
+use Rattle.std.specs.Prelude.{is_some, ℕ, ◌+◌, ◌≡◌, refl, Bool, true, false, cond, List, [], ◌∷◌, drop, None, Some}
 use Rattle.std.proofs.Common.{sym, ap, ◌∙◌}
-use Rattle.std.proofs.Math.Option.{none, some}
 use Rattle.utf8.specs.Ascii.{bytes}
 use Rattle.utf8.specs.Utf8.{Utf8, encode, encode_all, is_ascii}
 use Rattle.utf8.specs.Boundary.{Boundary}
@@ -17,7 +16,7 @@ use Rattle.provenance.specs.EscapeLaws.{style_fair}
 use Rattle.provenance.specs.Grammar.{rules_of}
 use Rattle.provenance.specs.Reading.{reading_of, Piece}
 use Rattle.provenance.specs.Start.{scalar_list}
-use Rattle.provenance.specs.Alike.{ascii_front, run_taken, run_alike, equal_alike, reads_alike, past_span, source_lens, source_taken, pieces_end, is_some, no_tabs, narrow_spaces}
+use Rattle.provenance.specs.Alike.{ascii_front, run_taken, run_alike, equal_alike, reads_alike, past_span, source_lens, source_taken, pieces_end, no_tabs, narrow_spaces}
 use Rattle.provenance.specs.AlikeLaws.{narrow_alike}
 use Rattle.provenance.proofs.MeasuredLaws.{along, taken_found, taken_ends, plain_list, some_pieces, of_reading, reading_end}
 
@@ -25,7 +24,7 @@ module _ (column : ℕ) {rest value : List ℕ} {n : ℕ} (u : Utf8 rest) (w : U
     (measured : plain_reach (codes value) (codes rest) ≡ reaches n) where
   -- what the walk takes of the rest: the span and what it takes past it, if it goes along with the measure, else there is no reading
   pub measured_taken : source_taken (reading_of (rules_of plain column) rest value)
-      ≡ cond (reads_alike (codes value) (codes rest)) (some (n + past_span (codes value) (codes rest))) none
+      ≡ cond (reads_alike (codes value) (codes rest)) (Some (n + past_span (codes value) (codes rest))) None
   measured_taken =
       ap (λ (s : List ℕ). source_taken (reading_of (rules_of plain column) s value)) (codes_encode u)
       ∙ ap (λ (t : List ℕ). source_taken (reading_of (rules_of plain column) (encode_all (codes rest)) t)) (codes_encode w)
@@ -36,7 +35,7 @@ module _ (column : ℕ) {rest value : List ℕ} {n : ℕ} (u : Utf8 rest) (w : U
   measured_list = taken_found (reading_of (rules_of plain column) rest value) (reads_alike (codes value) (codes rest)) _ measured_taken
 
   -- which ends so far past the span
-  pub measured_ends : (ts : List Step) → reading_of (rules_of plain column) rest value ≡ some ts
+  pub measured_ends : (ts : List Step) → reading_of (rules_of plain column) rest value ≡ Some ts
       → source_lens ts ≡ n + past_span (codes value) (codes rest)
   measured_ends ts e = taken_ends ts (reads_alike (codes value) (codes rest)) _ (rw e at measured_taken)
 
@@ -57,7 +56,7 @@ module _ (column len : ℕ) {text value : List ℕ} {start n : ℕ} (u : Utf8 te
       ∙ measured_list column (boundary_splits u b).back w measured
 
   -- whose last piece ends so far past the span
-  pub pieces_end_at : (ps : List Piece) → scalar_list text start len value plain column ≡ some ps
+  pub pieces_end_at : (ps : List Piece) → scalar_list text start len value plain column ≡ Some ps
       → pieces_end start ps ≡ start + (n + past_span (codes value) (codes (drop start text)))
   pieces_end_at ps e =
       let r = of_reading start (reading_of (rules_of plain column) (drop start text) value) ps (sym (plain_list text start len value column b) ∙ e) in

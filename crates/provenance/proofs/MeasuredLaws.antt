@@ -1,11 +1,11 @@
 -- What a plain scalar's walk takes where the measure finds the value, by induction over the value's characters. Source and value are the
 -- encodings of their characters, so what is left of them is again an encoding, or they differ within the next character.
 use Rattle.std.proofs.Math.Path.{◌≡◌, refl, sym, ap, subst}
+use Rattle.std.proofs.lemmas.Option.{none-some, same_Some}
 use Rattle.std.proofs.Common.{◌∙◌, ⊎_elim, add-zero, add_assoc}
-use Rattle.std.specs.Prelude.{Bool, ◌&&◌, ◌||◌, ℕ, zero, suc, ◌+◌, ◌<◌, drop}
+use Rattle.std.specs.Prelude.{is_some, Bool, ◌&&◌, ◌||◌, ℕ, zero, suc, ◌+◌, ◌<◌, drop, None, Option, Some}
 use Rattle.std.proofs.Math.Bool.{true, false, cond}
 use mathlib.Core.List.{List, [], ◌∷◌, ◌++◌}
-use Rattle.std.proofs.Math.Option.{Option, none, some, none-ne-some, some-injective}
 use Rattle.std.proofs.Math.Nat.{zero-add}
 use native.Mathlib.Omega.{arith}
 use borrow.Author.Tests.{lt-ltb, ltb-true, eqb-true, eqb-false, eq-eqb, not-true, not-false}
@@ -36,7 +36,7 @@ use Rattle.provenance.specs.ReadingLaws.{found_is_reading}
 use Rattle.provenance.specs.Layout.{pieces_if}
 use Rattle.provenance.specs.Start.{walk_start, list_from, scalar_list}
 use Rattle.provenance.specs.Tests.{by_test, by_answer, and_no}
-use Rattle.provenance.specs.Alike.{ascii_front, run_taken, equal_alike, reads_alike, past_span, source_lens, source_taken, pieces_end, is_some}
+use Rattle.provenance.specs.Alike.{ascii_front, run_taken, equal_alike, reads_alike, past_span, source_lens, source_taken, pieces_end}
 use Rattle.provenance.specs.AlikeLaws.{takes_only, alike_equal, alike_run, alike_last}
 use Rattle.provenance.specs.PlainRuns.{ascii_bytes, wide, quiet_bytes, walk_run, break_white, held_some, front_held, front_all, bytes_all, run_some, run_parts, run_over, or_left, no_blanks, take_one}
 use Rattle.provenance.specs.PlainSteps.{more_taken, plain_taken, taken_end, taken_break, taken_same, taken_other, taken_nothing, taken_copied, copied_or_none, newlines_held}
@@ -54,7 +54,7 @@ module _ (column : ℕ) where
 
   -- where no break stands, an ASCII character is equal or not
   ascii_step : (c : ℕ) (val : List ℕ) (x : ℕ) (xs : List ℕ) → c < 0x80 → is_break_byte c && holds_newline (ascii_front (white_space_run (x ∷ xs))) ≡ false
-      → plain_taken column (encode_all (x ∷ xs)) (c ∷ val) ≡ cond (eqb c x) (more_taken 1 (plain_taken column (encode_all xs) val)) none
+      → plain_taken column (encode_all (x ∷ xs)) (c ∷ val) ≡ cond (eqb c x) (more_taken 1 (plain_taken column (encode_all xs) val)) None
   unfolding encode_all
   ascii_step c val x xs l h =
       let n : is_break_byte c && holds_newline (white_run (encode x ++ encode_all xs)) ≡ false = rw (walk_run (x ∷ xs)) h in
@@ -72,19 +72,19 @@ module _ (column : ℕ) where
       rw (w.is, e) (taken_other column w.begin (w.more ++ encode_all xs) c val (rw w.is at n) (λ f. omega arith))))
 
   -- at a tab a break takes no content, and then nothing fits
-  tab_stuck : (src val : List ℕ) → white_run src ≡ [] → plain_taken column src (tab ∷ val) ≡ none
+  tab_stuck : (src val : List ℕ) → white_run src ≡ [] → plain_taken column src (tab ∷ val) ≡ None
   unfolding white_run holds_newline
   tab_stuck [] val e = taken_nothing column tab val (λ z. omega arith)
   tab_stuck (x ∷ src) val e = taken_other column x src tab val (rw e (and_no (is_break_byte tab))) (λ f. absurd (let z : ◌≡◌ {A = ℕ} 0 (suc (length (white_run src))) = sym (ap length (rw f at e)) in omega arith))
 
-  tab_takes : (src val : List ℕ) → holds_newline (white_run src) ≡ true → plain_taken column src (tab ∷ val) ≡ none
+  tab_takes : (src val : List ℕ) → holds_newline (white_run src) ≡ true → plain_taken column src (tab ∷ val) ≡ None
   unfolding blank_run is_fold
   tab_takes src val h =
       taken_break column src tab val [] refl h (take-nil (newlines_in (white_run src)))
       ∙ rw (tab_stuck (drop (length (white_run src)) src) val (run_over src))
 
   -- where source and value go on with different characters, of which the value's is no white space
-  taken_apart : (d e : ℕ) (src val : List ℕ) → ScalarValue d → ScalarValue e → is_white_space d ≡ false → (e ≡ d → ⊥) → plain_taken column (encode e ++ src) (encode d ++ val) ≡ none
+  taken_apart : (d e : ℕ) (src val : List ℕ) → ScalarValue d → ScalarValue e → is_white_space d ≡ false → (e ≡ d → ⊥) → plain_taken column (encode e ++ src) (encode d ++ val) ≡ None
   taken_apart d e src val vd ve w n =
       ⊎_elim
       (λ z. z)
@@ -141,9 +141,9 @@ dark_first d cs e =
 
 -- what the walk takes: the span and what it takes past it, if it goes along
 abbrev pub alike_taken : List ℕ → List ℕ → ℕ → Option ℕ
-alike_taken vs cs n = cond (reads_alike vs cs) (some (n + past_span vs cs)) none
+alike_taken vs cs n = cond (reads_alike vs cs) (Some (n + past_span vs cs)) None
 
-more_if : (k m : ℕ) (t : Bool) → more_taken k (cond t (some m) none) ≡ cond t (some (k + m)) none
+more_if : (k m : ℕ) (t : Bool) → more_taken k (cond t (Some m) None) ≡ cond t (Some (k + m)) None
 more_if k m true = refl
 more_if k m false = refl
 
@@ -170,7 +170,7 @@ module _ (column : ℕ) where
       unbroken false t true l p q e = e
 
   -- a tab before a newline
-  tab_char : (c : ℕ) (cs val : List ℕ) → equal_alike c (c ∷ cs) ≡ false → plain_taken column (encode_all (c ∷ cs)) (encode c ++ val) ≡ none
+  tab_char : (c : ℕ) (cs val : List ℕ) → equal_alike c (c ∷ cs) ≡ false → plain_taken column (encode_all (c ∷ cs)) (encode c ++ val) ≡ None
   unfolding equal_alike
   tab_char c cs val a =
       let b = not-false _ a in
@@ -193,13 +193,13 @@ module _ (column : ℕ) where
 
   -- the last character, where the walk sees no newline of the run
   last_equal : (c : ℕ) (cs : List ℕ) → is_fold c ≡ true → holds_newline (white_space_run cs) ≡ true → holds_newline (ascii_front (white_space_run cs)) ≡ false
-      → plain_taken column (encode_all cs) (c ∷ []) ≡ cond (ltb 0 (cond (begins_with c (white_space_run cs)) 1 0)) (some (0 + cond (begins_with c (white_space_run cs)) 1 0)) none
+      → plain_taken column (encode_all cs) (c ∷ []) ≡ cond (ltb 0 (cond (begins_with c (white_space_run cs)) 1 0)) (Some (0 + cond (begins_with c (white_space_run cs)) 1 0)) None
   unfolding white_space_run holds_newline begins_with
   last_equal c [] f r h = absurd (clash (sym r))
   last_equal c (x ∷ xs) f r h =
       ascii_step column c [] x xs (fold_ascii c f) (rw h (and_no (is_break_byte c)))
       ∙ by_answer (is_white_space x)
-      (λ e. rw (e, taken_end column (encode_all xs)) (by_test (λ (t : Bool). cond t (some 1) none ≡ cond (ltb 0 (cond t 1 0)) (some (0 + cond t 1 0)) none) (eqb c x) refl refl))
+      (λ e. rw (e, taken_end column (encode_all xs)) (by_test (λ (t : Bool). cond t (Some 1) None ≡ cond (ltb 0 (cond t 1 0)) (Some (0 + cond t 1 0)) None) (eqb c x) refl refl))
       (λ e. absurd (clash (sym (rw e at r))))
 
   -- over the run that the value's last character takes
@@ -216,12 +216,12 @@ module _ (column : ℕ) where
       rw (h, lt-ltb 0 (length (ascii_front run)) (held_some (ascii_front run) h), zero-add (length (ascii_front run)))
       (fold_takes column (encode_all cs) c [] b.0 refl w
       ∙ ap (more_taken (length (white_run (encode_all cs)))) (taken_end column (drop (length (white_run (encode_all cs))) (encode_all cs)))
-      ∙ ap some (add-zero (length (white_run (encode_all cs))) ∙ ap length (walk_run cs))))
+      ∙ ap Some (add-zero (length (white_run (encode_all cs))) ∙ ap length (walk_run cs))))
       (λ h. rw h (last_equal c cs b.0 b.1 h)))
 
   -- white space in the source against another character of the value
   white_apart : (d : ℕ) (ds : List ℕ) (e : ℕ) (es : List ℕ) → ScalarValue d → ScalarValue e → is_white_space d ≡ false → is_white_space e ≡ true
-      → plain_taken column (encode_all (e ∷ es)) (encode_all (d ∷ ds)) ≡ none
+      → plain_taken column (encode_all (e ∷ es)) (encode_all (d ∷ ds)) ≡ None
   unfolding encode_all
   white_apart d ds e es vd ve wd we =
       taken_apart column d e (encode_all es) (encode_all ds) vd ve wd (λ f. clash (sym we ∙ ap is_white_space f ∙ wd))
@@ -233,7 +233,7 @@ module _ (column : ℕ) where
 
   -- a run that is not all ASCII, before another character of the value: where the walk sees a newline of it, and where not
   front_apart : (c d : ℕ) (ds cs : List ℕ) → ScalarValue d → ScalarValues cs → takes_run c cs ≡ true → is_white_space d ≡ false → is_ascii (white_space_run cs) ≡ false
-      → holds_newline (ascii_front (white_space_run cs)) ≡ true → plain_taken column (encode_all cs) (c ∷ encode_all (d ∷ ds)) ≡ none
+      → holds_newline (ascii_front (white_space_run cs)) ≡ true → plain_taken column (encode_all cs) (c ∷ encode_all (d ∷ ds)) ≡ None
   front_apart c d ds cs vd v t wd a h =
       let p = run_parts cs v a in
       let w = walk_run cs in
@@ -246,7 +246,7 @@ module _ (column : ℕ) where
       ∙ rw (white_apart d ds p.first p.others vd p.scalar wd p.white)
 
   unseen_apart : (c d : ℕ) (ds cs : List ℕ) → ScalarValue d → ScalarValues cs → is_fold c ≡ true → holds_newline (white_space_run cs) ≡ true → is_white_space d ≡ false
-      → holds_newline (ascii_front (white_space_run cs)) ≡ false → plain_taken column (encode_all cs) (c ∷ encode_all (d ∷ ds)) ≡ none
+      → holds_newline (ascii_front (white_space_run cs)) ≡ false → plain_taken column (encode_all cs) (c ∷ encode_all (d ∷ ds)) ≡ None
   unfolding white_space_run holds_newline ascii_front
   unseen_apart c d ds [] vd v f r wd h = absurd (clash (sym r))
   unseen_apart c d ds (x ∷ xs) vd v f r wd h =
@@ -292,7 +292,7 @@ module _ (column : ℕ) where
       ∙ ap (λ (l : List ℕ). more_taken (length (white_run (encode_all cs))) (plain_taken column l (encode_all (d ∷ ds)))) rest
       ∙ ap (more_taken (length (white_run (encode_all cs)))) r
       ∙ more_if (length (white_run (encode_all cs))) (m + past) (reads_alike (d ∷ ds) (after_run cs))
-      ∙ ap (λ (j : ℕ). cond (reads_alike (d ∷ ds) (after_run cs)) (some j) none) k))
+      ∙ ap (λ (j : ℕ). cond (reads_alike (d ∷ ds) (after_run cs)) (Some j) None) k))
       (λ e.
       rw e
       (by_answer (holds_newline (ascii_front run))
@@ -351,15 +351,15 @@ module _ (column : ℕ) where
 
 -- ---- what is known of a reading by what it takes
 
-pub taken_found : (o : Option (List Step)) (t : Bool) (k : ℕ) → source_taken o ≡ cond t (some k) none → is_some o ≡ t
-taken_found none true k e = absurd (none-ne-some k e)
-taken_found none false k e = refl
-taken_found (some ts) true k e = refl
-taken_found (some ts) false k e = absurd (none-ne-some (source_lens ts) (sym e))
+pub taken_found : (o : Option (List Step)) (t : Bool) (k : ℕ) → source_taken o ≡ cond t (Some k) None → is_some o ≡ t
+taken_found None true k e = absurd (none-some k e)
+taken_found None false k e = refl
+taken_found (Some ts) true k e = refl
+taken_found (Some ts) false k e = absurd (none-some (source_lens ts) (sym e))
 
-pub taken_ends : (ts : List Step) (t : Bool) (k : ℕ) → source_taken (some ts) ≡ cond t (some k) none → source_lens ts ≡ k
-taken_ends ts true k e = some-injective (source_lens ts) k e
-taken_ends ts false k e = absurd (none-ne-some (source_lens ts) (sym e))
+pub taken_ends : (ts : List Step) (t : Bool) (k : ℕ) → source_taken (Some ts) ≡ cond t (Some k) None → source_lens ts ≡ k
+taken_ends ts true k e = same_Some (source_lens ts) k e
+taken_ends ts false k e = absurd (none-some (source_lens ts) (sym e))
 
 -- ---- where pieces end
 
@@ -378,7 +378,7 @@ steps_end at len s v first [] r = sym (add-zero first)
 steps_end at len s v first (Verbatim n ∷ ts) r = steps_end at len (s + n) (v + n) (first + n) ts r.2 ∙ add_assoc first n (source_lens ts)
 steps_end at len s v first (Replacement a b ∷ ts) r = steps_end at len (s + a) (v + b) (first + a) ts r.2 ∙ add_assoc first a (source_lens ts)
 
-pub reading_end : (r : Rules) {reach : EscapeReach} → FairTable r.escapes reach → (src val : List ℕ) (first : ℕ) (ts : List Step) → reading_of r src val ≡ some ts
+pub reading_end : (r : Rules) {reach : EscapeReach} → FairTable r.escapes reach → (src val : List ℕ) (first : ℕ) (ts : List Step) → reading_of r src val ≡ Some ts
     → pieces_end first (pieces_of first ts) ≡ first + source_lens ts
 unfolding pieces_of
 reading_end r fair src val first ts e =
@@ -392,16 +392,16 @@ plain_list text start len value column b = rw (boundary_is b)
 
 pub some_pieces : (first : ℕ) (o : Option (List Step)) → is_some (pieces_if first o) ≡ is_some o
 unfolding pieces_if
-some_pieces first none = refl
-some_pieces first (some ts) = refl
+some_pieces first None = refl
+some_pieces first (Some ts) = refl
 
 -- pieces are those of a reading
 pub record Pieces (first : ℕ) (o : Option (List Step)) (ps : List Piece) : Type 0 where
   pub steps : List Step
-  pub is : o ≡ some steps
+  pub is : o ≡ Some steps
   pub are : ps ≡ pieces_of first steps
 
-pub of_reading : (first : ℕ) (o : Option (List Step)) (ps : List Piece) → pieces_if first o ≡ some ps → Pieces first o ps
+pub of_reading : (first : ℕ) (o : Option (List Step)) (ps : List Piece) → pieces_if first o ≡ Some ps → Pieces first o ps
 unfolding pieces_if
-of_reading first none ps e = absurd (none-ne-some ps e)
-of_reading first (some ts) ps e = record { steps = ts; is = refl; are = sym (some-injective (pieces_of first ts) ps e) }
+of_reading first None ps e = absurd (none-some ps e)
+of_reading first (Some ts) ps e = record { steps = ts; is = refl; are = sym (same_Some (pieces_of first ts) ps e) }

@@ -1,12 +1,11 @@
 -- What the walk answers and leaves, where it ends: at the value's end with room or without, or stuck before it.
 use mathlib.Core.Path.{◌≡◌, sym, ap, ◌∙◌, subst}
 use mathlib.Core.List.{List}
-use mathlib.Core.Option.{Option, none, some}
 use Prim.Native.Nat.{ℕ, ◌≤◌, ◌<◌}
 use native.Mathlib.Omega.{arith}
 use lib.ListN.{length}
 use borrow.Author.Tests.{le-leb, lt-leb}
-use Rattle.std.specs.Prelude.{None}
+use Rattle.std.specs.Prelude.{None, Option, Some}
 use Rattle.provenance.specs.declared.step.Step.{Step}
 use Rattle.provenance.specs.declared.walk.Walked.{Walked}
 use Rattle.provenance.specs.declared.walk.Walked.TheVariants.{Listed, NoRoom, NoList}
@@ -39,7 +38,7 @@ module _ (r : Rules) {reach : EscapeReach} (fair : FairTable r.escapes reach) (s
     pub ends_stuck : v < length val → at s v ≡ None → (k : ℕ) (buf' : List ℕ) → k ≡ written_len n m → buf' ≡ cleared_to k buf → Ends NoList buf'
     unfolding pieces_if answer_of buffer_of
     ends_stuck more e k buf' ek eb =
-        let none_found : reading_of r src val ≡ none = no_reading_found r fair src val (on_none reach at (length src) (length val) base m walk_fair buf s v from n h more e) in
+        let none_found : reading_of r src val ≡ None = no_reading_found r fair src val (on_none reach at (length src) (length val) base m walk_fair buf s v from n h more e) in
         let z : cleared_to k buf ≡ zeros m = clear_all m h.written buf k h.held (ek ∙ ap (λ (j : ℕ). written_len j m) (sym h.count)) in
         (rw none_found, rw none_found (eb ∙ z))
 
@@ -50,9 +49,9 @@ module _ (r : Rules) {reach : EscapeReach} (fair : FairTable r.escapes reach) (s
       reads : IsReading at (length val) 0 0 ts
       reads = (at_end reach at (length src) (length val) base m walk_fair buf s v from n h end).1
 
-      list_is : result ≡ some (laid base base ts)
+      list_is : result ≡ Some (laid base base ts)
       unfolding pieces_if
-      list_is = ap (pieces_if base) (reading_is_found r fair src val ts reads) ∙ ap some (sym (laid_is at (length src) (length val) walk_fair base ts reads))
+      list_is = ap (pieces_if base) (reading_is_found r fair src val ts reads) ∙ ap Some (sym (laid_is at (length src) (length val) walk_fair base ts reads))
 
       count_is : length (laid base base ts) ≡ count_open n from s
       count_is = end_count reach at (length src) (length val) base m walk_fair buf s v from n h end

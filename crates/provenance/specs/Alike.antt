@@ -2,8 +2,7 @@
 -- at white space of two or more bytes: of a run the walk sees only the ASCII characters before it. They part at a tab of the value too:
 -- to the measure it is a character like any other, to the walk it begins a break, which takes nothing of the value. What holds of a
 -- scalar that is measured is in `Measured`.
-use Rattle.std.specs.Prelude.{ℕ, ◌+◌, Bool, true, false, not, ◌&&◌, ◌||◌, cond, List, [], ◌∷◌, ltb, eqb, length, drop}
-use Rattle.std.proofs.Math.Option.{Option, none, some}
+use Rattle.std.specs.Prelude.{ℕ, ◌+◌, Bool, true, not, ◌&&◌, ◌||◌, cond, List, [], ◌∷◌, ltb, eqb, length, drop, None, Option, Some}
 use Rattle.utf8.specs.Ascii.{tab}
 use Rattle.utf8.specs.Utf8.{is_ascii}
 use Rattle.utf8.specs.WhiteSpace.{is_white_space}
@@ -52,17 +51,13 @@ source_lens (t ∷ ts) = source_len t + source_lens ts
 
 -- and a reading, if there is one
 abbrev pub source_taken : Option (List Step) → Option ℕ
-source_taken none = none
-source_taken (some ts) = some (source_lens ts)
+source_taken None = None
+source_taken (Some ts) = Some (source_lens ts)
 
 -- where pieces end that begin at the place `first` of the text
 unfoldable pub pieces_end : ℕ → List Piece → ℕ
 pieces_end first [] = first
 pieces_end first (p ∷ ps) = pieces_end p.end ps
-
-abbrev pub is_some : {A : Type 0} → Option A → Bool
-is_some none = false
-is_some (some x) = true
 
 -- what is enough for it to go along: no tab in the value, and no white space of two or more bytes in the rest
 unfoldable pub no_tabs : List ℕ → Bool

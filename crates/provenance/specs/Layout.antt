@@ -1,8 +1,7 @@
 -- What a walk answers, and every number of the buffer that it was lent (S13, E3, E4). The buffer is lent zero and has `size` numbers;
 -- its room is whole pieces of four. A list that fits stands from entry 0, and zeros follow it. Without a list, and without room for
 -- all of it, the buffer is all zero.
-use Rattle.std.specs.Prelude.{cond, ℕ, ◌-◌, ◌*◌, ◌/◌, List, [], ◌∷◌, ◌++◌, leb, length, replicate}
-use Rattle.std.proofs.Math.Option.{Option, none, some}
+use Rattle.std.specs.Prelude.{cond, ℕ, ◌-◌, ◌*◌, ◌/◌, List, [], ◌∷◌, ◌++◌, leb, length, replicate, None, Option, Some}
 use Rattle.provenance.specs.declared.walk.Walked.{Walked}
 use Rattle.provenance.specs.declared.walk.Walked.TheVariants.{Listed, NoRoom, NoList}
 use Rattle.provenance.specs.declared.step.Step.{Step}
@@ -42,19 +41,19 @@ walked_number NoList = 0
 
 -- a piece list, or that there is none, as the walk answers it where so many pieces are let in
 unfoldable pub answer_of : ℕ → Option (List Piece) → Walked
-answer_of most none = NoList
-answer_of most (some ps) = cond (leb (length ps) most) (Listed (length ps)) NoRoom
+answer_of most None = NoList
+answer_of most (Some ps) = cond (leb (length ps) most) (Listed (length ps)) NoRoom
 
 -- the pieces that are left
 unfoldable pub left_of : ℕ → Option (List Piece) → List Piece
-left_of most none = []
-left_of most (some ps) = cond (leb (length ps) most) ps []
+left_of most None = []
+left_of most (Some ps) = cond (leb (length ps) most) ps []
 
 unfoldable pub buffer_of : ℕ → Option (List Piece) → List ℕ
-buffer_of size none = zeros size
-buffer_of size (some ps) = cond (leb (length ps) (room size)) (laid_pieces size ps) (zeros size)
+buffer_of size None = zeros size
+buffer_of size (Some ps) = cond (leb (length ps) (room size)) (laid_pieces size ps) (zeros size)
 
 -- the pieces of a reading, if there is one
 unfoldable pub pieces_if : ℕ → Option (List Step) → Option (List Piece)
-pieces_if base none = none
-pieces_if base (some ts) = some (pieces_of base ts)
+pieces_if base None = None
+pieces_if base (Some ts) = Some (pieces_of base ts)

@@ -20,6 +20,8 @@ pub mod Demand
 pub mod ReadingLaws
 -- what a table of escapes is asked for, and that those of the styles are so
 pub mod EscapeLaws
+-- a number that no style has goes as a block
+pub mod NumberLaws
 -- worked cases, K7 to K11 among them
 pub mod Examples
 -- where the walk of a plain scalar goes along with its measure

@@ -1,14 +1,13 @@
 -- How many source bytes the walk of a plain scalar takes, if it has a reading, from what is left of the source and of the value: over a
 -- break, over equal bytes, and where nothing fits.
-use Rattle.std.specs.Prelude.{◌≡◌, Bool, ◌&&◌, ◌⊎◌, Some, None, ltb, leb, eqb, take, drop, get_or}
+use Rattle.std.specs.Prelude.{◌≡◌, Bool, ◌&&◌, ◌⊎◌, Some, None, ltb, leb, eqb, take, drop, get_or, Option}
 use Rattle.std.specs.Option.{option_or}
 use Rattle.std.proofs.Math.Path.{refl, ap}
 use Rattle.std.proofs.Common.{sym, ◌∙◌, zero-add, add-zero, drop-drop}
 use Rattle.std.proofs.Math.Bool.{true, false, cond}
 use mathlib.Core.List.{List, [], ◌∷◌, ◌++◌}
 use Rattle.std.proofs.Math.Logic.{inl, inr, ⊎_elim}
-use Rattle.std.proofs.Math.Option.{Option, none, some}
-use Prim.{Unit, tt}
+use Prim.{Unit}
 use Prim.Native.Nat.{ℕ, zero, suc, ◌+◌, ◌-◌, ◌<◌}
 use native.Mathlib.Omega.{arith}
 use borrow.Author.Tests.{le-leb, lt-leb, lt-ltb, eqb-true, eqb-false, eq-eqb, ne_eqb}
@@ -28,7 +27,7 @@ use Rattle.provenance.specs.Grammar.{Rules, FittingStep, paired, break_pair, is_
 use Rattle.provenance.specs.Reading.{source_len, content_len, source_by, content_by, step_then, read_by, reading_of}
 use Rattle.provenance.specs.ReadingLaws.{read_from, from_start, reading_ends, reading_goes_on}
 use Rattle.provenance.specs.StepLaws.{same_true}
-use Rattle.provenance.specs.Tests.{by_test, by_answer, and_no}
+use Rattle.provenance.specs.Tests.{by_answer, and_no}
 use Rattle.provenance.specs.Alike.{source_lens, source_taken}
 
 -- ---- a reading from two places on is one of what is left
@@ -73,13 +72,13 @@ reading_on r fair src val h =
 -- ---- how many source bytes it takes
 
 abbrev pub more_taken : ℕ → Option ℕ → Option ℕ
-more_taken n none = none
-more_taken n (some m) = some (n + m)
+more_taken n None = None
+more_taken n (Some m) = Some (n + m)
 
 then_taken : (t : Step) (o : Option (List Step)) → source_taken (step_then (Some t) o) ≡ more_taken (source_len t) (source_taken o)
 unfolding source_lens
-then_taken t none = refl
-then_taken t (some ts) = refl
+then_taken t None = refl
+then_taken t (Some ts) = refl
 
 -- ---- runs and bytes
 
@@ -103,7 +102,7 @@ module _ (column : ℕ) where
   abbrev pub plain_taken : List ℕ → List ℕ → Option ℕ
   plain_taken src val = source_taken (reading_of (rules_of plain column) src val)
 
-  pub taken_end : (src : List ℕ) → plain_taken src [] ≡ some 0
+  pub taken_end : (src : List ℕ) → plain_taken src [] ≡ Some 0
   unfolding source_lens
   taken_end src = ap source_taken (from_start (rules_of plain column) (style_fair plain) src [] ∙ reading_ends (rules_of plain column) (style_fair plain) src [] 0 0 (omega arith))
 
@@ -112,7 +111,7 @@ module _ (column : ℕ) where
   taken_by src val t h e =
       ap source_taken (reading_on (rules_of plain column) (style_fair plain) src val h) ∙ rw e (then_taken t _)
 
-  taken_not : (src val : List ℕ) → 0 < length val → step (rules_of plain column) src val ≡ None → plain_taken src val ≡ none
+  taken_not : (src val : List ℕ) → 0 < length val → step (rules_of plain column) src val ≡ None → plain_taken src val ≡ None
   taken_not src val h e = ap source_taken (reading_on (rules_of plain column) (style_fair plain) src val h) ∙ rw e
 
   -- ---- a break
@@ -154,11 +153,11 @@ module _ (column : ℕ) where
   unfolding equal_step
   taken_same x src val e = taken_by (x ∷ src) (x ∷ val) (Verbatim 1) (omega arith) (step_unbroken (x ∷ src) x val e ∙ rw (eq-eqb x x refl))
 
-  pub taken_other : (x : ℕ) (src : List ℕ) (c : ℕ) (val : List ℕ) → is_break_byte c && holds_newline (white_run (x ∷ src)) ≡ false → (x ≡ c → ⊥) → plain_taken (x ∷ src) (c ∷ val) ≡ none
+  pub taken_other : (x : ℕ) (src : List ℕ) (c : ℕ) (val : List ℕ) → is_break_byte c && holds_newline (white_run (x ∷ src)) ≡ false → (x ≡ c → ⊥) → plain_taken (x ∷ src) (c ∷ val) ≡ None
   unfolding equal_step end_step
   taken_other x src c val e n = taken_not (x ∷ src) (c ∷ val) (omega arith) (step_unbroken (x ∷ src) c val e ∙ rw (ne_eqb x c n))
 
-  pub taken_nothing : (c : ℕ) (val : List ℕ) → (c ≡ newline → ⊥) → plain_taken [] (c ∷ val) ≡ none
+  pub taken_nothing : (c : ℕ) (val : List ℕ) → (c ≡ newline → ⊥) → plain_taken [] (c ∷ val) ≡ None
   unfolding equal_step end_step only_newlines white_run holds_newline
   taken_nothing c val n = taken_not [] (c ∷ val) (omega arith) (step_unbroken [] c val (and_no (is_break_byte c)) ∙ rw (ne_eqb c newline n))
 
@@ -168,17 +167,17 @@ module _ (column : ℕ) where
   taken_copied [] src val q = more_none (plain_taken src val)
     where
       more_none : (o : Option ℕ) → o ≡ more_taken 0 o
-      more_none none = refl
-      more_none (some n) = ap some (sym (zero-add n))
+      more_none None = refl
+      more_none (Some n) = ap Some (sym (zero-add n))
   taken_copied (b ∷ bs) src val q =
       taken_same b (bs ++ src) (bs ++ val) (rw q.0) ∙ ap (more_taken 1) (taken_copied bs src val q.1) ∙ more_twice (length bs) (plain_taken src val)
     where
       more_twice : (n : ℕ) (o : Option ℕ) → more_taken 1 (more_taken n o) ≡ more_taken (suc n) o
-      more_twice n none = refl
-      more_twice n (some m) = ap some (omega arith)
+      more_twice n None = refl
+      more_twice n (Some m) = ap Some (omega arith)
 
   -- they stand in the source, or there is no reading
-  pub copied_or_none : (bs src val : List ℕ) → Quiet bs → (plain_taken src (bs ++ val) ≡ none) ⊎ (src ≡ bs ++ drop (length bs) src)
+  pub copied_or_none : (bs src val : List ℕ) → Quiet bs → (plain_taken src (bs ++ val) ≡ None) ⊎ (src ≡ bs ++ drop (length bs) src)
   unfolding is_fold
   copied_or_none [] src val q = inr refl
   copied_or_none (b ∷ bs) [] val q = inl (taken_nothing b (bs ++ val) (λ e. clash (rw e at q.0)))

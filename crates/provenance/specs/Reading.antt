@@ -2,8 +2,7 @@
 -- places if each is the step that stands where those before it end, and the value place is at or past the value's end after the last.
 -- `IsReading` says so; `reading_of` computes the reading, if there is one. Its number of steps is bounded only so that it ends: that it finds
 -- exactly the readings, and the equations a reader expects of it, are in `ReadingLaws`. Nothing else looks at the bound.
-use Rattle.std.specs.Prelude.{ℕ, zero, suc, ◌+◌, ◌≤◌, ◌<◌, ◌≡◌, Bool, ◌&&◌, cond, Some, None, List, [], ◌∷◌, leb, eqb, length}
-use Rattle.std.proofs.Math.Option.{Option, none, some}
+use Rattle.std.specs.Prelude.{ℕ, zero, suc, ◌+◌, ◌≤◌, ◌<◌, ◌≡◌, Bool, ◌&&◌, cond, Some, None, List, [], ◌∷◌, leb, eqb, length, Option}
 use Rattle.provenance.specs.declared.step.Step.{Step}
 use Rattle.provenance.specs.declared.step.Step.TheVariants.{Verbatim, Replacement}
 use Rattle.provenance.specs.Grammar.{Rules, FittingStep, step_at}
@@ -38,14 +37,14 @@ content_by None = 0
 content_by (Some t) = content_len t
 
 abbrev pub step_then : FittingStep → Option (List Step) → Option (List Step)
-step_then None rest = none
-step_then (Some t) none = none
-step_then (Some t) (some ts) = some (t ∷ ts)
+step_then None rest = None
+step_then (Some t) None = None
+step_then (Some t) (Some ts) = Some (t ∷ ts)
 
 unfoldable pub read_by : ℕ → (ℕ → ℕ → FittingStep) → ℕ → ℕ → ℕ → Option (List Step)
-read_by zero at len s v = cond (leb len v) (some []) none
+read_by zero at len s v = cond (leb len v) (Some []) None
 read_by (suc most) at len s v =
-    cond (leb len v) (some []) (step_then (at s v) (read_by most at len (s + source_by (at s v)) (v + content_by (at s v))))
+    cond (leb len v) (Some []) (step_then (at s v) (read_by most at len (s + source_by (at s v)) (v + content_by (at s v))))
 
 unfoldable pub reading_of : Rules → List ℕ → List ℕ → Option (List Step)
 reading_of r src val = read_by (length src + length val) (step_at r src val) (length val) 0 0

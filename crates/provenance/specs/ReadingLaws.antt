@@ -1,9 +1,8 @@
 -- The function that contracts cite finds exactly the readings. Over any fair step function.
-use Rattle.std.specs.Prelude.{◌≡◌, Some, None}
+use Rattle.std.specs.Prelude.{◌≡◌, Some, None, Option}
 use Rattle.std.proofs.Math.Path.{refl, sym, ap, subst}
 use Rattle.std.proofs.Common.{◌∙◌, le-leb}
-use Rattle.std.proofs.Math.Option.{Option, none, some, none-ne-some, some-injective}
-use Rattle.std.proofs.lemmas.Option.{same_Some}
+use Rattle.std.proofs.lemmas.Option.{same_Some, none-some}
 use Rattle.std.proofs.Math.Logic.{⊎_elim}
 use mathlib.Core.List.{List, [], ◌∷◌}
 use Prim.Native.Nat.{ℕ, zero, suc, ◌+◌, ◌-◌, ◌≤◌, ◌<◌}
@@ -24,13 +23,13 @@ pub record Begun (at : FittingStep) (rest : Option (List Step)) (us : List Step)
   pub first : Step
   pub stands : at ≡ Some first
   pub others : List Step
-  pub others_are : rest ≡ some others
+  pub others_are : rest ≡ Some others
   pub all : us ≡ first ∷ others
 
-then_some : (t : FittingStep) (o : Option (List Step)) (us : List Step) → step_then t o ≡ some us → Begun t o us
-then_some None o us h = absurd (none-ne-some us h)
-then_some (Some t) none us h = absurd (none-ne-some us h)
-then_some (Some t) (some ts) us h = record { first = t; stands = refl; others = ts; others_are = refl; all = sym (some-injective _ us h) }
+then_some : (t : FittingStep) (o : Option (List Step)) (us : List Step) → step_then t o ≡ Some us → Begun t o us
+then_some None o us h = absurd (none-some us h)
+then_some (Some t) None us h = absurd (none-some us h)
+then_some (Some t) (Some ts) us h = record { first = t; stands = refl; others = ts; others_are = refl; all = sym (same_Some _ us h) }
 
 module _ (at : ℕ → ℕ → FittingStep) (len : ℕ) where
   -- two readings from the same places are the same
@@ -46,12 +45,12 @@ module _ (at : ℕ → ℕ → FittingStep) (len : ℕ) where
       cc
 
   -- what is found is a reading
-  pub found_reads : (most s v : ℕ) (ts : List Step) → read_by most at len s v ≡ some ts → IsReading at len s v ts
+  pub found_reads : (most s v : ℕ) (ts : List Step) → read_by most at len s v ≡ Some ts → IsReading at len s v ts
   unfolding read_by IsReading
   found_reads zero s v ts h =
       by_order v len
-      (λ lt. absurd (none-ne-some ts (rw (lt-leb _ _ lt) at h)))
-      (λ le. subst (λ (x : List Step). IsReading at len s v x) (some-injective [] ts (rw (le-leb _ _ le) at h)) le)
+      (λ lt. absurd (none-some ts (rw (lt-leb _ _ lt) at h)))
+      (λ le. subst (λ (x : List Step). IsReading at len s v x) (same_Some [] ts (rw (le-leb _ _ le) at h)) le)
   found_reads (suc most) s v ts h =
       by_order v len
       (λ lt.
@@ -59,16 +58,16 @@ module _ (at : ℕ → ℕ → FittingStep) (len : ℕ) where
       let r : IsReading at len (s + source_by (at s v)) (v + content_by (at s v)) g.others = found_reads most _ _ g.others g.others_are in
       subst (λ (x : List Step). IsReading at len s v x) (sym g.all)
       (lt, g.stands, subst (λ (t : FittingStep). IsReading at len (s + source_by t) (v + content_by t) g.others) g.stands r))
-      (λ le. subst (λ (x : List Step). IsReading at len s v x) (some-injective [] ts (rw (le-leb _ _ le) at h)) le)
+      (λ le. subst (λ (x : List Step). IsReading at len s v x) (same_Some [] ts (rw (le-leb _ _ le) at h)) le)
 
   -- and each of no more steps than that is found
-  pub reads_found : (most s v : ℕ) (ts : List Step) → length ts ≤ most → IsReading at len s v ts → read_by most at len s v ≡ some ts
+  pub reads_found : (most s v : ℕ) (ts : List Step) → length ts ≤ most → IsReading at len s v ts → read_by most at len s v ≡ Some ts
   unfolding read_by IsReading
   reads_found zero s v [] h r = rw (le-leb _ _ r)
   reads_found zero s v (t ∷ ts) h r = absurd (omega arith)
   reads_found (suc most) s v [] h r = rw (le-leb _ _ r)
   reads_found (suc most) s v (t ∷ ts) h r =
-      let q : read_by most at len (s + source_len t) (v + content_len t) ≡ some ts = reads_found most _ _ ts (omega arith) r.2 in
+      let q : read_by most at len (s + source_len t) (v + content_len t) ≡ Some ts = reads_found most _ _ ts (omega arith) r.2 in
       rw (lt-leb _ _ r.0, r.1, q)
 
   -- a reading takes no more steps than there are bytes
@@ -89,22 +88,22 @@ module _ (at : ℕ → ℕ → FittingStep) (len : ℕ) where
 
 module _ (r : Rules) {reach : EscapeReach} (fair : FairTable r.escapes reach) (src val : List ℕ) where
   -- the reading is found just if there is one
-  pub found_is_reading : (ts : List Step) → reading_of r src val ≡ some ts → Reading r src val ts
+  pub found_is_reading : (ts : List Step) → reading_of r src val ≡ Some ts → Reading r src val ts
   unfolding reading_of
   found_is_reading ts e = found_reads (step_at r src val) (length val) (length src + length val) 0 0 ts e
 
-  pub reading_is_found : (ts : List Step) → Reading r src val ts → reading_of r src val ≡ some ts
+  pub reading_is_found : (ts : List Step) → Reading r src val ts → reading_of r src val ≡ Some ts
   unfolding reading_of
   reading_is_found ts h =
       reads_found (step_at r src val) (length val) (length src + length val) 0 0 ts
       (let q = few_steps (step_at r src val) (length val) (length src) (grammar_fair r fair src val) 0 0 ts h in omega arith) h
 
-  pub no_reading_found : ((ts : List Step) → Reading r src val ts → ⊥) → reading_of r src val ≡ none
+  pub no_reading_found : ((ts : List Step) → Reading r src val ts → ⊥) → reading_of r src val ≡ None
   no_reading_found n = go (reading_of r src val) refl
     where
-      go : (o : Option (List Step)) → reading_of r src val ≡ o → reading_of r src val ≡ none
-      go none e = e
-      go (some ts) e = absurd (n ts (found_is_reading ts e))
+      go : (o : Option (List Step)) → reading_of r src val ≡ o → reading_of r src val ≡ None
+      go None e = e
+      go (Some ts) e = absurd (n ts (found_is_reading ts e))
 
 -- ---- the equations of the function
 
@@ -117,16 +116,16 @@ module _ (r : Rules) {reach : EscapeReach} (fair : FairTable r.escapes reach) (s
   unfolding reading_of read_from
   from_start = let e : length src + length val ≡ (length src - 0) + (length val - 0) = omega arith in ap (λ (k : ℕ). read_by k (step_at r src val) (length val) 0 0) e
 
-  from_reads : (s v : ℕ) (ts : List Step) → IsReading (step_at r src val) (length val) s v ts → read_from r src val s v ≡ some ts
+  from_reads : (s v : ℕ) (ts : List Step) → IsReading (step_at r src val) (length val) s v ts → read_from r src val s v ≡ Some ts
   unfolding read_from
   from_reads s v ts h = reads_found (step_at r src val) (length val) _ s v ts (few_steps (step_at r src val) (length val) (length src) (grammar_fair r fair src val) s v ts h) h
 
-  from_found : (s v : ℕ) (ts : List Step) → read_from r src val s v ≡ some ts → IsReading (step_at r src val) (length val) s v ts
+  from_found : (s v : ℕ) (ts : List Step) → read_from r src val s v ≡ Some ts → IsReading (step_at r src val) (length val) s v ts
   unfolding read_from
   from_found s v ts e = found_reads (step_at r src val) (length val) _ s v ts e
 
   -- nothing is left to read at the value's end
-  pub reading_ends : (s v : ℕ) → length val ≤ v → read_from r src val s v ≡ some []
+  pub reading_ends : (s v : ℕ) → length val ≤ v → read_from r src val s v ≡ Some []
   unfolding IsReading
   reading_ends s v h = from_reads s v [] h
 
@@ -143,13 +142,13 @@ module _ (r : Rules) {reach : EscapeReach} (fair : FairTable r.escapes reach) (s
       then_of x = step_then x (read_from r src val (s + source_by x) (v + content_by x))
 
       go : (o q : Option (List Step)) → read_from r src val s v ≡ o → then_of t ≡ q → o ≡ q
-      go none none e f = refl
-      go o (some us) e f =
+      go None None e f = refl
+      go o (Some us) e f =
           let g = then_some t _ us f in
-          let there = subst (λ (x : FittingStep). read_from r src val (s + source_by x) (v + content_by x) ≡ some g.others) g.stands g.others_are in
+          let there = subst (λ (x : FittingStep). read_from r src val (s + source_by x) (v + content_by x) ≡ Some g.others) g.stands g.others_are in
           let w : IsReading (step_at r src val) (length val) s v (g.first ∷ g.others) = (h, g.stands, from_found (s + source_len g.first) (v + content_len g.first) g.others there) in
-          sym e ∙ from_reads s v (g.first ∷ g.others) w ∙ ap some (sym g.all)
-      go (some []) none e f = absurd (let w : length val ≤ v = from_found s v [] e in omega arith)
-      go (some (u ∷ us)) none e f =
+          sym e ∙ from_reads s v (g.first ∷ g.others) w ∙ ap Some (sym g.all)
+      go (Some []) None e f = absurd (let w : length val ≤ v = from_found s v [] e in omega arith)
+      go (Some (u ∷ us)) None e f =
           let w = from_found s v (u ∷ us) e in
-          absurd (none-ne-some _ (sym f ∙ ap then_of w.1 ∙ ap (step_then (Some u)) (from_reads (s + source_len u) (v + content_len u) us w.2)))
+          absurd (none-some _ (sym f ∙ ap then_of w.1 ∙ ap (step_then (Some u)) (from_reads (s + source_len u) (v + content_len u) us w.2)))

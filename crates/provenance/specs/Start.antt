@@ -1,7 +1,6 @@
 -- Where the walk of a scalar starts (S14), and the scalar's piece list, if it has one. `start` is the scalar's start in the text and
 -- `len` the length of its span. The walk gets the rest of the text from its first byte on (F3).
-use Rattle.std.specs.Prelude.{ℕ, suc, ◌+◌, Bool, ◌&&◌, ◌||◌, cond, List, [], ◌∷◌, ltb, eqb, length, drop, get_or}
-use Rattle.std.proofs.Math.Option.{Option, none}
+use Rattle.std.specs.Prelude.{ℕ, suc, ◌+◌, Bool, ◌&&◌, ◌||◌, cond, List, [], ◌∷◌, ltb, eqb, length, drop, get_or, None, Option}
 use Rattle.utf8.specs.Boundary.{is_boundary}
 use Rattle.measure.specs.Scalar.{single_quoted, double_quoted}
 use Rattle.provenance.specs.Run.{only_newlines}
@@ -38,7 +37,7 @@ walk_start text start len value style =
 
 -- the piece list of a walk over the text from `first` on: none if that is past the text or inside a character, or without a reading
 unfoldable pub list_from : Rules → List ℕ → ℕ → List ℕ → Option (List Piece)
-list_from r text first value = cond (is_boundary text first) (pieces_if first (reading_of r (drop first text) value)) none
+list_from r text first value = cond (is_boundary text first) (pieces_if first (reading_of r (drop first text) value)) None
 
 unfoldable pub scalar_list : List ℕ → ℕ → ℕ → List ℕ → ℕ → ℕ → Option (List Piece)
 scalar_list text start len value style column = list_from (rules_of style column) text (walk_start text start len value style) value

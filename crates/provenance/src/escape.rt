@@ -1,6 +1,5 @@
 // Escapes: how many source bytes one takes, and how many content bytes it stands for. (01: `escape_len`; Piece grammar, step 2; P7.)
 ghost use Rattle.std.specs.Prelude.{◌≡◌, ◌≤◌, ◌<◌, IfSome, length, get_or};
-ghost use Rattle.text.specs.Admission.{text_limit};
 ghost use Rattle.style.specs.Style.{style_number};
 ghost use Rattle.utf8.specs.Utf8.{encode};
 ghost use Rattle.provenance.specs.Escape.{digits, radix16, code_content, is_one_of, one_byte_escapes, single_quote_escapes, backslash_escape, double_quote_escapes, escapes_of};
@@ -88,7 +87,6 @@ fn radix16(tail: &[u8]) -> Option<u32>
 // An escape in double quotes: `after` begins behind the backslash.
 #[tactic(auto, using(crate::specs::RunLaws::run_within), unfolding(crate::specs::Escape::backslash_escape, crate::specs::Counted::counted_run))]
 fn backslash_escape(after: &[u8]) -> Option<Escape>
-    requires { length after.now ≤ text_limit }
     ensures { result ≡ backslash_escape (get_or after.now 0 0) after.now }
 {
     let (source, content) = match byte_at(after, 0) {
@@ -118,7 +116,6 @@ fn single_quote_escape(tail: &[u8]) -> Option<Escape>
 // An escape in double quotes.
 #[tactic(auto, unfolding(crate::specs::Escape::double_quote_escapes))]
 fn double_quote_escape(tail: &[u8]) -> Option<Escape>
-    requires { length tail.now ≤ text_limit }
     ensures { result ≡ double_quote_escapes tail.now }
 {
     match tail {
@@ -130,7 +127,6 @@ fn double_quote_escape(tail: &[u8]) -> Option<Escape>
 // The escape that a source of this style begins with.
 #[tactic(auto, unfolding(crate::specs::Escape::escapes_of))]
 pub fn escape_len(tail: &[u8], style: Style) -> Option<Escape>
-    requires { length tail.now ≤ text_limit }
     ensures { result ≡ escapes_of (style_number style) tail.now }
 {
     match style {

@@ -51,12 +51,10 @@ pub fn white_run(tail: &[u8]) -> Run
 // How many bytes of a run a scalar takes: a block with a column above 0 ends it at most so many after its last newline.
 #[tactic(auto, unfolding(crate::specs::Counted::cut_len))]
 pub fn cut_len(run: Run, block: bool, column: usize) -> usize
-    requires { (run.last < 2 ^ 32) × (column < 2 ^ 32) }
     ensures { result ≡ cut_len block column run }
 {
     if block && 0 < column {
-        let end = run.last + column;
-        end.min(run.len)
+        run.last.saturating_add(column).min(run.len)
     } else {
         run.len
     }

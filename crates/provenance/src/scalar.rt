@@ -22,7 +22,8 @@ pub fn scalar_provenance(
     column: usize,
     pieces: &mut [u32],
 ) -> Walked
-    requires text_len_bound { (length text.now ≤ text_limit) × (length value.now ≤ text_limit) × (start + len ≤ length text.now) × (column < 2 ^ 32) }
+    requires short { (length text.now ≤ text_limit) × (length value.now ≤ text_limit) }
+    requires inside { start + len ≤ length text.now }
     requires pieces_zero { pieces.old ≡ zeros (length pieces.old) }
     ensures value { result ≡ answer_of (room (length pieces.old)) (scalar_list text.now start len value.now (style_number style) column) }
     ensures pieces_after { pieces.new ≡ buffer_of (length pieces.old) (scalar_list text.now start len value.now (style_number style) column) }

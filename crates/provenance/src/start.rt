@@ -1,7 +1,6 @@
 // Where a scalar's walk starts. (01: "The walk starts"; `at_empty_block_header`; S14.)
 ghost use Rattle.std.specs.Prelude.{◌≡◌, ◌+◌, ◌≤◌, length};
 ghost use Rattle.style.specs.Style.{style_number};
-ghost use Rattle.text.specs.Admission.{text_limit};
 ghost use Rattle.provenance.specs.Start.{is_quoted, is_header, at_empty_block_header, header_end, walk_start};
 
 use crate::run::{NEWLINE, only_newlines};
@@ -42,7 +41,7 @@ fn header_end(rest: &[u8], len: usize) -> usize
 // The first byte of the walk of a scalar that starts at `start` and spans `len` bytes. It may lie past the text or inside a character.
 #[tactic(auto, unfolding(crate::specs::Start::walk_start))]
 pub fn walk_start(text: &[u8], start: usize, len: usize, value: &[u8], style: Style) -> usize
-    requires { (length text.now ≤ text_limit) × (start + len ≤ length text.now) }
+    requires { start + len ≤ length text.now }
     ensures { result ≡ walk_start text.now start len value.now (style_number style) }
 {
     if is_quoted(style) {

@@ -95,7 +95,7 @@ impl Walk<'_> {
 
     // Step 1 over a run with a newline in it.
     fn break_step(self, s: usize, v: usize, run: Run) -> Step
-        requires src_len_bound { (length self.src.now ≤ text_limit) × (s ≤ length self.src.now) × (v ≤ length self.value.now) × (self.column < 2 ^ 32) }
+        requires bounds { (s ≤ length self.src.now) × (v ≤ length self.value.now) }
         requires run_value { run ≡ counted_run (drop s self.src.now) }
         ensures { result ≡ break_pair (is_block (style_number self.entry.style)) self.entry.column (white_run (drop s self.entry.src.now)) (drop v self.entry.value.now) }
     {
@@ -110,7 +110,7 @@ impl Walk<'_> {
 
     // The first step that fits. `run` is what step 1 looks at, or any run without a newline where that has none.
     pub fn step_at(self, s: usize, v: usize, run: Run) -> Option<Step>
-        requires src_len_bound { (length self.src.now ≤ text_limit) × (v < length self.value.now) × (self.column < 2 ^ 32) }
+        requires v_in_bounds { v < length self.value.now }
         requires tells { Tells run (is_block (style_number self.style)) (drop s self.src.now) (drop v self.value.now) }
         ensures { result ≡ step_at (rules_of (style_number self.entry.style) self.entry.column) self.entry.src.now self.entry.value.now s v }
     {

@@ -24,9 +24,10 @@ impl Walk<'_> {
     //
     // Past the room the walk goes on and only counts: whether there is a reading is not known before its end. No run of white space that
     // starts before `known` holds a newline, so none is looked at twice. After an equal byte come mostly letters, which are passed over at
-    // once. The loop goes by steps, of which each takes what it reads.
+    // once. The loop goes by steps, of which each takes what it reads. That the buffer is zero is asked here and in the calls above: a type for it
+    // would hold a `&mut`, and have to say in each contract that it keeps that one.
     pub fn walk_scalar_provenance(self, base: usize, pieces: &mut [u32]) -> Walked
-        requires src_len_bound { (length self.src.now ≤ text_limit) × (length self.value.now ≤ text_limit) × (base ≤ text_limit) × (self.column < 2 ^ 32) }
+        requires short { (length self.src.now ≤ text_limit) × (length self.value.now ≤ text_limit) × (base ≤ text_limit) }
         requires pieces_zero { pieces.old ≡ zeros (length pieces.old) }
         ensures value { result ≡ answer_of (room (length pieces.old)) (pieces_if base (reading_of (rules_of (style_number self.entry.style) self.entry.column) self.entry.src.now self.entry.value.now)) }
         ensures pieces_after { pieces.new ≡ buffer_of (length pieces.old) (pieces_if base (reading_of (rules_of (style_number self.entry.style) self.entry.column) self.entry.src.now self.entry.value.now)) }

@@ -7,7 +7,7 @@ ghost use Rattle.quarto_yaml.specs.None.{or_none, largest};
 
 use records::record::ABSENT;
 
-// The number, or none.
+// The number, or none. No `From`: that a number fits 32 bits is known of these places, and `From` cannot ask for it.
 fn or_none(place: Option<usize>) -> u32
     requires { AtMost largest place }
     ensures { result ≡ or_none place }

@@ -85,47 +85,51 @@ fn about_children(records: &[u32], n: usize, limit: usize, m: &mut Matcher<'_>)
     }
 }
 
-// The value of the key whose place and length stand at `at` of `keys`.
-#[tactic(auto, unfolding(crate::specs::Questions::about_key))]
-fn about_key(records: &[u32], events: &[u8], n: usize, keys: &[u8], at: usize, m: &mut Matcher<'_>)
-    ensures { m.new ≡ about_key records.now events.now n keys.now at m.old }
-{
-    if keys.len() <= at {
-        m.differ();
-        return;
-    }
-    let place = number_at(keys, at) as usize;
-    let len = number_at(keys, at + LENGTH_AT) as usize;
-    m.place(get_hash_value(records, events, n, bytes_at(events, place, len)));
+// What is asked: records, the event bytes that they name, and the places of the keys to ask for.
+#[derive(Clone, Copy)]
+pub struct Subject<'a> {
+    pub records: &'a [u32],
+    pub events: &'a [u8],
+    pub keys: &'a [u8],
 }
 
-// The values of all keys.
-#[tactic(auto, unfolding(crate::specs::Questions::first_keys))]
-fn about_keys(records: &[u32], events: &[u8], n: usize, keys: &[u8], m: &mut Matcher<'_>)
-    ensures { m.new ≡ about_keys records.now events.now n keys.now m.old }
-{
-    for at in (0..keys.len()).step_by(KEY_BYTES) {
-        about_key(records, events, n, keys, at, m);
+impl Subject<'_> {
+    // The value of the key whose place and length stand at `at` of the keys.
+    #[tactic(auto, unfolding(crate::specs::Questions::about_key))]
+    fn about_key(self, n: usize, at: usize, m: &mut Matcher<'_>)
+        ensures { m.new ≡ about_key self.entry.records.now self.entry.events.now n self.entry.keys.now at m.old }
+    {
+        if self.keys.len() <= at {
+            m.differ();
+            return;
+        }
+        let place = number_at(self.keys, at) as usize;
+        let len = number_at(self.keys, at + LENGTH_AT) as usize;
+        let key = bytes_at(self.events, place, len);
+        m.place(get_hash_value(self.records, self.events, n, key));
     }
-}
 
-// All questions about record `n`. A record that is no hash is asked for the first key alone.
-#[tactic(auto, unfolding(crate::specs::Questions::about_record))]
-pub fn about(
-    records: &[u32],
-    events: &[u8],
-    n: usize,
-    limit: usize,
-    keys: &[u8],
-    m: &mut Matcher<'_>,
-)
-    ensures { m.new ≡ about_record records.now events.now n limit keys.now m.old }
-{
-    about_itself(records, n, m);
-    about_children(records, n, limit, m);
-    if is_hash_there(records, n) {
-        about_keys(records, events, n, keys, m);
-    } else {
-        about_key(records, events, n, keys, 0, m);
+    // The values of all keys.
+    #[tactic(auto, unfolding(crate::specs::Questions::first_keys))]
+    fn about_keys(self, n: usize, m: &mut Matcher<'_>)
+        ensures { m.new ≡ about_keys self.entry.records.now self.entry.events.now n self.entry.keys.now m.old }
+    {
+        for at in (0..self.keys.len()).step_by(KEY_BYTES) {
+            self.about_key(n, at, m);
+        }
+    }
+
+    // All questions about record `n`. A record that is no hash is asked for the first key alone.
+    #[tactic(auto, unfolding(crate::specs::Questions::about_record))]
+    pub fn about(self, n: usize, limit: usize, m: &mut Matcher<'_>)
+        ensures { m.new ≡ about_record self.entry.records.now self.entry.events.now n limit self.entry.keys.now m.old }
+    {
+        about_itself(self.records, n, m);
+        about_children(self.records, n, limit, m);
+        if is_hash_there(self.records, n) {
+            self.about_keys(n, m);
+        } else {
+            self.about_key(n, 0, m);
+        }
     }
 }

@@ -9,7 +9,7 @@ use records::record::RECORD_WIDTH;
 use replay::case::{Case, case_of, number_at, numbers};
 use replay::tally::{Verdict, verdict_of};
 use replay_accessors::matched::Matcher;
-use replay_accessors::questions::{about, at_index};
+use replay_accessors::questions::{Subject, at_index};
 use std::io;
 
 // The bytes of a number.
@@ -38,9 +38,14 @@ fn same_steps(records: &[u32], n: usize, m: &mut Matcher<'_>) {
 // Whether the accessors answer on this buffer what the case says.
 fn read_the_same(case: Case<'_>, records: &[u32]) -> bool {
     let mut m = Matcher::new(case.records);
+    let subject = Subject {
+        records,
+        events: case.events,
+        keys: case.pieces,
+    };
     let end = records.len() / RECORD_WIDTH + 2;
     for n in (0..end).chain([FAR, FARTHEST]) {
-        about(records, case.events, n, LIMIT, case.pieces, &mut m);
+        subject.about(n, LIMIT, &mut m);
         same_steps(records, n, &mut m);
     }
     m.is_whole()

@@ -6,7 +6,7 @@ use measure::scalar::scalar_len;
 use replay::case::{Case, bytes_at, case_of, number_at};
 use replay::tally::{Verdict, verdict_of};
 use std::io;
-use utf8::utf8::is_utf8;
+use utf8::utf8::Utf8Bytes;
 
 // Where a record's span stands, in bytes.
 const START_AT: usize = 4;
@@ -29,13 +29,12 @@ fn same_span(case: Case<'_>) -> bool {
     };
     let start = number_at(case.records, START_AT) as usize;
     let end = number_at(case.records, END_AT) as usize;
-    let Some(rest) = case.text.get(start..) else {
+    let Some(rest) = case.text.get(start..).and_then(Utf8Bytes::new) else {
         return false;
     };
-    let value = bytes_at(case.events, value.at, value.len);
-    if !is_utf8(rest) || !is_utf8(value) {
+    let Some(value) = Utf8Bytes::new(bytes_at(case.events, value.at, value.len)) else {
         return false;
-    }
+    };
     let len = scalar_len(rest, value, style, empty_span, column as usize).len;
     end.checked_sub(start) == Some(len)
 }

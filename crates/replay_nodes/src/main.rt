@@ -9,7 +9,7 @@ use parser::build::build;
 use replay::case::{Case, Returned, case_of, numbers};
 use replay::tally::{Verdict, verdict_of};
 use replay_accessors::matched::Matcher;
-use replay_accessors::questions::{about, is_hash_there, len_or_zero};
+use replay_accessors::questions::{Subject, is_hash_there, len_or_zero};
 use std::io;
 
 // All children of a collection are asked for by index.
@@ -48,12 +48,12 @@ fn same_children(records: &[u32], n: usize, m: &mut Matcher<'_>) {
 }
 
 // Whether the accessors answer on so many nodes what the list says: each record, and the one past the last.
-fn read_the_same(records: &[u32], events: &[u8], nodes: usize, keys: &[u8], list: &[u8]) -> bool {
+fn read_the_same(subject: Subject<'_>, nodes: usize, list: &[u8]) -> bool {
     let mut m = Matcher::new(list);
-    m.place(record_before(records, nodes));
+    m.place(record_before(subject.records, nodes));
     for n in 0..=nodes {
-        about(records, events, n, NO_LIMIT, keys, &mut m);
-        same_children(records, n, &mut m);
+        subject.about(n, NO_LIMIT, &mut m);
+        same_children(subject.records, n, &mut m);
     }
     m.is_whole()
 }
@@ -67,8 +67,12 @@ fn built_the_same(case: Case<'_>, records: &mut [u32], pieces: &mut [u32]) -> bo
                 first: nodes,
                 second: pieces,
             };
-            case.returned == Some(returned)
-                && read_the_same(records, case.events, nodes, case.pieces, case.records)
+            let subject = Subject {
+                records,
+                events: case.events,
+                keys: case.pieces,
+            };
+            case.returned == Some(returned) && read_the_same(subject, nodes, case.records)
         }
         Err(Refused { refusal, place }) => {
             let returned = Returned {

@@ -1,14 +1,11 @@
 // Replays the original's tag spans: each record with a tag has the tag's span and the suffix's length.
 #![tactic(auto)]
 
-ghost use Rattle.std.specs.Prelude.{◌≡◌, true};
-ghost use Rattle.utf8.specs.Characters.{is_utf8};
-
 use replay::case::{case_of, number_at};
 use replay::tally::{Verdict, judged};
 use std::io;
 use tag::property::{TagSpan, make_tag_info};
-use utf8::utf8::{is_boundary, is_utf8};
+use utf8::utf8::{Place, Utf8Bytes, is_boundary};
 
 // A record's bytes, and where its span start, its tag span and the length of its tag's suffix stand in them.
 const RECORD_BYTES: usize = 48;
@@ -22,20 +19,18 @@ const SUFFIX_LEN_AT: usize = 24;
 const NO_TAG: u32 = 0xffff_ffff;
 
 // Whether the tag of a record, if it has one, is found, or guessed, where the record says.
-fn same_tag(text: &[u8], record: &[u8]) -> bool
-    requires { is_utf8 text.now ≡ true }
-{
+fn same_tag(text: Utf8Bytes<'_>, record: &[u8]) -> bool {
     let tag_start = number_at(record, TAG_AT);
     if tag_start == NO_TAG {
         return true;
     }
-    let start = number_at(record, START_AT) as usize;
-    if !is_boundary(text, start) {
+    let at = number_at(record, START_AT) as usize;
+    if !is_boundary(text.bytes, at) {
         return false;
     }
     let suffix = number_at(record, SUFFIX_LEN_AT) as usize;
     let tag_end = number_at(record, TAG_AT + 4);
-    make_tag_info(text, start, suffix)
+    make_tag_info(Place { text, at }, suffix)
         == TagSpan {
             start: tag_start as usize,
             end: tag_end as usize,
@@ -44,11 +39,11 @@ fn same_tag(text: &[u8], record: &[u8]) -> bool
 
 fn verdict(bytes: &[u8]) -> Verdict {
     let case = case_of(bytes);
-    if !is_utf8(case.text) {
+    let Some(text) = Utf8Bytes::new(case.text) else {
         return Verdict::Different;
-    }
+    };
     let mut records = case.records.chunks(RECORD_BYTES);
-    judged(records.all(|record| same_tag(case.text, record)))
+    judged(records.all(|record| same_tag(text, record)))
 }
 
 fn main(rt: HostRuntime) -> io::Result<()> {

@@ -7,7 +7,7 @@ use replay::case::{Case, Returned, case_of, numbers, same_numbers};
 use replay::tally::{Verdict, verdict_of};
 use std::io;
 
-// What is returned, as a list says it.
+// What is returned, as a list says it. replay_nodes has the same: `replay`, which both stand on, knows no parser.
 fn returned(answer: Result<Built, Refused>) -> Returned {
     match answer {
         Ok(Built { nodes, pieces }) => Returned {

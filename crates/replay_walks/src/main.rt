@@ -53,6 +53,7 @@ fn read_the_same(case: Case<'_>, pieces: &mut [u32]) -> bool {
         return false;
     };
     let value = bytes_at(case.events, value.at, value.len);
+    let style = u8::from(style);
     let same = match scalar(case.text, index, column, style, empty_span, value, pieces) {
         Ok(built) => {
             returned.code == 0

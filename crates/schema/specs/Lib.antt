@@ -22,6 +22,8 @@ pub mod Record
 pub mod Matcher
 -- the theorems' types
 pub mod Statements
+-- a scalar by any number for its style
+pub mod TagLaws
 -- worked examples
 pub mod Examples
 -- For speed only: how fast paths are told. Nothing of 01 rests on them.

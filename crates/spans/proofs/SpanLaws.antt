@@ -1,9 +1,7 @@
 -- Where spans start and end: at boundaries, within the text. And a scalar's pieces are those of the walk from document 01's first byte.
-use Rattle.std.specs.Prelude.{◌≡◌, refl, Bool, true, false, ◌&&◌, not, cond, List, ℕ, ◌+◌, ◌-◌, ◌≤◌, ◌<◌, eqb, ltb, length, get_or, drop, take, Option, None, Some}
+use Rattle.std.specs.Prelude.{is_some, ◌≡◌, refl, Bool, true, false, ◌&&◌, not, cond, List, ℕ, ◌+◌, ◌-◌, ◌≤◌, ◌<◌, eqb, ltb, length, get_or, drop, Option, None, Some}
 use Rattle.std.proofs.Common.{sym, ◌∙◌, subst, arith, lt-ltb, eqb-true, length-drop, length-take, drop-cons, get_or-drop}
 use Rattle.std.proofs.Math.Path.{ap}
-use Rattle.std.proofs.lemmas.List.{take_rest}
-use Rattle.std.proofs.Math.Option.{some}
 use Rattle.std.proofs.Math.Decide.{dec_lt}
 use Rattle.std.proofs.Math.ListN.{get_or-eq_default}
 use Rattle.utf8.specs.Utf8.{Utf8}
@@ -27,13 +25,12 @@ use Rattle.event.specs.declared.tag.YamlTag.{YamlTag}
 use Rattle.provenance.specs.Grammar.{rules_of}
 use Rattle.provenance.specs.Reading.{Piece}
 use Rattle.provenance.specs.Start.{list_from, scalar_list}
-use Rattle.provenance.specs.Alike.{reads_alike, past_span, pieces_end, is_some}
+use Rattle.provenance.specs.Alike.{reads_alike, past_span, pieces_end}
 use Rattle.provenance.proofs.Measured.{pieces_list, pieces_end_at}
-use Rattle.spans.specs.Scalar.{ScalarAt, step_past, colon, scalar_start, start_at, scalar_at, span_measure, span_len, list_at, walk_first, scalar_over, event_node}
+use Rattle.spans.specs.Scalar.{Mark, ScalarAt, step_past, colon, scalar_start, start_at, scalar_at, span_measure, span_len, list_at, walk_first, scalar_over, event_node}
 use Rattle.spans.specs.Collection.{open_brace, close_brace, close_bracket, collection_start, collection_end, collection_over, collection_node}
 use Rattle.spans.specs.Fits.{TagFits}
 use Rattle.spans.specs.declared.open.Open.{Open}
-use Rattle.spans.specs.Scalar.{Mark}
 
 -- ---- a step past a byte
 
@@ -92,11 +89,6 @@ span_within text x h = go (is_boundary text x.start)
     go : (t : Bool) → x.start + (cond t (scalar_measure (drop x.start text) x.value x.style x.empty_span x.column) (assumed 0)).len ≤ length text
     go true = let l : length (drop x.start text) ≡ length text - x.start = length-drop x.start text in omega arith
     go false = omega arith
-
--- ---- the rest of a text from a boundary on
-
-pub rest_utf8 : (text : List ℕ) (i : ℕ) → Utf8 text → Boundary text i → Utf8 (take (length text - i) (drop i text))
-rest_utf8 text i u b = rw (take_rest text i) (boundary_splits u b).back
 
 pub end_within : (text : List ℕ) (mapping : Bool) (i : ℕ) → i ≤ length text → collection_end text mapping i ≤ length text
 unfolding collection_end
@@ -189,5 +181,5 @@ module _ (text : List ℕ) (utf8 : Utf8 text) (x : ScalarAt) (on : Boundary text
     measured_list = ap is_some list_is ∙ pieces_list x.column (span_len text x) utf8 on value_utf8 reaches_span
 
     -- and its pieces then end so far past its span
-    pub measured_pieces_end : (ps : List Piece) → list_at text x ≡ some ps → pieces_end x.start ps ≡ x.start + (span_len text x + past_span (codes x.value) (codes rest))
+    pub measured_pieces_end : (ps : List Piece) → list_at text x ≡ Some ps → pieces_end x.start ps ≡ x.start + (span_len text x + past_span (codes x.value) (codes rest))
     measured_pieces_end ps e = pieces_end_at x.column (span_len text x) utf8 on value_utf8 reaches_span ps (sym list_is ∙ e)

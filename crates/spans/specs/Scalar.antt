@@ -1,7 +1,6 @@
 -- A scalar: where it starts (S1), how far it reaches, its tag, its pieces, and its record without them (E2). Measures, walk, resolution and
 -- tag search are cited from the layers below.
 use Rattle.std.specs.Prelude.{ℕ, ◌+◌, Bool, ◌&&◌, cond, List, eqb, length, get_or, drop, Option, Some, None, option_map}
-use Rattle.std.proofs.Math.Option as maybe
 use Rattle.utf8.specs.Boundary.{is_boundary}
 use Rattle.style.specs.Style.{style_number}
 use Rattle.text.specs.Offset.{byte_offset}
@@ -86,9 +85,9 @@ abbrev pub span_len : List ℕ → ScalarAt → ℕ
 span_len text x = (span_measure text x).len
 
 -- its pieces, if its walk gives a list
-unfoldable pub list_at : List ℕ → ScalarAt → maybe.Option (List Piece)
+unfoldable pub list_at : List ℕ → ScalarAt → Option (List Piece)
 list_at text x =
-    cond (is_boundary text x.start) (scalar_list text x.start (span_len text x) x.value x.style x.column) maybe.none
+    cond (is_boundary text x.start) (scalar_list text x.start (span_len text x) x.value x.style x.column) None
 
 -- the first byte of its walk, from the marker index on (P1, S1, S14); the span decides only where a block header has no newline
 unfoldable pub walk_first : List ℕ → Bool → Mark → List ℕ → ℕ

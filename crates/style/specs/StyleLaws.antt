@@ -1,6 +1,7 @@
 -- Styles and their numbers, there and back.
 use Rattle.std.specs.Prelude.{ℕ, zero, suc, ◌≡◌, refl, ◌≤◌, ◌<◌, Some}
-use Rattle.std.proofs.Common.{arith}
+use Rattle.std.proofs.Common.{arith, ap, sym, ◌∙◌}
+use Rattle.std.proofs.Math.Decide.{dec_lt}
 use Rattle.std.proofs.lemmas.Bool.{ne_eqb}
 use Rattle.style.specs.Style.{plain, single_quoted, double_quoted, literal, folded, style_number, style_numbered, style_of}
 use Rattle.style.specs.declared.Style.{Style}
@@ -46,10 +47,17 @@ known_back (suc (suc (suc (suc (suc n))))) h = absurd (omega arith)
 
 pub beyond_is_folded : (n : ℕ) → literal < n → style_of n ≡ Folded
 beyond_is_folded n h =
-    rw
-    (
+    rw (
       ne_eqb n 0 (λ e. absurd (omega arith)),
       ne_eqb n 1 (λ e. absurd (omega arith)),
       ne_eqb n 2 (λ e. absurd (omega arith)),
       ne_eqb n 3 (λ e. absurd (omega arith)),
     )
+
+-- what takes every number past 4 as it takes 4 takes every number as its style's
+pub as_style : {A : Type 0} (f : ℕ → A) → ((n : ℕ) → folded < n → f n ≡ f folded) → (n : ℕ) → f n ≡ f (style_number (style_of n))
+as_style f past n = go (dec_lt folded n)
+  where
+    go : Dec (folded < n) → f n ≡ f (style_number (style_of n))
+    go (yes h) = past n h ∙ ap (λ s. f (style_number s)) (sym (beyond_is_folded n (omega arith)))
+    go (no h) = ap f (sym (known_back n (omega arith)))

@@ -16,9 +16,6 @@ pub record Going (kind : ℕ → Bool) (s : List ℕ) (i j : ℕ) : Type 0 where
   pub edge : Boundary s j
   pub same : skip kind (chars_before s j) ≡ skip kind (chars_before s i)
 
-pub going_start : (kind : ℕ → Bool) {s : List ℕ} {i : ℕ} → Boundary s i → Going kind s i i
-going_start kind b = record { edge = b; same = refl }
-
 -- where nothing is left to skip, the way ends
 ends : {kind : ℕ → Bool} {s : List ℕ} {i j : ℕ} → Utf8 s → Going kind s i j → skip kind (chars_before s j) ≡ chars_before s j → j ≡ back_over kind s i
 unfolding back_over

@@ -276,9 +276,6 @@ pub record LastToken (s : List ℕ) (i : ℕ) (a e : ℕ) : Type 0 where
   pub are : tokens_before s i ≡ with_word (last_word s i) (chars_before s a) (tokens_before s a)
   pub none : length (last_word s i) ≡ 0 → tokens_before s i ≡ []
 
-pub end_boundary : {s : List ℕ} {i e : ℕ} → Utf8 s → Boundary s i → e ≡ token_end s i → Boundary s e
-end_boundary u b he = rw he (back_over_lem is_white_space u b).edge
-
 pub last_token : {s : List ℕ} {i e a : ℕ} → Utf8 s → Boundary s i → e ≡ token_end s i → a ≡ token_start s e → LastToken s i a e
 unfolding tokens_before last_word
 last_token {s} {i} u b he ha = rw (ha, he) last

@@ -12,17 +12,15 @@ pub fn back_over<'a, F: Fn(u32) -> bool>(place: Place<'a>, kind: F) -> Place<'a>
     ensures same_text { result.text.bytes.now ≡ place.entry.text.bytes.now }
     ensures value { (test : ℕ → Bool) → Tells (F.post kind) test → result.at ≡ back_over test place.entry.text.bytes.now place.entry.at }
 {
-    let mut place = place;
-    while let Some(c) = place.last_char() {
+    let text = place.text;
+    let mut at = place.at;
+    while let Some(c) = (Place { text, at }).last_char() {
         if !kind(c.code) {
             break;
         }
-        place = Place {
-            text: place.text,
-            at: place.at - c.len,
-        };
+        at -= c.len;
     }
-    place
+    Place { text, at }
 }
 
 // Whether `b` is `[`, `{` or `,`.

@@ -91,7 +91,9 @@ fn multi_byte(a: u8, b: u8, c: u8, d: u8) -> Option<Char>
     }
 }
 
-// The character that the bytes from `i` on begin with; none at the end, past it, and where the bytes are no UTF-8.
+// The character that the bytes from `i` on begin with; none at the end, past it, and where the bytes are no UTF-8. In line: an Option of a
+// character is handed back through memory.
+#[inline(always)]
 pub fn first_char(s: &[u8], i: usize) -> Option<Char>
     ensures { result ≡ some_char (first_char (drop i s.now)) }
 {

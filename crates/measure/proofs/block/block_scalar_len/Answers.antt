@@ -1,14 +1,12 @@
-use mathlib.Core.Path.{◌≡◌, ◌∙◌, ap}
+use mathlib.Core.Path.{◌≡◌}
 use mathlib.Core.List.{List}
 use Prim.Native.Nat.{ℕ}
 use native.Mathlib.Omega.{arith}
 use lib.ListN.{drop}
 use Rattle.utf8.specs.Utf8.{Utf8}
 use Rattle.utf8.specs.Characters.{codes}
-use Rattle.utf8.proofs.Utf8Laws.{boundary_start}
+use Rattle.utf8.proofs.Utf8Laws.{boundary_start, utf8_sound}
 use Rattle.measure.specs.Counted.{line_of}
-use Rattle.letters.proofs.Chunks.{part_is}
-use Rattle.measure.proofs.Read.{part_utf8}
 use Rattle.measure.proofs.Blocks.{Fitting, line_fits, block_begins, block_at-end, block_ends, block_blank, block_content}
 use Rattle.measure.proofs.block.block_scalar_len.Goals as goal
 use Rattle.measure.proofs.block.block_scalar_len.Goals.{After-first_line-line, then-line-gt0+else-line-column, else-line-gt0}
@@ -16,28 +14,25 @@ use Rattle.measure.proofs.block.block_scalar_len.Goals.{After-first_line-line, t
 -- a line was read; what stands there
 module _ (c : After-first_line-line) where
   abbrev rest_now : List ℕ
-  rest_now = c.args.rest.now
+  rest_now = c.args.rest.bytes.now
 
   abbrev at_now : ℕ
   at_now = c.loop-at.at
 
   rest_utf8 : Utf8 rest_now
-  rest_utf8 = c.requires
+  rest_utf8 = utf8_sound _ c.args.rest.utf8
 
   line_here : c.first_line-line.result ≡ line_of (codes (drop at_now rest_now))
-  line_here = c.first_line-line.ensures ∙ ap (λ l. line_of (codes l)) (part_is rest_now at_now)
+  line_here = rw c.from.ensures at c.first_line-line.ensures
 
   fits_here : Fitting rest_now at_now c.first_line-line.result
   fits_here = line_fits rest_utf8 (c.loop-at.invariant.place c.loop-at-test.true) line_here
 
 pub overflow_add-at : goal.overflow_add-at
-overflow_add-at c = let f = line_fits c.requires (boundary_start c.requires) c.first_line-first.ensures in omega arith
+overflow_add-at c = let f = line_fits (utf8_sound _ c.args.rest.utf8) (boundary_start (utf8_sound _ c.args.rest.utf8)) c.first_line-first.ensures in omega arith
 
 pub loop-at-init : goal.loop-at-init
-loop-at-init c = block_begins c.args.column c.requires c.first_line-first.ensures
-
-pub first_line-line-requires : goal.first_line-line-requires
-first_line-line-requires c = part_utf8 c.requires (c.loop-at.invariant.place c.loop-at-test.true)
+loop-at-init c = block_begins c.args.column (utf8_sound _ c.args.rest.utf8) c.first_line-first.ensures
 
 pub returns-then-line-column : goal.returns-then-line-column
 returns-then-line-column c =

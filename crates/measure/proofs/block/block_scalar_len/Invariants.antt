@@ -6,7 +6,7 @@ use Rattle.measure.proofs.Blocks.{Measuring}
 use Rattle.measure.proofs.block.block_scalar_len.Given as goal
 
 abbrev pub invariant-loop-at : goal.invariant-loop-at
-invariant-loop-at l = Measuring l.rest l.column l.at l.end
+invariant-loop-at l = Measuring l.rest.bytes.now l.column l.at l.end
 
 abbrev pub decreases-loop-at : goal.decreases-loop-at
-decreases-loop-at l = length l.rest - l.at
+decreases-loop-at l = length l.rest.bytes.now - l.at

@@ -1,16 +1,16 @@
 use mathlib.Core.Path.{sym, ◌∙◌}
 use native.Mathlib.Omega.{arith}
-use Rattle.utf8.proofs.Utf8Laws.{CharAt}
+use Rattle.utf8.proofs.Utf8Laws.{CharAt, utf8_sound}
 use Rattle.measure.proofs.Read.{some_read, none_read}
 use Rattle.measure.proofs.Line.{line_begins, line_at_end, line_stops, line_leads, line_spaces, line_goes_on, line_letters}
 use Rattle.measure.proofs.block.first_line.Goals as goal
 use Rattle.measure.proofs.block.first_line.Goals.{In-Some}
 
-char_here : (c : In-Some) → CharAt c.args.tail.now c.loop-c.len c.in-Some.c
-char_here c = some_read c.requires c.loop-c.invariant.boundary c.in-Some.ensures
+char_here : (c : In-Some) → CharAt c.args.tail.bytes.now c.loop-c.len c.in-Some.c
+char_here c = some_read (utf8_sound _ c.args.tail.utf8) c.loop-c.invariant.boundary c.in-Some.ensures
 
 pub loop-c-init : goal.loop-c-init
-loop-c-init c = line_begins c.requires
+loop-c-init c = line_begins (utf8_sound _ c.args.tail.utf8)
 
 pub returns-then-c-eq-NEWLINE : goal.returns-then-c-eq-NEWLINE
 returns-then-c-eq-NEWLINE c = line_stops c.loop-c.invariant (char_here (goal.at.returns-then-c-eq-NEWLINE c).In-Some) c.if-c-eq-NEWLINE.true
@@ -39,7 +39,7 @@ pub loop-c-preserved : goal.loop-c-preserved
 loop-c-preserved c =
     let k = char_here (goal.at.loop-c-preserved c).In-Some in
     let on = line_goes_on c.loop-c.invariant k c.if-c-eq-NEWLINE.false (sym c.is_white_space.ensures ∙ c.if-is_white_space.false) in
-    line_letters c.requires (λ z. omega arith) on c.letters-len.ensures.letters
+    line_letters (utf8_sound _ c.args.tail.utf8) (λ z. omega arith) on c.letters-len.ensures.letters
 
 pub returns-in_default : goal.returns-in_default
-returns-in_default c = line_at_end c.loop-c.invariant (none_read c.requires c.loop-c.invariant.boundary c.in_default.ensures)
+returns-in_default c = line_at_end c.loop-c.invariant (none_read (utf8_sound _ c.args.tail.utf8) c.loop-c.invariant.boundary c.in_default.ensures)

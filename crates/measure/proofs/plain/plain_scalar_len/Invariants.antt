@@ -6,10 +6,10 @@ use Rattle.measure.proofs.Matches.{Equal, Matching}
 use Rattle.measure.proofs.plain.plain_scalar_len.Given as goal
 
 abbrev pub invariant-loop-k : goal.invariant-loop-k
-invariant-loop-k l = Equal l.rest l.at l.value l.v l.k
+invariant-loop-k l = Equal l.text l.at l.value l.v l.k
 
 abbrev pub invariant-characters : goal.invariant-characters
-invariant-characters l = Matching l.rest l.value l.at l.end l.known l.v
+invariant-characters l = Matching l.text l.value l.at l.end l.known l.v
 
 abbrev pub decreases-characters : goal.decreases-characters
 decreases-characters l = length l.value - l.v

@@ -6,7 +6,7 @@ use Rattle.measure.proofs.Runs.{CountingRun}
 use Rattle.measure.proofs.run.white_space_run.Given as goal
 
 abbrev pub invariant-loop-c : goal.invariant-loop-c
-invariant-loop-c l = CountingRun l.tail l.len l.newline
+invariant-loop-c l = CountingRun l.tail.bytes.now l.len l.newline
 
 abbrev pub decreases-loop-c : goal.decreases-loop-c
-decreases-loop-c l = length l.tail - l.len
+decreases-loop-c l = length l.tail.bytes.now - l.len

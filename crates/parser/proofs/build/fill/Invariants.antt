@@ -7,8 +7,8 @@ use Rattle.parser.proofs.build.fill.Given as goal
 
 abbrev pub invariant-loop-at : goal.invariant-loop-at
 invariant-loop-at l =
-    Head l.text.content.bytes.now l.events (length l.initial.records) (length l.initial.pieces) l.builder l.records l.pieces l.at l.number
+    Head l.document.text.content.bytes.now l.document.events.now (length l.initial.records) (length l.initial.pieces) l.builder l.records l.pieces l.at l.number
 
 abbrev pub decreases-loop-at : goal.decreases-loop-at
 decreases-loop-at l =
-    length l.events - l.at
+    length l.document.events.now - l.at

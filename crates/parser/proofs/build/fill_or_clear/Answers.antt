@@ -16,5 +16,5 @@ returns-else-is_err c =
     let l : n.result ≤ length p = omega arith in
     let part : length (take n.result p) ≡ n.result = length-take-le n.result p l in
     let filled = c.fill-r in
-    settled_built (length a.records.now) (length p) n.result e _ _ p (filled.auto.pieces ∙ part) c.requires.buffers_zero.1 _ filled.result
+    settled_built (length a.records.now) (length p) n.result e _ _ p (filled.auto.pieces ∙ part) c.requires.1 _ filled.result
     (sym c.is_err.ensures.value ∙ c.if-is_err.false) (rw (part, room_used (length p) n.result e) at filled.ensures)

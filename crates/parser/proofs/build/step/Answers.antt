@@ -5,4 +5,5 @@ use Rattle.parser.proofs.build.step.Goals as goal
 
 pub on_event-requires-clause-read : goal.on_event-requires-clause-read
 on_event-requires-clause-read c =
-    read_of c.args.events.now (λ k. (c.type_inv.events k).fits) c.requires.events_short c.args.at c.in_ok-e.e (sym c.read_event.ensures ∙ c.in_ok-e.was)
+    let document = c.args.document in
+    read_of document.events.now document.bytes document.short c.args.at c.in_ok-e.e (sym c.read_event.ensures ∙ c.in_ok-e.was)

@@ -2,24 +2,18 @@
 use mathlib.Core.Path.{ap}
 use lib.ListN.{length}
 use Rattle.utf8.proofs.Utf8Laws.{utf8_sound}
-use Rattle.text.proofs.OffsetLaws.{offset_boundary, stands_start}
-use Rattle.parser.proofs.Starts.{cursor_offset}
-use Rattle.parser.proofs.Wholes.{alone_counted, one_told, style_unknown}
+use Rattle.style.specs.StyleLaws.{style_known}
+use Rattle.spans.specs.Scalar.{mark_of}
+use Rattle.text.proofs.OffsetLaws.{stands_start}
+use Rattle.parser.proofs.Starts.{cursor_offset, cursor_boundary}
+use Rattle.parser.proofs.Wholes.{alone_counted, one_told}
 use Rattle.parser.proofs.one.one_scalar.Goals as goal
-
-pub returns-then-m-gt-FOLDED : goal.returns-then-m-gt-FOLDED
-returns-then-m-gt-FOLDED c =
-    let a = c.args in
-    style_unknown a.text.content.bytes.now a.m a.value.bytes.now (length a.pieces.now) _ c.if-m-gt-FOLDED.true c.requires.pieces_zero.0
 
 pub byte_offset_of_char-cursor-requires : goal.byte_offset_of_char-cursor-requires
 byte_offset_of_char-cursor-requires c = stands_start c.args.text.content.bytes.now
 
-pub walk_scalar-requires-clause-boundary : goal.walk_scalar-requires-clause-boundary
-walk_scalar-requires-clause-boundary c =
-    let text = c.args.text.content in
-    let cur = c.byte_offset_of_char-cursor in
-    rw (cursor_offset text.bytes.now c.args.m.index cur.result cur.ensures) (offset_boundary (utf8_sound _ text.utf8) c.args.m.index)
+pub invariant_of-start : goal.invariant_of-start
+invariant_of-start c = record { boundary = cursor_boundary (utf8_sound _ c.args.text.content.utf8) c.args.m.index _ c.byte_offset_of_char-cursor.ensures }
 
 pub alone-requires : goal.alone-requires
 alone-requires c =
@@ -35,5 +29,5 @@ returns c =
     let r = c.resolve_scalar-resolved in
     let x = c.walk_scalar in
     rw c.alone.ensures
-    (one_told (length a.pieces.now) c.requires.pieces_zero.1 x.new.pieces x.auto.pieces text a.m a.value.bytes.now cur.result.offset r.result x.result
-    c.if-m-gt-FOLDED.false e r.ensures x.ensures.value x.ensures.pieces_after)
+    (one_told (length a.pieces.now) c.requires.pieces_zero.1 x.new.pieces x.auto.pieces text (mark_of a.m) a.value.bytes.now cur.result.offset r.result x.result
+    (style_known a.m.style) e r.ensures x.ensures.value x.ensures.pieces_after)

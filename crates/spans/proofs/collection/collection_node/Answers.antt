@@ -2,9 +2,9 @@
 use Rattle.spans.proofs.SpanLaws.{collection_start_boundary, end_within}
 use Rattle.spans.proofs.collection.collection_node.Goals as goal
 
-pub collection_over-requires-clause-boundary : goal.collection_over-requires-clause-boundary
-collection_over-requires-clause-boundary c =
-    rw c.collection_start-start.ensures (collection_start_boundary c.args.text.bytes.now c.args.o c.requires.boundary.0 c.requires.boundary.1)
+pub invariant_of-start : goal.invariant_of-start
+invariant_of-start c =
+    record { boundary = rw c.collection_start.ensures (collection_start_boundary c.args.text.bytes.now c.args.o c.requires.boundary.0 c.requires.boundary.1) }
 
 pub collection_over-requires-clause-end_in_bounds : goal.collection_over-requires-clause-end_in_bounds
 collection_over-requires-clause-end_in_bounds c =

@@ -1,10 +1,9 @@
--- `event_scalar` meets its contract: the value is admitted, and the start is a boundary, as the tag's search and the walk ask; start, tag and
--- resolution are those of the definitions.
+-- `event_scalar` meets its contract: the value is admitted; start, tag and resolution are those of the definitions.
 use Rattle.std.proofs.Common.{refl, ◌∙◌}
-use Rattle.utf8.proofs.Utf8Laws.{utf8_sound, utf8_complete}
+use Rattle.utf8.proofs.Utf8Laws.{utf8_complete}
 use Rattle.text.specs.Admission.{text_limit}
 use Rattle.spans.specs.Scalar.{event_node}
-use Rattle.spans.proofs.SpanLaws.{offset_start, part_few}
+use Rattle.spans.proofs.SpanLaws.{part_few}
 use Rattle.spans.proofs.scalar.event_scalar.Goals as goal
 
 pub invariant_of-value : goal.invariant_of-value
@@ -15,17 +14,7 @@ invariant_of-value c =
       utf8 = rw c.bytes_in.ensures (utf8_complete fits.value.utf8);
     }
 
-pub tag_info-tag-requires : goal.tag_info-tag-requires
-tag_info-tag-requires c =
-    let a = c.args in
-    rw c.scalar_start-start.ensures (offset_start a.text.bytes.now (utf8_sound _ a.text.utf8) _ a.e.mark.style a.awaited a.at c.requires.boundary)
-
-pub walk_scalar-requires-clause-boundary : goal.walk_scalar-requires-clause-boundary
-walk_scalar-requires-clause-boundary c =
-    let a = c.args in
-    rw c.scalar_start-start.ensures (offset_start a.text.bytes.now (utf8_sound _ a.text.utf8) _ a.e.mark.style a.awaited a.at c.requires.boundary)
-
 pub returns-clause-value : goal.returns-clause-value
 unfolding event_node
 returns-clause-value c =
-    c.walk_scalar.ensures.value ∙ rw (c.resolve-resolved.ensures, c.tag_info-tag.ensures, c.suffix_of.ensures, c.scalar_start-start.ensures, c.bytes_in.ensures) refl
+    c.walk_scalar.ensures.value ∙ rw (c.resolve-resolved.ensures, c.tag_info-tag.ensures, c.suffix_of.ensures, c.scalar_start-start.ensures.same_text, c.scalar_start-start.ensures.value, c.bytes_in.ensures) refl

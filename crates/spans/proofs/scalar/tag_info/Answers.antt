@@ -17,17 +17,14 @@ span_fits text i n p u l on is =
     let end = rw (← is) at w.end in
     (omega arith, omega arith)
 
-pub make_tag_info-span-requires-clause-utf8 : goal.make_tag_info-span-requires-clause-utf8
-make_tag_info-span-requires-clause-utf8 c = utf8_sound _ c.args.text.utf8
-
 pub overflow_cast-result : goal.overflow_cast-result
 overflow_cast-result c =
     let p = c.make_tag_info-span in
-    let w : (p.result.start ≤ text_limit) × (p.result.end ≤ text_limit) = span_fits _ _ _ _ c.args.text.utf8 c.args.text.within c.requires p.ensures in
+    let w : (p.result.start ≤ text_limit) × (p.result.end ≤ text_limit) = span_fits _ _ _ _ c.args.start.text.utf8 c.args.start.text.within c.args.start.boundary (rw (c.place.ensures.0, c.place.ensures.1) at p.ensures) in
     omega (arith, w.0)
 
 pub overflow_cast-result-2 : goal.overflow_cast-result-2
 overflow_cast-result-2 c =
     let p = c.make_tag_info-span in
-    let w : (p.result.start ≤ text_limit) × (p.result.end ≤ text_limit) = span_fits _ _ _ _ c.args.text.utf8 c.args.text.within c.requires p.ensures in
+    let w : (p.result.start ≤ text_limit) × (p.result.end ≤ text_limit) = span_fits _ _ _ _ c.args.start.text.utf8 c.args.start.text.within c.args.start.boundary (rw (c.place.ensures.0, c.place.ensures.1) at p.ensures) in
     omega (arith, w.1)

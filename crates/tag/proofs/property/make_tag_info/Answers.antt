@@ -3,6 +3,7 @@ use Rattle.std.proofs.Common.{◌≡◌, sym, ◌∙◌, ap, false, List, ℕ, z
 use Rattle.std.proofs.lemmas.Bool.{false≢true}
 use Rattle.utf8.specs.Utf8.{Utf8}
 use Rattle.utf8.specs.Boundary.{Boundary}
+use Rattle.utf8.proofs.Utf8Laws.{utf8_sound}
 use Rattle.tag.specs.Tag.{span, tag_property, tag_offset, guess, tag_span}
 use Rattle.tag.proofs.TagLaws.{part_within, part_found, part_empty}
 use Rattle.tag.proofs.property.make_tag_info.Goals as goal
@@ -26,18 +27,15 @@ module _ {s p : List ℕ} {i : ℕ} (u : Utf8 s) (b : Boundary s i) (part : p �
 
 pub overflow_add-result : goal.overflow_add-result
 overflow_add-result c =
-    let pre = c.requires in
-    let within = fits pre.utf8 pre.boundary c.find_tag_span-property.ensures c.find_tag_offset-start.ensures in
+    let within = fits (utf8_sound _ c.args.node.text.utf8) c.args.node.boundary c.find_tag_span-property.ensures c.find_tag_offset-start.ensures in
     omega arith
 
 pub returns-then-not-is_empty : goal.returns-then-not-is_empty
 returns-then-not-is_empty c =
-    let pre = c.requires in
-    found pre.utf8 pre.boundary c.find_tag_span-property.ensures c.find_tag_offset-start.ensures (some _ (sym c.if-not-is_empty.ensures)) _
+    found (utf8_sound _ c.args.node.text.utf8) c.args.node.boundary c.find_tag_span-property.ensures c.find_tag_offset-start.ensures (some _ (sym c.if-not-is_empty.ensures)) _
 
 pub returns : goal.returns
 returns c =
-    let pre = c.requires in
-    let within = pre.boundary.within in
+    let within = c.args.node.boundary.within in
     let fits = c.well_formed in
-    guessed pre.utf8 pre.boundary c.find_tag_span-property.ensures (eqb-true _ _ (sym c.if-not-is_empty.ensures)) _ _ (omega arith)
+    guessed (utf8_sound _ c.args.node.text.utf8) c.args.node.boundary c.find_tag_span-property.ensures (eqb-true _ _ (sym c.if-not-is_empty.ensures)) _ _ (omega arith)

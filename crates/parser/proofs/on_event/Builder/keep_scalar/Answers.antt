@@ -14,7 +14,7 @@ pub returns-in-NoList : goal.returns-in-NoList
 returns-in-NoList c = λ text size pieces_size st p o y on h len answer buffer.
     let w = walks_of _ o NoList y (sym c.in-NoList.is ∙ answer) buffer in
     let same = walk_no_list h y len c.args.x.node o w in
-    rw (same.0, same.1) (moved_on _ _ _ st c.args.self.now _ _ _ _ h.nodes_are (c.push_complete.ensures text size pieces_size st p on h))
+    rw (same.0, same.1) (moved_on h _ _ _ _ (c.push_complete.ensures text size pieces_size st p on h))
 
 pub returns-in-Listed : goal.returns-in-Listed
 returns-in-Listed c = λ text size pieces_size st p o y on h len answer buffer.
@@ -23,5 +23,4 @@ returns-in-Listed c = λ text size pieces_size st p o y on h len answer buffer.
     let more = walk_listed h y len c.args.x.node o n w in
     let listed = c.with_list-node.ensures in
     rw (more.kept, ← listed)
-    (moved_on _ _ _ more.with_pieces_lem c.args.self.now _ _ _ _ more.held.nodes_are
-    (c.push_complete-in-Listed.ensures text size pieces_size more.with_pieces_lem _ (rw listed on) more.held))
+    (moved_on more.held _ _ _ _ (c.push_complete-in-Listed.ensures text size pieces_size more.with_pieces _ (rw listed on) more.held))

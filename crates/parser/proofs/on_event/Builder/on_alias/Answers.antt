@@ -1,26 +1,22 @@
 -- `on_alias` meets its contract: rows 5 and 7 by the counts; then its record is complete.
-use mathlib.Core.Path.{refl, sym, ◌∙◌}
+use mathlib.Core.Path.{sym, ◌∙◌}
 use native.Mathlib.Omega.{arith}
 use Rattle.utf8.proofs.Utf8Laws.{utf8_sound}
-use Rattle.text.proofs.OffsetLaws.{offset_boundary, cursor_stands}
-use Rattle.parser.proofs.Gates.{gate_shut, gate_open, handed_on}
-use Rattle.parser.proofs.Turns.{moved_on, after_root, before_root_lem, no_room, in_room, moved_cursor}
-use Rattle.parser.proofs.Starts.{cursor_offset, cursor_within}
+use Rattle.text.proofs.OffsetLaws.{cursor_stands}
+use Rattle.parser.proofs.Turns.{root_refused, past_root, room_refused, in_room, moved_cursor, moved_on}
+use Rattle.parser.proofs.Starts.{cursor_offset, cursor_boundary, cursor_within}
 use Rattle.parser.specs.Machine.{on_alias}
 use Rattle.parser.proofs.on_event.Builder.on_alias.Goals as goal
 
 pub returns-in_err-before_root : goal.returns-in_err-before_root
 unfolding on_alias
-returns-in_err-before_root c = λ pieces size pieces_size st h.
-    let shut = gate_shut _ _ _ (sym c.before_root.ensures ∙ c.in_err-before_root.was) in
-    rw (after_root h _ shut.0, handed_on _ _ _ c.from_residual.ensures.1 shut.1) refl
+returns-in_err-before_root c = λ pieces size pieces_size st h. root_refused h _ _ _ (sym c.before_root.ensures ∙ c.in_err-before_root.was) c.from_residual.ensures.1 _ _ _
 
 pub returns-in_err-within_room : goal.returns-in_err-within_room
 unfolding on_alias
 returns-in_err-within_room c = λ pieces size pieces_size st h.
-    let on = gate_open _ _ _ (sym c.before_root.ensures ∙ c.in_ok-before_root.was) in
-    let shut = gate_shut _ _ _ (sym c.within_room.ensures ∙ c.in_err-within_room.was) in
-    rw (before_root_lem h _ on, no_room h _ shut.0, handed_on _ _ _ c.from_residual-in_err-within_room.ensures.1 shut.1) refl
+    rw (past_root h _ _ (sym c.before_root.ensures ∙ c.in_ok-before_root.was))
+    (room_refused h _ _ _ (sym c.within_room.ensures ∙ c.in_err-within_room.was) c.from_residual-in_err-within_room.ensures.1 _ _ _)
 
 pub overflow_cast-at : goal.overflow_cast-at
 overflow_cast-at c =
@@ -32,11 +28,10 @@ unfolding on_alias
 returns c = λ pieces size pieces_size st h.
     let a = c.args in
     let text = a.text.content.bytes.now in
-    let on = gate_open _ _ _ (sym c.before_root.ensures ∙ c.in_ok-before_root.was) in
-    let free = gate_open _ _ _ (sym c.within_room.ensures ∙ c.in_ok-within_room.was) in
+    let on = sym c.before_root.ensures ∙ c.in_ok-before_root.was in
+    let free = sym c.within_room.ensures ∙ c.in_ok-within_room.was in
     let cur = c.byte_offset_of_char-self in
     let e = cursor_offset text a.index cur.result cur.ensures in
-    rw (before_root_lem h _ on, in_room h _ free, ← e)
-    (moved_on _ _ _ st a.self.now _ _ _ _ h.nodes_are
-    (c.push_complete.ensures text size pieces_size st pieces (rw e (offset_boundary (utf8_sound _ a.text.content.utf8) a.index))
-    (moved_cursor h cur.result (rw cur.ensures (cursor_stands text a.index)))))
+    let moved = moved_cursor h cur.result (rw cur.ensures (cursor_stands text a.index)) in
+    rw (past_root h _ _ on, in_room h _ _ free, ← e)
+    (moved_on h _ _ _ _ (rw c.into.ensures at (c.push_complete.ensures text size pieces_size st pieces (cursor_boundary (utf8_sound _ a.text.content.utf8) a.index _ cur.ensures) moved)))

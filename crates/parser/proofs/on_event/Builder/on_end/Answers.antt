@@ -1,20 +1,17 @@
 -- `on_end` meets its contract: rows 4 and 7 by the innermost collection and the counts; then that collection's record is complete.
-use mathlib.Core.Path.{refl, sym, ◌∙◌}
+use mathlib.Core.Path.{sym, ◌∙◌}
 use Rattle.utf8.proofs.Utf8Laws.{utf8_sound}
 use Rattle.text.proofs.OffsetLaws.{cursor_stands}
 use Rattle.spans.proofs.SpanLaws.{collection_node_boundary}
-use Rattle.parser.proofs.Gates.{gate_shut, gate_open, handed_on}
-use Rattle.parser.proofs.Turns.{moved_on, no_room, in_room, matched, inner_on, popped, outside}
+use Rattle.parser.proofs.Turns.{room_refused, in_room, matched, inner_on, popped, moved_on}
 use Rattle.parser.proofs.Starts.{cursor_offset, cursor_within}
 use Rattle.parser.proofs.on_event.Builder.on_end.Goals as goal
 
 pub returns-in_err-within_room : goal.returns-in_err-within_room
 returns-in_err-within_room c = λ pieces size pieces_size st h.
     let a = c.args in
-    let o = c.in-Some.open in
-    let is = c.in-Some.ensures in
-    let shut = gate_shut _ _ _ (sym c.within_room.ensures ∙ c.in_err-within_room.was) in
-    rw (matched h o _ is _ a.index a.mapping (sym c.closes_open.ensures ∙ c.if-not-closes_open.false), no_room h _ shut.0, handed_on _ _ _ c.from_residual.ensures.1 shut.1) refl
+    rw (matched h c.in-Some.open _ c.in-Some.ensures _ a.index a.mapping (sym c.closes_open.ensures ∙ c.if-not-closes_open.false))
+    (room_refused h _ _ _ (sym c.within_room.ensures ∙ c.in_err-within_room.was) c.from_residual.ensures.1 _ _ _)
 
 pub collection_node-x-requires-clause-at_in_bounds :
     goal.collection_node-x-requires-clause-at_in_bounds
@@ -28,12 +25,11 @@ returns c = λ pieces size pieces_size st h.
     let text = a.text.content.bytes.now in
     let o = c.in-Some.open in
     let is = c.in-Some.ensures in
-    let free = gate_open _ _ _ (sym c.within_room.ensures ∙ c.in_ok-within_room.was) in
+    let free = sym c.within_room.ensures ∙ c.in_ok-within_room.was in
     let cur = c.byte_offset_of_char-self in
     let e = cursor_offset text a.index cur.result cur.ensures in
     let on = inner_on h o _ is in
+    let off = popped h o _ is cur.result (rw cur.ensures (cursor_stands text a.index)) in
     let x = c.collection_node-x.ensures in
-    rw (matched h o _ is _ a.index a.mapping (sym c.closes_open.ensures ∙ c.if-not-closes_open.false), in_room h _ free, ← e, ← x)
-    (moved_on _ _ _ (outside h o _ is) a.self.now _ _ _ _ h.nodes_are
-    (c.push_complete.ensures text size pieces_size (outside h o _ is) pieces (rw x (collection_node_boundary text o cur.result.offset a.self.now.nodes on.0 on.1))
-    (popped h o _ is cur.result (rw cur.ensures (cursor_stands text a.index)))))
+    rw (matched h o _ is _ a.index a.mapping (sym c.closes_open.ensures ∙ c.if-not-closes_open.false), in_room h _ _ free, ← e, ← x)
+    (moved_on off _ _ _ _ (c.push_complete.ensures text size pieces_size _ pieces (rw x (collection_node_boundary text o cur.result.offset a.self.now.nodes on.0 on.1)) off))

@@ -4,24 +4,21 @@ use Prim.Native.Nat.{◌≤◌, ◌<◌}
 use native.Mathlib.Omega.{arith}
 use lib.ListN.{length}
 use Rattle.utf8.proofs.Utf8Laws.{utf8_sound}
-use Rattle.parser.proofs.Gates.{gate_shut, gate_open, handed_on}
-use Rattle.parser.proofs.Turns.{after_root, before_root_lem, too_deep, opened}
+use Rattle.parser.proofs.Turns.{root_refused, past_root, too_deep, opened}
 use Rattle.parser.proofs.Starts.{cursor_within}
 use Rattle.parser.specs.Machine.{depth_limit, on_start}
 use Rattle.parser.proofs.on_event.Builder.on_start.Goals as goal
 
 pub returns-in_err-before_root : goal.returns-in_err-before_root
 unfolding on_start
-returns-in_err-before_root c = λ records pieces size pieces_size st h.
-    let shut = gate_shut _ _ _ (sym c.before_root.ensures ∙ c.in_err-before_root.was) in
-    rw (after_root h _ shut.0, handed_on _ _ _ c.from_residual.ensures.1 shut.1) refl
+returns-in_err-before_root c = λ records pieces size pieces_size st h. root_refused h _ _ _ (sym c.before_root.ensures ∙ c.in_err-before_root.was) c.from_residual.ensures.1 _ _ _
 
 pub returns-then-depth-ge-DEPTH_LIMIT : goal.returns-then-depth-ge-DEPTH_LIMIT
 unfolding on_start
 returns-then-depth-ge-DEPTH_LIMIT c = λ records pieces size pieces_size st h.
-    let on = gate_open _ _ _ (sym c.before_root.ensures ∙ c.in_ok-before_root.was) in
+    let on = sym c.before_root.ensures ∙ c.in_ok-before_root.was in
     let deep : depth_limit ≤ length c.args.self.now.stack = rw (← c.depth.ensures) c.if-depth-ge-DEPTH_LIMIT.true in
-    rw (before_root_lem h _ on, too_deep h _ deep) refl
+    rw (past_root h _ _ on, too_deep h _ deep) refl
 
 pub overflow_cast-self : goal.overflow_cast-self
 overflow_cast-self c =
@@ -31,7 +28,7 @@ overflow_cast-self c =
 pub returns : goal.returns
 returns c = λ records pieces size pieces_size st h.
     let a = c.args in
-    let on = gate_open _ _ _ (sym c.before_root.ensures ∙ c.in_ok-before_root.was) in
+    let on = sym c.before_root.ensures ∙ c.in_ok-before_root.was in
     let free : length a.self.now.stack < depth_limit = rw (← c.depth.ensures) c.if-depth-ge-DEPTH_LIMIT.false in
     rw (c.push.ensures, c.suffix_of.ensures)
-    (opened h a.mapping a.index a.tag c.byte_offset_of_char-self.result (utf8_sound _ a.text.content.utf8) c.byte_offset_of_char-self.ensures on free)
+    (opened h a.mapping a.index a.tag c.byte_offset_of_char-self.result _ (utf8_sound _ a.text.content.utf8) c.byte_offset_of_char-self.ensures on free)

@@ -5,24 +5,22 @@ use Rattle.text.proofs.OffsetLaws.{stands_boundary, stands_next, stands_cursor, 
 use Rattle.text.proofs.offset.Standing.forward.Goals as goal
 
 pub returns-then-text-offset : goal.returns-then-text-offset
-returns-then-text-offset c = stands_end (utf8_sound _ c.args.self.text.content.utf8) c.loop-chars.invariant.0 c.if-text-offset.true c.args.target c.loop-chars.invariant.1
+returns-then-text-offset c =
+    stands_end (utf8_sound _ c.args.self.text.content.utf8) c.loop-chars.invariant.0 (rw c.utf8-text.ensures at c.if-text-offset.true) c.args.target c.loop-chars.invariant.1
 
-pub char_len-offset-requires-clause-utf8 : goal.char_len-offset-requires-clause-utf8
-char_len-offset-requires-clause-utf8 c = utf8_sound _ c.args.self.text.content.utf8
-
-pub char_len-offset-requires-clause-boundary : goal.char_len-offset-requires-clause-boundary
-char_len-offset-requires-clause-boundary c = stands_boundary (utf8_sound _ c.args.self.text.content.utf8) c.loop-chars.invariant.0
+pub invariant_of-char_len : goal.invariant_of-char_len
+invariant_of-char_len c = record { boundary = rw c.utf8-text.ensures (stands_boundary (utf8_sound _ c.args.self.text.content.utf8) c.loop-chars.invariant.0) }
 
 pub overflow_add-offset : goal.overflow_add-offset
 overflow_add-offset c =
-    let room = char_room c.args.self.text.content.bytes.now c.loop-chars.offset c.if-text-offset.false in
+    let room = char_room _ c.loop-chars.offset c.if-text-offset.false in
     let len = c.char_len-offset.ensures in
     omega arith
 
 pub loop-chars-preserved : goal.loop-chars-preserved
 loop-chars-preserved c =
     let t = c.loop-chars-test.true in
-    (rw c.char_len-offset.ensures (stands_next (utf8_sound _ c.args.self.text.content.utf8) c.loop-chars.invariant.0 c.if-text-offset.false), omega arith)
+    (rw (c.char_len-offset.ensures, c.utf8-text.ensures) (stands_next (utf8_sound _ c.args.self.text.content.utf8) c.loop-chars.invariant.0 (rw c.utf8-text.ensures at c.if-text-offset.false)), omega arith)
 
 pub returns : goal.returns
 returns c =

@@ -1,8 +1,0 @@
--- `replay_accessors::questions::about_keys` meets its contract: the keys before `at` were asked. The measure is what is left.
-use Rattle.std.proofs.Common.{◌≡◌, ◌+◌, ◌-◌, ◌*◌, ◌/◌, ◌≤◌, length}
-use Rattle.replay_accessors.specs.Questions.{first_keys}
-use Rattle.replay_accessors.proofs.questions.about_keys.Given as goal
-
-abbrev pub invariant-loop-at : goal.invariant-loop-at
-invariant-loop-at l =
-    (l.at ≡ l.at / 8 * 8) × (l.at ≤ length l.keys + 7) × (l.m ≡ first_keys l.records l.events l.n l.keys l.initial.m (l.at / 8))
