@@ -93,6 +93,10 @@ unfolding white_run holds_newline
 run_begins [] h = absurd (clash (sym h))
 run_begins (b ∷ src) h = by_answer (is_white_space_byte b) (λ e. e) (λ e. absurd (clash (sym (rw e at h))))
 
+-- a break that fits is the step, whatever else does
+either_pair : (xs ys : List ℕ) (t : FittingStep) → option_or (Some (paired xs ys)) t ≡ Some (paired xs ys)
+either_pair xs ys t = refl
+
 -- bytes that begin no break
 abbrev pub Quiet : List ℕ → Type 0
 Quiet [] = Unit {0}

@@ -31,6 +31,10 @@ then_some None o us h = absurd (none-some us h)
 then_some (Some t) None us h = absurd (none-some us h)
 then_some (Some t) (Some ts) us h = record { first = t; stands = refl; others = ts; others_are = refl; all = sym (same_Some _ us h) }
 
+-- a step that fits begins what the rest goes on with
+then_fits : (t : Step) (ts : List Step) → step_then (Some t) (Some ts) ≡ Some (t ∷ ts)
+then_fits t ts = refl
+
 module _ (at : ℕ → ℕ → FittingStep) (len : ℕ) where
   -- two readings from the same places are the same
   pub reading_unique : (s v : ℕ) (ps qs : List Step) → IsReading at len s v ps → IsReading at len s v qs → ps ≡ qs

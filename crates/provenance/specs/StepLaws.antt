@@ -35,7 +35,13 @@ unfolding same_bytes
 same_refl [] = refl
 same_refl (x ∷ xs) = rw (eq-eqb x x refl) (same_refl xs)
 
--- ---- steps of different kinds
+-- ---- steps of different kinds, and none
+
+pub none_verbatim : (k : ℕ) → None ≡ Some (Verbatim k) → ⊥
+none_verbatim k = none-some (Verbatim k)
+
+pub none_replacement : (a b : ℕ) → None ≡ Some (Replacement a b) → ⊥
+none_replacement a b = none-some (Replacement a b)
 
 pub verbatim_replacement : (k a b : ℕ) → Verbatim k ≡ Replacement a b → ⊥
 verbatim_replacement k a b h = cc

@@ -1,5 +1,5 @@
 -- Laws of tests and of their answers, for every crate.
-use Rattle.std.specs.Prelude.{◌≡◌, refl, Bool, true, false, ◌&&◌, ◌⊎◌, ℕ, ◌≤◌, ◌<◌, leb}
+use Rattle.std.specs.Prelude.{◌≡◌, refl, Bool, true, false, ◌&&◌, ◌||◌, ◌⊎◌, ℕ, ◌≤◌, ◌<◌, leb}
 use Rattle.std.proofs.Common.{sym, ◌∙◌, inl, inr, lt_of_not-le, arith, le-leb, leb-true}
 use Rattle.std.proofs.Math.Decide.{dec_le, dec_lt}
 use Rattle.std.proofs.lemmas.Bool.{lt-leb}
@@ -22,6 +22,16 @@ and_right false b e = absurd (clash (sym e))
 
 pub and_both : (a b : Bool) → a && b ≡ true → (a ≡ true) × (b ≡ true)
 and_both a b e = (and_left a b e, and_right a b e)
+
+-- ---- tests joined by `||`, asked one after the other: the first that says yes is the answer r
+
+pub or_yes : {r : Bool} (a b : Bool) → r ≡ a → r ≡ true → r ≡ a || b
+or_yes true b e t = e
+or_yes false b e t = absurd (clash (sym t ∙ e))
+
+pub or_no : {p r : Bool} (a b : Bool) → p ≡ a → p ≡ false → r ≡ b → r ≡ a || b
+or_no true b e t x = absurd (clash (sym e ∙ t))
+or_no false b e t x = x
 
 -- ---- between two bounds
 
