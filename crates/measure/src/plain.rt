@@ -9,7 +9,7 @@ use utf8::utf8::{Utf8Bytes, first_char};
 
 const BLANK: u32 = 0x20;
 
-// Whether a character of a value can stand for a folded line break.
+// Whether a character of a value can stand for a folded line break. The walk asks it of a byte.
 #[tactic(auto, unfolding(crate::specs::Plain::is_fold))]
 fn is_fold(code: u32) -> bool
     ensures { result ≡ is_fold code }

@@ -17,7 +17,7 @@ use spans::collection::{closes_open, collection_node};
 use spans::open::Open;
 use spans::scalar::{Entry, ScalarEvent, ScalarMark, event_scalar, suffix_of};
 use text::admission::{AdmittedPlace, Text};
-use text::offset::{Cursor, START, byte_offset_of_char};
+use text::offset::{Cursor, START};
 
 // How many numbers a piece has.
 const PIECE_WIDTH: usize = 4;
@@ -100,7 +100,7 @@ impl Builder {
         if DEPTH_LIMIT <= self.stack.depth() {
             return Err(Refusal::TooDeep);
         }
-        self.cursor = byte_offset_of_char(text, self.cursor, index as usize);
+        self.cursor = text.byte_offset_of_char(self.cursor, index as usize);
         self.stack.push(Open {
             mapping,
             start: self.cursor.offset as u32,
@@ -131,7 +131,7 @@ impl Builder {
             return Err(Refusal::Unbalanced);
         }
         self.within_room(records)?;
-        self.cursor = byte_offset_of_char(text, self.cursor, index as usize);
+        self.cursor = text.byte_offset_of_char(self.cursor, index as usize);
         let x = collection_node(text.content, open, self.cursor.offset, self.nodes);
         self.push_complete(records, x);
         Ok(())
@@ -145,7 +145,7 @@ impl Builder {
     {
         self.before_root()?;
         self.within_room(records)?;
-        self.cursor = byte_offset_of_char(text, self.cursor, index as usize);
+        self.cursor = text.byte_offset_of_char(self.cursor, index as usize);
         let at = self.cursor.offset as u32;
         let x = Node {
             kind: Kind::Null.into(),
@@ -196,7 +196,7 @@ impl Builder {
     {
         self.before_root()?;
         self.within_room(records)?;
-        self.cursor = byte_offset_of_char(text, self.cursor, e.mark.index as usize);
+        self.cursor = text.byte_offset_of_char(self.cursor, e.mark.index as usize);
         let awaited = self.stack.expecting_value();
         let free = &mut pieces[PIECE_WIDTH * self.used..];
         let at = AdmittedPlace {

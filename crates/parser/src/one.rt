@@ -15,7 +15,7 @@ use schema::tag::resolve_scalar;
 use spans::scalar::{Entry, ScalarMark, walk_scalar};
 use style::Style;
 use text::admission::{Admitted, AdmittedPlace, Text, admit_text_and_value};
-use text::offset::{START, byte_offset_of_char};
+use text::offset::START;
 
 // What the call on the scalar `x` answers, by its walk.
 fn alone(x: Entry) -> Result<Scalar, Refusal>
@@ -49,7 +49,7 @@ fn one_scalar(
     ensures { DeliveredScalar (length pieces.old) (one_scalar text.entry.content.bytes.now (mark_of m) value.entry.bytes.now (length pieces.old))
         (scalar_measured text.entry.content.bytes.now (mark_of m) value.entry.bytes.now) result pieces.new }
 {
-    let cursor = byte_offset_of_char(text, START, m.index as usize);
+    let cursor = text.byte_offset_of_char(START, m.index as usize);
     let resolved = resolve_scalar(value.bytes, m.style, None);
     let start = AdmittedPlace {
         text: text.content,
@@ -59,7 +59,8 @@ fn one_scalar(
 }
 
 // One scalar, given as its event would give it: it awaits nothing, has no tag, and its value has the place 0. What it answers, the record
-// and every number of the buffer afterwards is `scalar_call`; on a refusal the buffer is zero. `scalar_measured` is the flag.
+// and every number of the buffer afterwards is `scalar_call`; on a refusal the buffer is zero. `scalar_measured` is the flag. The style is a
+// number, since the call refuses those that no style has.
 pub fn scalar(
     text: &[u8],
     index: u32,

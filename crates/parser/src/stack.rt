@@ -20,7 +20,8 @@ const NONE: Open = Open {
     before: 0,
 };
 
-// At most 64 open collections, the innermost last.
+// At most 64 open collections, the innermost last: fixed memory, and its count beside it, which clauses do not see. A vector of fixed
+// capacity would have the same methods and be one more crate to stand on.
 #[derive(Drop)]
 pub struct Stack {
     opens: [Open; DEPTH_LIMIT],

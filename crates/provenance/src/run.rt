@@ -60,7 +60,7 @@ pub fn cut_len(run: Run, block: bool, column: usize) -> usize
     }
 }
 
-// A measure asks the same of a code point.
+// The same of a byte as `is_fold` of a code point, which is looked at in another type: asked by a cast, it would say less.
 #[tactic(auto, unfolding(measure::specs::Plain::is_fold))]
 pub fn is_blank(b: u8) -> bool
     ensures { result ≡ is_fold b }

@@ -10,8 +10,8 @@ use crate::step::{Step, Walk, known_after};
 use crate::write::{Written, clear_pieces, room};
 use letters::letter::letters;
 
-// A list of so many pieces; a list that there is no room for; no list. Three outcomes, and neither of the last two is an error of the other
-// kind: no `Option` and no `Result` says them more plainly.
+// A list of so many pieces; a list that there is no room for; no list. Each reader takes the three apart in one match: a Result of an Option
+// would nest it.
 #[derive(Clone, Copy, Debug, PartialEq, Eq)]
 pub enum Walked {
     Listed(usize),

@@ -9,7 +9,7 @@ ghost use Rattle.provenance.specs.Writing.{put_piece, put_open, count_open, put_
 // The numbers of a piece: its kind, start, end, content length.
 const PIECE_WIDTH: usize = 4;
 
-// The kinds of pieces by their numbers in the layout. In a walk they are the two steps.
+// The kinds of pieces by their numbers in the layout. In a walk they are the two steps: an enum would be a second `Step`.
 const VERBATIM: u32 = 1;
 
 const REPLACEMENT: u32 = 2;

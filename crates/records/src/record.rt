@@ -50,6 +50,7 @@ pub struct Node {
     pub payload: Payload,
 }
 
+// As `ABSENT`: the layout's numbers for none.
 pub const NO_TAG: TagInfo = TagInfo {
     start: ABSENT,
     end: ABSENT,

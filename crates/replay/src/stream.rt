@@ -2,7 +2,7 @@
 ghost use Rattle.std.specs.Prelude.{◌≤◌, length, IfOk, IfSome};
 
 use std::io;
-use std::io::{BufRead, Read};
+use std::io::Read;
 
 // How many bytes are read away at a time.
 const CHUNK: usize = 4096;
@@ -32,27 +32,27 @@ fn skip<R: Read>(list: &mut R, size: usize) -> io::Result<()> {
     list.read_exact(&mut chunk[..size % CHUNK])
 }
 
-// Whether nothing is left to read. A read that fails is the list's end.
-fn is_at_end<R: BufRead>(list: &mut R) -> bool {
-    match list.fill_buf() {
-        Ok(bytes) => bytes.is_empty(),
-        Err(_) => true,
+// The size of the next case; none at the list's end. A read that fails there is the list's end.
+fn next_size<R: Read>(list: &mut R) -> io::Result<Option<usize>> {
+    let mut head = [0u8; 4];
+    match list.read(&mut head[..1]) {
+        Ok(0) | Err(_) => return Ok(None),
+        Ok(_) => {}
     }
+    list.read_exact(&mut head[1..])?;
+    Ok(Some(u32::from_be_bytes(head) as usize))
 }
 
 // Reads the next case of the list into the buffer, and answers its bytes there; none at the list's end.
-pub fn next_case<'a, R: BufRead>(
+pub fn next_case<'a, R: Read>(
     list: &mut R,
     buffer: &'a mut [u8],
 ) -> Result<Option<&'a [u8]>, CaseError>
     ensures { IfOk result (λ o. IfSome o (λ case. length case.now ≤ length buffer.old)) }
 {
-    if is_at_end(list) {
+    let Some(size) = next_size(list)? else {
         return Ok(None);
-    }
-    let mut head = [0u8; 4];
-    list.read_exact(&mut head)?;
-    let size = u32::from_be_bytes(head) as usize;
+    };
     if buffer.len() < size {
         skip(list, size)?;
         return Err(CaseError::TooLarge);

@@ -58,7 +58,8 @@ fn read_the_same(subject: Subject<'_>, nodes: usize, list: &[u8]) -> bool {
     m.is_whole()
 }
 
-// Builds the document of a case in these buffers and reads it. What is returned is written as in replay_trees: `replay` knows no parser.
+// Builds the document of a case in these buffers and reads it. What is returned is written as in replay_trees: a crate between would be
+// no plainer.
 fn built_the_same(case: Case<'_>, records: &mut [u32], pieces: &mut [u32]) -> bool {
     match build(case.text, case.events, records, pieces) {
         Ok(Built { nodes, pieces }) => {

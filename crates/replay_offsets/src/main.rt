@@ -6,7 +6,7 @@ use replay::case::{Case, case_of, number_at};
 use replay::tally::{Verdict, judged};
 use std::io;
 use text::admission::{Text, admit_text};
-use text::offset::{START, byte_offset_of_char};
+use text::offset::START;
 
 // The events: a sequence start of 8 bytes, then the aliases, the marker's index behind tag and length, then a sequence end.
 const START_BYTES: usize = 8;
@@ -30,7 +30,7 @@ fn same_offsets(text: Text<'_>, aliases: &[u8], records: &[u8]) -> bool {
         .zip(records.chunks(RECORD_BYTES))
     {
         let marker = number_at(alias, MARKER_AT) as usize;
-        cursor = byte_offset_of_char(text, cursor, marker);
+        cursor = text.byte_offset_of_char(cursor, marker);
         if cursor.offset != number_at(record, SPAN_START_AT) as usize {
             return false;
         }

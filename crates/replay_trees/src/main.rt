@@ -7,7 +7,8 @@ use replay::case::{Case, Returned, case_of, numbers, same_numbers};
 use replay::tally::{Verdict, verdict_of};
 use std::io;
 
-// What is returned, as a list says it. replay_nodes has the same: `replay`, which both stand on, knows no parser.
+// What is returned, as a list says it. replay_nodes has the same: a crate between, for
+// these lines alone, would be no plainer.
 fn returned(answer: Result<Built, Refused>) -> Returned {
     match answer {
         Ok(Built { nodes, pieces }) => Returned {

@@ -142,7 +142,8 @@ fn letter_form(letter: u8) -> Form
     }
 }
 
-// The form of `value` by the automaton whose tables are `symbols`, `next` and `forms`, whatever they are.
+// The form of `value` by the automaton whose tables are `symbols`, `next` and `forms`, whatever they are: the proof of a turn needs them as
+// variables.
 fn run_automaton(value: &[u8], symbols: &[u8], next: &[[u8; 32]], forms: &[u8]) -> Form
     requires { Tables symbols.now next.now forms.now }
     ensures { result ≡ form_of value.now }

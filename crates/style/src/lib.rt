@@ -46,7 +46,7 @@ impl TryFrom<u8> for Style {
 }
 
 impl Style {
-    // The style by which any number is read: what no style has, as a block.
+    // The style by which the rules take any number: one that no style has is read as a block.
     pub fn of(n: u8) -> Style
         ensures { result ≡ style_of n }
     {

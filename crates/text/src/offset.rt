@@ -1,5 +1,6 @@
 // Marker offsets: from a character index to a byte offset. (01: `byte_offset_of_char`; P1, K1.)
 ghost use Rattle.std.specs.Prelude.{◌≡◌, ◌≤◌, length, take};
+ghost use Rattle.utf8.specs.Utf8.{is_ascii};
 ghost use Rattle.utf8.specs.Characters.{codes};
 ghost use Rattle.utf8.specs.Boundary.{Boundary};
 ghost use Rattle.text.specs.Offset.{byte_offset, cursor_at, Stands};
@@ -7,7 +8,7 @@ ghost use Rattle.text.specs.Starts;
 
 use crate::admission::Text;
 use utf8::class::is_continuation;
-use utf8::utf8::Place;
+use utf8::utf8::{Place, Utf8Bytes};
 
 // How many characters lie before a place of the text, and the place's byte offset.
 #[derive(Clone, Copy)]
@@ -55,22 +56,24 @@ fn next_boundary(s: &[u8], i: usize) -> usize
     }
 }
 
-// A cursor that stands in its text.
+// A cursor that stands in its text, of which is known whether it is ASCII.
 #[derive(Clone, Copy)]
 struct Standing<'a> {
-    text: Text<'a>,
+    text: Utf8Bytes<'a>,
+    ascii: bool,
     cursor: Cursor,
-    ghost counted: { cursor.chars ≤ length (codes text.content.bytes.now) },
-    ghost placed: { cursor.offset ≡ byte_offset text.content.bytes.now cursor.chars },
+    ghost ascii_value: { ascii ≡ is_ascii text.bytes.now },
+    ghost counted: { cursor.chars ≤ length (codes text.bytes.now) },
+    ghost placed: { cursor.offset ≡ byte_offset text.bytes.now cursor.chars },
 }
 
 impl Standing<'_> {
     // Moved on over whole chunks, as long as they end before the character index `target`.
     fn over_chunks(self, target: usize) -> Cursor
         requires { self.cursor.chars ≤ target }
-        ensures { Stands self.entry.text.content.bytes.now result.chars result.offset × (result.chars ≤ target) }
+        ensures { Stands self.entry.text.bytes.now result.chars result.offset × (result.chars ≤ target) }
     {
-        let text = self.text.content.bytes;
+        let text = self.text.bytes;
         let mut chars = self.cursor.chars;
         let mut offset = self.cursor.offset;
         let mut rest = &text[offset..];
@@ -91,9 +94,9 @@ impl Standing<'_> {
     // Moved on to the character index `target`, or to the text's end where that comes first.
     fn forward(self, target: usize) -> Cursor
         requires { self.cursor.chars ≤ target }
-        ensures { result ≡ cursor_at self.entry.text.content.bytes.now target }
+        ensures { result ≡ cursor_at self.entry.text.bytes.now target }
     {
-        let text = self.text.content.utf8();
+        let text = self.text;
         let near = self.over_chunks(target);
         let mut offset = near.offset;
         for chars in near.chars..target {
@@ -111,9 +114,9 @@ impl Standing<'_> {
     // Moved back to the character index `target`.
     fn backward(self, target: usize) -> Cursor
         requires { target ≤ self.cursor.chars }
-        ensures { result ≡ cursor_at self.entry.text.content.bytes.now target }
+        ensures { result ≡ cursor_at self.entry.text.bytes.now target }
     {
-        let text = self.text.content.utf8();
+        let text = self.text;
         let mut offset = self.cursor.offset;
         for _ in target..self.cursor.chars {
             offset -= Place { text, at: offset }.last_char().unwrap().len;
@@ -127,10 +130,10 @@ impl Standing<'_> {
     // At the character index `target`, or at the text's end where that comes first. It moves by chunks and then by one character a step;
     // an ASCII text needs no step.
     fn moved_to(self, target: usize) -> Cursor
-        ensures { result ≡ cursor_at self.entry.text.content.bytes.now target }
+        ensures { result ≡ cursor_at self.entry.text.bytes.now target }
     {
-        if self.text.ascii {
-            let place = target.min(self.text.content.bytes.len());
+        if self.ascii {
+            let place = target.min(self.text.bytes.len());
             return Cursor {
                 chars: place,
                 offset: place,
@@ -145,8 +148,8 @@ impl Standing<'_> {
     // Moves the cursor to the character index `target`, or to the text's end where that comes first, and gives the byte offset there.
     // (01: Forms that stand in the way, the cursor.)
     fn move_to(&mut self, target: usize) -> usize
-        ensures { (self.new.cursor ≡ cursor_at self.old.text.content.bytes.now target)
-            × (result ≡ (cursor_at self.old.text.content.bytes.now target).offset) }
+        ensures { (self.new.cursor ≡ cursor_at self.old.text.bytes.now target)
+            × (result ≡ (cursor_at self.old.text.bytes.now target).offset) }
     {
         self.cursor = self.moved_to(target);
         self.cursor.offset
@@ -155,11 +158,31 @@ impl Standing<'_> {
 
 // The cursor at the character index `target`, or at the text's end where that comes first, from wherever it stood: it is lent to
 // `move_to` and handed back.
-pub fn byte_offset_of_char(text: Text<'_>, cursor: Cursor, target: usize) -> Cursor
-    requires { Stands text.content.bytes.now cursor.chars cursor.offset }
-    ensures { result ≡ cursor_at text.entry.content.bytes.now target }
+pub fn byte_offset_of_char(
+    text: Utf8Bytes<'_>,
+    ascii: bool,
+    cursor: Cursor,
+    target: usize,
+) -> Cursor
+    requires ascii_value { ascii ≡ is_ascii text.bytes.now }
+    requires stands { Stands text.bytes.now cursor.chars cursor.offset }
+    ensures { result ≡ cursor_at text.entry.bytes.now target }
 {
-    let mut standing = Standing { text, cursor };
+    let mut standing = Standing {
+        text,
+        ascii,
+        cursor,
+    };
     standing.move_to(target);
     standing.cursor
+}
+
+impl Text<'_> {
+    // The same in an admitted text.
+    pub fn byte_offset_of_char(self, cursor: Cursor, target: usize) -> Cursor
+        requires { Stands self.content.bytes.now cursor.chars cursor.offset }
+        ensures { result ≡ cursor_at self.entry.content.bytes.now target }
+    {
+        byte_offset_of_char(self.content.utf8(), self.ascii, cursor, target)
+    }
 }

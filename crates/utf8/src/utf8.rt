@@ -14,7 +14,7 @@ pub struct Char {
     pub len: usize,
 }
 
-// Bytes that are UTF-8. No `str`: its own test would be a second one, and its places are characters, where spans and pieces are bytes.
+// Bytes that are UTF-8. No `str`: its own test would be a second one, and contracts see its characters, where spans and pieces are bytes.
 #[derive(Clone, Copy)]
 pub struct Utf8Bytes<'a> {
     pub bytes: &'a [u8],

@@ -13,27 +13,27 @@ step : {s : List ℕ} (target chars counter : ℕ) {offset : ℕ} → is_utf8 s 
 step {s} target chars counter u h t = stands_previous (utf8_sound s u) h (omega arith)
 
 pub invariant_of-last_char : goal.invariant_of-last_char
-invariant_of-last_char c = record { boundary = rw c.utf8-text.ensures (stands_boundary (utf8_sound _ c.args.self.text.content.utf8) c.loop.invariant.0) }
+invariant_of-last_char c = record { boundary = stands_boundary (utf8_sound _ c.args.self.text.utf8) c.loop.invariant.0 }
 
 pub unwrap-offset-requires : goal.unwrap-offset-requires
 unwrap-offset-requires c =
-    rw (c.last_char.ensures, c.utf8-text.ensures, lt-ltb _ _ (step c.args.target c.args.self.cursor.chars c.loop.counter c.args.self.text.content.utf8 c.loop.invariant.0 c.loop-test.true).some)
+    rw (c.last_char.ensures, lt-ltb _ _ (step c.args.target c.args.self.cursor.chars c.loop.counter c.args.self.text.utf8 c.loop.invariant.0 c.loop-test.true).some)
 
 pub overflow_sub-offset : goal.overflow_sub-offset
 overflow_sub-offset c =
     let e = some_is _ (sym c.unwrap-offset.ensures ∙ c.last_char.ensures) in
-    rw (e, c.utf8-text.ensures) (step c.args.target c.args.self.cursor.chars c.loop.counter c.args.self.text.content.utf8 c.loop.invariant.0 c.loop-test.true).fits
+    rw e (step c.args.target c.args.self.cursor.chars c.loop.counter c.args.self.text.utf8 c.loop.invariant.0 c.loop-test.true).fits
 
 pub loop-preserved : goal.loop-preserved
 loop-preserved c =
     let e = some_is _ (sym c.unwrap-offset.ensures ∙ c.last_char.ensures) in
     let t = c.loop-test.true in
     let n : c.args.target + (c.args.self.cursor.chars - (c.loop.counter + 1)) ≡ c.args.target + (c.args.self.cursor.chars - c.loop.counter) - 1 = omega arith in
-    (rw (n, e, c.utf8-text.ensures) (step c.args.target c.args.self.cursor.chars c.loop.counter c.args.self.text.content.utf8 c.loop.invariant.0 c.loop-test.true).stands, c.loop.invariant.1)
+    (rw (n, e) (step c.args.target c.args.self.cursor.chars c.loop.counter c.args.self.text.utf8 c.loop.invariant.0 c.loop-test.true).stands, c.loop.invariant.1)
 
 pub returns : goal.returns
 returns c =
     let t = c.loop-test.false in
     let n : c.args.target + (c.args.self.cursor.chars - c.loop.counter) ≡ c.args.target = omega arith in
-    let h : Stands c.args.self.text.content.bytes.now c.args.target c.loop.offset = rw (sym n) c.loop.invariant.0 in
+    let h : Stands c.args.self.text.bytes.now c.args.target c.loop.offset = rw (sym n) c.loop.invariant.0 in
     stands_cursor h

@@ -5,4 +5,4 @@ use Rattle.text.specs.Offset.{Stands}
 use Rattle.text.proofs.offset.Standing.backward.Given as goal
 
 abbrev pub invariant-loop : goal.invariant-loop
-invariant-loop l = Stands l.self.text.content.bytes.now (l.target + (l.end - l.counter)) l.offset × (l.target ≤ l.self.cursor.chars)
+invariant-loop l = Stands l.self.text.bytes.now (l.target + (l.end - l.counter)) l.offset × (l.target ≤ l.self.cursor.chars)

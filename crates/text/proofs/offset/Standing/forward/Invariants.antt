@@ -4,4 +4,4 @@ use Rattle.text.specs.Offset.{Stands}
 use Rattle.text.proofs.offset.Standing.forward.Given as goal
 
 abbrev pub invariant-loop-chars : goal.invariant-loop-chars
-invariant-loop-chars l = Stands l.self.text.content.bytes.now l.chars l.offset × (l.chars ≤ l.target)
+invariant-loop-chars l = Stands l.self.text.bytes.now l.chars l.offset × (l.chars ≤ l.target)

@@ -5,6 +5,6 @@ use Rattle.text.proofs.offset.Standing.move_to.Goals as goal
 
 pub invariant_of-self : goal.invariant_of-self
 invariant_of-self c =
-    let s = c.args.self.now.text.content.bytes.now in
+    let s = c.args.self.now.text.bytes.now in
     let h : Stands s c.moved_to-self.result.chars c.moved_to-self.result.offset = rw c.moved_to-self.ensures (cursor_stands s c.args.target) in
-    record { counted = h.counted; placed = h.placed }
+    record { ascii_value = c.args.self.now.ascii_value; counted = h.counted; placed = h.placed }

@@ -5,5 +5,5 @@ use Rattle.text.proofs.offset.Standing.moved_to.Goals as goal
 
 pub returns-then-self : goal.returns-then-self
 returns-then-self c =
-    let s = c.args.self.text.content.bytes.now in
-    sym (ascii_cursor s c.args.target (sym c.args.self.text.ascii_value ∙ c.if-self.true) ∙ rw (sym c.min-place.ensures))
+    let s = c.args.self.text.bytes.now in
+    sym (ascii_cursor s c.args.target (sym c.args.self.ascii_value ∙ c.if-self.true) ∙ rw (sym c.min-place.ensures))

@@ -11,17 +11,17 @@ tail : (s : List ℕ) (i : ℕ) → take (length s - i) (drop i s) ≡ drop i s
 tail s i = let l = length-drop i s in take_all (length s - i) (drop i s) (omega arith)
 
 pub slice_bounds-rest-count : goal.slice_bounds-rest-count
-slice_bounds-rest-count c = rw c.args.self.placed (offset_within (utf8_sound _ c.args.self.text.content.utf8) c.args.self.cursor.chars)
+slice_bounds-rest-count c = rw c.args.self.placed (offset_within (utf8_sound _ c.args.self.text.utf8) c.args.self.cursor.chars)
 
 pub slice_bounds-rest-start : goal.slice_bounds-rest-start
-slice_bounds-rest-start c = rw c.args.self.placed (offset_within (utf8_sound _ c.args.self.text.content.utf8) c.args.self.cursor.chars)
+slice_bounds-rest-start c = rw c.args.self.placed (offset_within (utf8_sound _ c.args.self.text.utf8) c.args.self.cursor.chars)
 
 pub loop-chunk-init : goal.loop-chunk-init
 loop-chunk-init c =
-    let s = c.args.self.text.content.bytes.now in
+    let s = c.args.self.text.bytes.now in
     let stands : Stands s c.args.self.cursor.chars c.args.self.cursor.offset = record { counted = c.args.self.counted; placed = c.args.self.placed } in
-    let within = (stands_boundary (utf8_sound s c.args.self.text.content.utf8) stands).within in
-    (c.requires, within, tail s c.args.self.cursor.offset, stands_starts (utf8_sound s c.args.self.text.content.utf8) stands)
+    let within = (stands_boundary (utf8_sound s c.args.self.text.utf8) stands).within in
+    (c.requires, within, tail s c.args.self.cursor.offset, stands_starts (utf8_sound s c.args.self.text.utf8) stands)
 
 pub overflow_add-chars : goal.overflow_add-chars
 overflow_add-chars c =
@@ -32,7 +32,7 @@ overflow_add-chars c =
 
 pub loop-chunk-preserved : goal.loop-chunk-preserved
 loop-chunk-preserved c =
-    let s = c.args.self.text.content.bytes.now in
+    let s = c.args.self.text.bytes.now in
     let w = c.loop-chunk in
     let is = c.in-Some.ensures.cases in
     let e : c.starts.result ≡ starts c.in-Some.chunk.now = c.starts.ensures in
@@ -54,4 +54,4 @@ pub returns : goal.returns
 returns c =
     let w = c.loop-chunk in
     let n = c.next_boundary.ensures in
-    (subst (λ (k : ℕ). Stands c.args.self.text.content.bytes.now k c.next_boundary.result) (n.1 ∙ w.invariant.3) (starts_stands (utf8_sound _ c.args.self.text.content.utf8) n.0), w.invariant.0)
+    (subst (λ (k : ℕ). Stands c.args.self.text.bytes.now k c.next_boundary.result) (n.1 ∙ w.invariant.3) (starts_stands (utf8_sound _ c.args.self.text.utf8) n.0), w.invariant.0)

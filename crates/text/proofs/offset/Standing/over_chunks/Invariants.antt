@@ -7,9 +7,9 @@ use Rattle.text.proofs.offset.Standing.over_chunks.Given as goal
 abbrev pub invariant-loop-chunk : goal.invariant-loop-chunk
 invariant-loop-chunk l =
     (l.chars ≤ l.target)
-    × (l.offset ≤ length l.self.text.content.bytes.now)
-    × (l.rest ≡ drop l.offset l.self.text.content.bytes.now)
-    × (starts (take l.offset l.self.text.content.bytes.now) ≡ l.chars)
+    × (l.offset ≤ length l.self.text.bytes.now)
+    × (l.rest ≡ drop l.offset l.self.text.bytes.now)
+    × (starts (take l.offset l.self.text.bytes.now) ≡ l.chars)
 
 abbrev pub decreases-loop-chunk : goal.decreases-loop-chunk
 decreases-loop-chunk l = length l.rest
