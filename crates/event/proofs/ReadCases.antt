@@ -33,7 +33,8 @@ module _ (s : List ℕ) (i : ℕ) where
   scalar_tagged n h k l = rw (le-leb (i + 6) (length s) h, le-leb (get_or s (i + 4) 0) 4 k, le-leb (get_or s (i + 5) 0) 1 l)
 
   pub framed : i + 3 + number_at s (i + 1) 2 ≤ length s → 4 ≤ number_at s (i + 1) 2
-      → read_event s i ≡ read_body (take (i + 3 + number_at s (i + 1) 2) s) (get_or s i 0) (number_at s (i + 3) 4) (i + 3 + 4)
+      → read_event s i ≡ (read_body (take (i + 3 + number_at s (i + 1) 2) s) (get_or s i 0) (number_at s (i + 3) 4) (i + 3 + 4)
+      >>= λ e. Ok (e, i + 3 + number_at s (i + 1) 2))
   unfolding read_event
   framed h k = rw (le-leb (i + 3) (length s) (omega arith), le-leb (i + 3 + number_at s (i + 1) 2) (length s) h, le-leb 4 (number_at s (i + 1) 2) k)
 

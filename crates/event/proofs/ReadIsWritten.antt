@@ -25,7 +25,7 @@ module _ (s : List ℕ) (bytes : Bytes s) where
   -- a start, whose body is a YAML tag
   start_found : (kind m i : ℕ) (event : Tag → YamlEvent) (answer : Option YamlTag → Event)
       → ((t : Tag) → kind ≡ tag_byte (event t)) → ((t : Tag) → m ≡ marker_index (event t)) → ((t : Tag) → SoundTag t → SoundRest (event t))
-      → ((t : Tag) → answer (placed_tag i t) ≡ placed_body i (length s) (event t)) → ((t : Tag) → encode_tag t ≡ encode_rest (event t))
+      → ((t : Tag) → answer (placed_tag i t) ≡ placed_body i (event t)) → ((t : Tag) → encode_tag t ≡ encode_rest (event t))
       → BodyFound s kind m i (read_start_tag s i >>= λ t. Ok (answer t))
   start_found kind m i event answer k n h a b =
       by_step (read_start_tag s i) _ (λ t. FoundTag s i t (length s)) (BodyFound s kind m i) (start_tag_found s bytes i)
@@ -44,7 +44,7 @@ module _ (s : List ℕ) (bytes : Bytes s) where
   -- an event whose body is its marker index
   bare_found : (kind m i : ℕ) (event : YamlEvent) → kind ≡ tag_byte event → m ≡ marker_index event → SoundRest event → encode_rest event ≡ []
       → length s ≡ i
-      → BodyFound s kind m i (Ok (placed_body i (length s) event))
+      → BodyFound s kind m i (Ok (placed_body i event))
   bare_found kind m i event k n h b z =
       inr
       (record {
@@ -62,13 +62,13 @@ module _ (s : List ℕ) (bytes : Bytes s) where
   body_found kind m i h =
       by_test (eqb kind 5) _ _ (BodyFound s kind m i) (λ t. rw (eqb-true kind 5 t) (scalar_found s bytes m i))
       (λ t5. by_test (eqb kind 1) _ _ (BodyFound s kind m i)
-      (λ t. start_found kind m i (sequence_start m) (λ x. SequenceStart m x (length s)) (λ x. eqb-true kind 1 t) (λ x. refl) (λ x y. y) (λ x. refl) (λ x. refl))
+      (λ t. start_found kind m i (sequence_start m) (SequenceStart m) (λ x. eqb-true kind 1 t) (λ x. refl) (λ x y. y) (λ x. refl) (λ x. refl))
       (λ t1. by_test (eqb kind 3) _ _ (BodyFound s kind m i)
-      (λ t. start_found kind m i (mapping_start m) (λ x. MappingStart m x (length s)) (λ x. eqb-true kind 3 t) (λ x. refl) (λ x y. y) (λ x. refl) (λ x. refl))
+      (λ t. start_found kind m i (mapping_start m) (MappingStart m) (λ x. eqb-true kind 3 t) (λ x. refl) (λ x y. y) (λ x. refl) (λ x. refl))
       (λ t3. by_test (ltb i (length s)) _ _ (BodyFound s kind m i) (λ t. inl refl)
       (λ t. bare (let k = ltb-false i (length s) t in omega arith)))))
     where
-      bare : length s ≡ i → BodyFound s kind m i (bare_event kind m (length s))
+      bare : length s ≡ i → BodyFound s kind m i (bare_event kind m)
       bare z =
           by_test (eqb kind 2) _ _ (BodyFound s kind m i) (λ t. bare_found kind m i (sequence_end m) (eqb-true kind 2 t) refl tt refl z)
           (λ t2. by_test (eqb kind 4) _ _ (BodyFound s kind m i) (λ t. bare_found kind m i (mapping_end m) (eqb-true kind 4 t) refl tt refl z)
@@ -105,7 +105,8 @@ front_on s k n h l =
     ap (drop k) (sym (take-append-drop n s)) ∙ drop-append-le k (take n s) (drop n s) (omega arith)
 
 framed_found : (s : List ℕ) → Bytes s → (i : ℕ) (r : Result Event Malformed) → i + 3 + number_at s (i + 1) 2 ≤ length s → 4 ≤ number_at s (i + 1) 2
-    → FoundBody (take (i + 3 + number_at s (i + 1) 2) s) (get_or s i 0) (number_at s (i + 3) 4) (i + 3 + 4) r → Answers s i r
+    → FoundBody (take (i + 3 + number_at s (i + 1) 2) s) (get_or s i 0) (number_at s (i + 3) 4) (i + 3 + 4) r
+    → Answers s i (r >>= λ e. Ok (e, i + 3 + number_at s (i + 1) 2))
 unfolding placed capacity
 framed_found s bytes i r h k p =
     let x = p.event in
@@ -116,7 +117,7 @@ framed_found s bytes i r h k p =
     let inner = body_length x in
     let outer = event_length x in
     let size : number_at s (i + 1) 2 ≡ length (encode_body x) = omega arith in
-    let next : length (take (i + 3 + number_at s (i + 1) 2) s) ≡ i + length (encode_event x) = omega arith in
+    let next : i + 3 + number_at s (i + 1) 2 ≡ i + length (encode_event x) = omega arith in
     let short = number_fits s bytes (i + 1) 2 in
     let rest : drop (i + 3 + 4) s ≡ encode_rest x ++ drop e s =
     front_on s (i + 3 + 4) e (omega arith) h ∙ rw (p.written, drop-length upto, append-nil (encode_rest x)) in
@@ -128,7 +129,7 @@ framed_found s bytes i r h k p =
         rest = drop e s;
         starts = event_written s bytes i e x (omega arith) p.kind_is size body;
       };
-      answered = p.is ∙ ap (λ (n : ℕ). Ok (placed_body (i + 3 + 4) n x)) next;
+      answered = rw (p.is, next);
     }
 
 pub event_found : (s : List ℕ) → Bytes s → (i : ℕ) → (read_event s i ≡ Err malformed) ⊎ Answers s i (read_event s i)
@@ -140,16 +141,19 @@ event_found s bytes i =
     (λ u. inl refl))
     (λ t. inl refl)
   where
-    P : Result Event Malformed → Type 0
+    P : Result (Event × ℕ) Malformed → Type 0
     P r = (r ≡ Err malformed) ⊎ Answers s i r
 
+    framed_by : Result Event Malformed → Result (Event × ℕ) Malformed
+    framed_by r = r >>= λ e. Ok (e, i + 3 + number_at s (i + 1) 2)
+
     found : (r : Result Event Malformed) → i + 3 + number_at s (i + 1) 2 ≤ length s → 4 ≤ number_at s (i + 1) 2
-        → BodyFound (take (i + 3 + number_at s (i + 1) 2) s) (get_or s i 0) (number_at s (i + 3) 4) (i + 3 + 4) r → P r
-    found r h k (inl x) = inl x
+        → BodyFound (take (i + 3 + number_at s (i + 1) 2) s) (get_or s i 0) (number_at s (i + 3) 4) (i + 3 + 4) r → P (framed_by r)
+    found r h k (inl x) = inl (rw x)
     found r h k (inr p) = inr (framed_found s bytes i r h k p)
 
     body : i + 3 + number_at s (i + 1) 2 ≤ length s → 4 ≤ number_at s (i + 1) 2
-        → P (read_body (take (i + 3 + number_at s (i + 1) 2) s) (get_or s i 0) (number_at s (i + 3) 4) (i + 3 + 4))
+        → P (framed_by (read_body (take (i + 3 + number_at s (i + 1) 2) s) (get_or s i 0) (number_at s (i + 3) 4) (i + 3 + 4)))
     body h k =
         let size = length-take-le (i + 3 + number_at s (i + 1) 2) s h in
         found _ h k (body_found (take (i + 3 + number_at s (i + 1) 2) s) (front_bytes s bytes _) (get_or s i 0) (number_at s (i + 3) 4) (i + 3 + 4) (omega arith))

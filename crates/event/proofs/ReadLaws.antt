@@ -86,7 +86,7 @@ module _ (s : List ℕ) where
   value_part : (i : ℕ) (t : Tag) (v u : List ℕ) → drop i s ≡ encode_tag t ++ (v ++ u) → part_of s (part (i + length (encode_tag t)) (length v)) ≡ v
   value_part i t v u stands = part_stands s (i + length (encode_tag t)) v u (stands_after s i (encode_tag t) (v ++ u) stands (i + length (encode_tag t)) refl)
 
-  rest_said : (i n : ℕ) (e : YamlEvent) (u : List ℕ) → drop i s ≡ encode_rest e ++ u → SoundRest e → said s (Ok (placed_body i n e)) ≡ Some e
+  rest_said : (i n : ℕ) (e : YamlEvent) (u : List ℕ) → drop i s ≡ encode_rest e ++ u → SoundRest e → said s (Ok (placed_body i e, n)) ≡ Some e
   unfolding said encode_rest
   rest_said i n (sequence_start m t) u stands sound = rw (tag_said i t u stands)
   rest_said i n (sequence_end m) u stands sound = refl

@@ -153,7 +153,7 @@ pub record FoundBody (s : List ℕ) (kind m i : ℕ) (r : Result Event Malformed
   pub kind_is : kind ≡ tag_byte event
   pub index_is : m ≡ marker_index event
   pub sound : SoundRest event
-  pub is : r ≡ Ok (placed_body i (length s) event)
+  pub is : r ≡ Ok (placed_body i event)
   pub ends : length s ≡ i + length (encode_rest event)
   pub written : drop i s ≡ encode_rest event ++ drop (length s) s
 
@@ -170,7 +170,7 @@ flag_written b h = go (eqb b 1) refl
 module _ (s : List ℕ) (bytes : Bytes s) where
   pub found_scalar : (m i : ℕ) (t : Option YamlTag × ℕ) → i + 6 ≤ length s → get_or s (i + 4) 0 ≤ 4 → get_or s (i + 5) 0 ≤ 1 → FoundTag s (i + 6) t.0 t.1
       → is_utf8 (part_of s (part t.1 (length s - t.1))) ≡ true
-      → FoundBody s 5 m i (Ok (Scalar m (number_at s i 4) (style_of (get_or s (i + 4) 0)) (eqb (get_or s (i + 5) 0) 1) t.0 (part t.1 (length s - t.1)) (length s)))
+      → FoundBody s 5 m i (Ok (Scalar m (number_at s i 4) (style_of (get_or s (i + 4) 0)) (eqb (get_or s (i + 5) 0) 1) t.0 (part t.1 (length s - t.1))))
   unfolding encode_rest capacity
   found_scalar m i t l known told p u =
       let column = number_at s i 4 in

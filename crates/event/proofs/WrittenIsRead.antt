@@ -64,7 +64,7 @@ flag_known false = omega arith
 
 module _ (s : List ℕ) where
   scalar_read : (i m c y : ℕ) (f : Bool) (t : Tag) (v u : List ℕ) → drop i s ≡ encode_rest (scalar m c y f t v) ++ u → SoundScalar c y t v
-      → length s ≡ i + length (encode_rest (scalar m c y f t v)) → read_scalar s m i ≡ Ok (placed_body i (length s) (scalar m c y f t v))
+      → length s ≡ i + length (encode_rest (scalar m c y f t v)) → read_scalar s m i ≡ Ok (placed_body i (scalar m c y f t v))
   unfolding encode_rest capacity
   scalar_read i m c y f t v u stands sound ends =
       let size = rest_length m c y f t v in
@@ -85,7 +85,7 @@ module _ (s : List ℕ) where
       ∙ rw (column, style, flag, flag_read f, tag_read s (i + 6) t (v ++ u) tag-on sound.tag_sound, value-size, utf8)
 
   body_read : (i : ℕ) (x : YamlEvent) (u : List ℕ) → drop i s ≡ encode_rest x ++ u → SoundRest x → length s ≡ i + length (encode_rest x)
-      → read_body s (tag_byte x) (marker_index x) i ≡ Ok (placed_body i (length s) x)
+      → read_body s (tag_byte x) (marker_index x) i ≡ Ok (placed_body i x)
   unfolding read_body encode_rest
   body_read i (sequence_start m t) u stands sound ends = rw (start_tag_read s i t u stands sound ends)
   body_read i (sequence_end m) u stands sound ends = rw (le-ltb i (length s) (omega arith))
@@ -130,7 +130,6 @@ module _ (s : List ℕ) (i : ℕ) (x : YamlEvent) (stands : StandsAt s i x) wher
       let inside = stands_inside s i (encode_event x) stands.rest stands.starts (omega arith) in
       let end : i + 3 + number_at s (i + 1) 2 ≡ i + 3 + 4 + length (encode_rest x) = omega arith in
       let size : length upto ≡ i + 3 + 4 + length (encode_rest x) = length-take-le _ s (omega arith) in
-      let ends : length upto ≡ i + length (encode_event x) = omega arith in
+      let next : i + 3 + 4 + length (encode_rest x) ≡ i + length (encode_event x) = omega arith in
       framed s i (omega arith) (omega arith)
-      ∙ rw (end, kind, index) (body_read upto (i + 3 + 4) x [] rest_cut stands.sound.rest size)
-      ∙ ap (λ (n : ℕ). Ok (placed_body (i + 3 + 4) n x)) ends
+      ∙ rw (end, kind, index, body_read upto (i + 3 + 4) x [] rest_cut stands.sound.rest size, next)

@@ -9,7 +9,7 @@ use Rattle.event.specs.declared.read.Event.{Event}
 use Rattle.event.specs.declared.read.Event.TheVariants.{SequenceStart, SequenceEnd, MappingStart, MappingEnd, Scalar, Alias}
 
 -- the event e has the bytes s, and is read from them as r
-abbrev pub Worked : YamlEvent → List ℕ → Event → Type 0
+abbrev pub Worked : YamlEvent → List ℕ → Event × ℕ → Type 0
 Worked e s r = (encode_event e ≡ s) × (read_event s 0 ≡ Ok r)
 
 abbrev pub Refused : List ℕ → Type 0
@@ -23,40 +23,40 @@ pub record Examples : Type 0 where
   -- ---- the six events
 
   -- index 258, no tag
-  pub sequence_start_is : Worked (sequence_start 258 untagged) (1 ∷ 0 ∷ 5 ∷ 0 ∷ 0 ∷ 1 ∷ 2 ∷ 0 ∷ []) (SequenceStart 258 None 8)
+  pub sequence_start_is : Worked (sequence_start 258 untagged) (1 ∷ 0 ∷ 5 ∷ 0 ∷ 0 ∷ 1 ∷ 2 ∷ 0 ∷ []) (SequenceStart 258 None, 8)
   -- the tag `!t`: handle `!`, suffix `t`
   pub tagged-sequence-start :
       Worked (sequence_start 0 (tagged (33 ∷ []) (116 ∷ [])))
       (1 ∷ 0 ∷ 11 ∷ 0 ∷ 0 ∷ 0 ∷ 0 ∷ 1 ∷ 0 ∷ 1 ∷ 33 ∷ 0 ∷ 1 ∷ 116 ∷ [])
-      (SequenceStart 0 (Some (yaml_tag (part 10 1) (part 13 1))) 14)
+      (SequenceStart 0 (Some (yaml_tag (part 10 1) (part 13 1))), 14)
   -- index 9
-  pub sequence_end_is : Worked (sequence_end 9) (2 ∷ 0 ∷ 4 ∷ 0 ∷ 0 ∷ 0 ∷ 9 ∷ []) (SequenceEnd 9 7)
+  pub sequence_end_is : Worked (sequence_end 9) (2 ∷ 0 ∷ 4 ∷ 0 ∷ 0 ∷ 0 ∷ 9 ∷ []) (SequenceEnd 9, 7)
   -- the largest index
-  pub mapping_start_is : Worked (mapping_start 0xffff_ffff untagged) (3 ∷ 0 ∷ 5 ∷ 255 ∷ 255 ∷ 255 ∷ 255 ∷ 0 ∷ []) (MappingStart 0xffff_ffff None 8)
+  pub mapping_start_is : Worked (mapping_start 0xffff_ffff untagged) (3 ∷ 0 ∷ 5 ∷ 255 ∷ 255 ∷ 255 ∷ 255 ∷ 0 ∷ []) (MappingStart 0xffff_ffff None, 8)
   -- handle and suffix may be empty
   pub tagged-mapping-start :
       Worked (mapping_start 1 (tagged [] []))
       (3 ∷ 0 ∷ 9 ∷ 0 ∷ 0 ∷ 0 ∷ 1 ∷ 1 ∷ 0 ∷ 0 ∷ 0 ∷ 0 ∷ [])
-      (MappingStart 1 (Some (yaml_tag (part 10 0) (part 12 0))) 12)
+      (MappingStart 1 (Some (yaml_tag (part 10 0) (part 12 0))), 12)
   -- index 65536
-  pub mapping_end_is : Worked (mapping_end 65536) (4 ∷ 0 ∷ 4 ∷ 0 ∷ 1 ∷ 0 ∷ 0 ∷ []) (MappingEnd 65536 7)
+  pub mapping_end_is : Worked (mapping_end 65536) (4 ∷ 0 ∷ 4 ∷ 0 ∷ 1 ∷ 0 ∷ 0 ∷ []) (MappingEnd 65536, 7)
   -- plain, an empty span, no value
   pub plain-scalar :
       Worked (scalar 7 0 0 true untagged [])
       (5 ∷ 0 ∷ 11 ∷ 0 ∷ 0 ∷ 0 ∷ 7 ∷ 0 ∷ 0 ∷ 0 ∷ 0 ∷ 0 ∷ 1 ∷ 0 ∷ [])
-      (Scalar 7 0 Plain true None (part 14 0) 14)
+      (Scalar 7 0 Plain true None (part 14 0), 14)
   -- double-quoted, at index 3 and column 2, with the value `é`
   pub quoted-scalar :
       Worked (scalar 3 2 2 false untagged (195 ∷ 169 ∷ []))
       (5 ∷ 0 ∷ 13 ∷ 0 ∷ 0 ∷ 0 ∷ 3 ∷ 0 ∷ 0 ∷ 0 ∷ 2 ∷ 2 ∷ 0 ∷ 0 ∷ 195 ∷ 169 ∷ [])
-      (Scalar 3 2 DoubleQuoted false None (part 14 2) 16)
+      (Scalar 3 2 DoubleQuoted false None (part 14 2), 16)
   -- folded, with the tag `!t` and the value `a`
   pub tagged-scalar :
       Worked (scalar 3 2 4 false (tagged (33 ∷ []) (116 ∷ [])) (97 ∷ []))
       (5 ∷ 0 ∷ 18 ∷ 0 ∷ 0 ∷ 0 ∷ 3 ∷ 0 ∷ 0 ∷ 0 ∷ 2 ∷ 4 ∷ 0 ∷ 1 ∷ 0 ∷ 1 ∷ 33 ∷ 0 ∷ 1 ∷ 116 ∷ 97 ∷ [])
-      (Scalar 3 2 Folded false (Some (yaml_tag (part 16 1) (part 19 1))) (part 20 1) 21)
+      (Scalar 3 2 Folded false (Some (yaml_tag (part 16 1) (part 19 1))) (part 20 1), 21)
   -- index 5
-  pub alias_event : Worked (alias 5) (6 ∷ 0 ∷ 4 ∷ 0 ∷ 0 ∷ 0 ∷ 5 ∷ []) (Alias 5 7)
+  pub alias_event : Worked (alias 5) (6 ∷ 0 ∷ 4 ∷ 0 ∷ 0 ∷ 0 ∷ 5 ∷ []) (Alias 5, 7)
   -- ---- what is refused (R3)
 
   -- the place is the end
@@ -101,9 +101,9 @@ pub record Examples : Type 0 where
   pub suffix_not_utf8 : Refused (5 ∷ 0 ∷ 18 ∷ 0 ∷ 0 ∷ 0 ∷ 3 ∷ 0 ∷ 0 ∷ 0 ∷ 2 ∷ 4 ∷ 0 ∷ 1 ∷ 0 ∷ 1 ∷ 33 ∷ 0 ∷ 1 ∷ 128 ∷ 97 ∷ [])
   -- ---- three events in a row, each read at the place that the one before it gave
 
-  pub first : read_event in_arow 0 ≡ Ok (SequenceStart 0 None 8)
-  pub second : read_event in_arow 8 ≡ Ok (Scalar 3 2 DoubleQuoted false None (part 22 2) 24)
-  pub third : read_event in_arow 24 ≡ Ok (SequenceEnd 1 31)
+  pub first : read_event in_arow 0 ≡ Ok (SequenceStart 0 None, 8)
+  pub second : read_event in_arow 8 ≡ Ok (Scalar 3 2 DoubleQuoted false None (part 22 2), 24)
+  pub third : read_event in_arow 24 ≡ Ok (SequenceEnd 1, 31)
 
 pub examples : Examples
 unfolding encode_event encode_body encode_rest encode_tag encode_string high_first read_event read_body read_scalar read_start_tag

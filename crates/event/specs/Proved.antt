@@ -36,13 +36,13 @@ pub record ScalarWithin (s : List ℕ) (i m c y : ℕ) (t : Option YamlTag) (v :
   pub tag_within : TextParts s t
   pub value_within : TextPart s v
 
-abbrev pub EventWithin : List ℕ → ℕ → Result Event Malformed → Type 0
-EventWithin s i (Ok (SequenceStart m t n)) = EventPassed s i m n × TextParts s t
-EventWithin s i (Ok (SequenceEnd m n)) = EventPassed s i m n
-EventWithin s i (Ok (MappingStart m t n)) = EventPassed s i m n × TextParts s t
-EventWithin s i (Ok (MappingEnd m n)) = EventPassed s i m n
-EventWithin s i (Ok (Scalar m c y f t v n)) = ScalarWithin s i m c (style_number y) t v n
-EventWithin s i (Ok (Alias m n)) = EventPassed s i m n
+abbrev pub EventWithin : List ℕ → ℕ → Result (Event × ℕ) Malformed → Type 0
+EventWithin s i (Ok (SequenceStart m t, n)) = EventPassed s i m n × TextParts s t
+EventWithin s i (Ok (SequenceEnd m, n)) = EventPassed s i m n
+EventWithin s i (Ok (MappingStart m t, n)) = EventPassed s i m n × TextParts s t
+EventWithin s i (Ok (MappingEnd m, n)) = EventPassed s i m n
+EventWithin s i (Ok (Scalar m c y f t v, n)) = ScalarWithin s i m c (style_number y) t v n
+EventWithin s i (Ok (Alias m, n)) = EventPassed s i m n
 EventWithin s i (Err e) = Unit {0}
 
 -- ---- no two have the same bytes

@@ -78,7 +78,7 @@ read_start_tag s i = do
 abbrev pub with_value : List ℕ → ℕ → ℕ → Style → Bool → Option YamlTag × ℕ → Result Event Malformed
 with_value s n column style empty t =
     let value = part t.1 (length s - t.1) in
-    cond (is_utf8 (part_of s value)) (Ok (Scalar n column style empty t.0 value (length s))) (Err malformed)
+    cond (is_utf8 (part_of s value)) (Ok (Scalar n column style empty t.0 value)) (Err malformed)
 
 unfoldable pub read_scalar : List ℕ → ℕ → ℕ → Result Event Malformed
 read_scalar s n i =
@@ -91,27 +91,29 @@ read_scalar s n i =
     (Err malformed)
 
 -- nothing but the marker index, by the tag byte
-abbrev pub bare_event : ℕ → ℕ → ℕ → Result Event Malformed
-bare_event kind n e =
-    cond (eqb kind 2) (Ok (SequenceEnd n e)) (cond (eqb kind 4) (Ok (MappingEnd n e)) (cond (eqb kind 6) (Ok (Alias n e)) (Err malformed)))
+abbrev pub bare_event : ℕ → ℕ → Result Event Malformed
+bare_event kind n =
+    cond (eqb kind 2) (Ok (SequenceEnd n)) (cond (eqb kind 4) (Ok (MappingEnd n)) (cond (eqb kind 6) (Ok (Alias n)) (Err malformed)))
 
 -- by the tag byte
 unfoldable pub read_body : List ℕ → ℕ → ℕ → ℕ → Result Event Malformed
 read_body s kind n i =
     cond (eqb kind 5) (read_scalar s n i)
-    (cond (eqb kind 1) (read_start_tag s i >>= λ t. Ok (SequenceStart n t (length s)))
-    (cond (eqb kind 3) (read_start_tag s i >>= λ t. Ok (MappingStart n t (length s)))
-    (cond (ltb i (length s)) (Err malformed) (bare_event kind n (length s)))))
+    (cond (eqb kind 1) (read_start_tag s i >>= λ t. Ok (SequenceStart n t))
+    (cond (eqb kind 3) (read_start_tag s i >>= λ t. Ok (MappingStart n t))
+    (cond (ltb i (length s)) (Err malformed) (bare_event kind n))))
 
 -- ---- the frame
 
--- the event at a place: a tag byte, the body's length in two bytes, a body of at least the marker index, from the bytes up to its end
-unfoldable pub read_event : List ℕ → ℕ → Result Event Malformed
+-- the event at a place, and the place after it: a tag byte, the body's length in two bytes, a body of at least the marker index, from the
+-- bytes up to its end
+unfoldable pub read_event : List ℕ → ℕ → Result (Event × ℕ) Malformed
 read_event s i =
     cond (leb (i + 3) (length s))
     (cond (leb (i + 3 + number_at s (i + 1) 2) (length s))
     (cond (leb 4 (number_at s (i + 1) 2))
-    (read_body (take (i + 3 + number_at s (i + 1) 2) s) (get_or s i 0) (number_at s (i + 3) 4) (i + 3 + 4))
+    (read_body (take (i + 3 + number_at s (i + 1) 2) s) (get_or s i 0) (number_at s (i + 3) 4) (i + 3 + 4)
+    >>= λ e. Ok (e, i + 3 + number_at s (i + 1) 2))
     (Err malformed))
     (Err malformed))
     (Err malformed)

@@ -37,26 +37,23 @@ const EMPTY_SPAN: usize = 5;
 
 const YAML_TAG: usize = 6;
 
-// An event: its marker index, what its body adds, and the place after it.
+// An event: its marker index and what its body adds. The index stands in each variant: each body begins with it, and a struct around the
+// event would be taken apart at the one match that the library has.
 #[derive(Clone, Copy, Debug, PartialEq, Eq)]
 pub enum Event {
     SequenceStart {
         index: u32,
         tag: Option<YamlTag>,
-        next: usize,
     },
     SequenceEnd {
         index: u32,
-        next: usize,
     },
     MappingStart {
         index: u32,
         tag: Option<YamlTag>,
-        next: usize,
     },
     MappingEnd {
         index: u32,
-        next: usize,
     },
     Scalar {
         index: u32,
@@ -65,11 +62,9 @@ pub enum Event {
         empty_span: bool,
         tag: Option<YamlTag>,
         value: Part,
-        next: usize,
     },
     Alias {
         index: u32,
-        next: usize,
     },
 }
 
@@ -83,10 +78,11 @@ fn read_scalar(events: &[u8], index: u32, at: usize) -> Result<Event, Malformed>
     }
     let column = number_at(events, at, 4);
     let style = Style::try_from(events[at + STYLE])?;
-    let flag = events[at + EMPTY_SPAN];
-    if 1 < flag {
-        return Err(Malformed);
-    }
+    let empty_span = match events[at + EMPTY_SPAN] {
+        0 => false,
+        1 => true,
+        _ => return Err(Malformed),
+    };
     let (tag, from) = tag_at(events, at + YAML_TAG)?;
     let value = &events[from..];
     if !is_utf8(value) {
@@ -96,13 +92,12 @@ fn read_scalar(events: &[u8], index: u32, at: usize) -> Result<Event, Malformed>
         index,
         column,
         style,
-        empty_span: flag == 1,
+        empty_span,
         tag,
         value: Part {
             at: from,
             len: value.len(),
         },
-        next: events.len(),
     })
 }
 
@@ -111,32 +106,29 @@ fn read_scalar(events: &[u8], index: u32, at: usize) -> Result<Event, Malformed>
 fn read_body(events: &[u8], kind: u8, index: u32, at: usize) -> Result<Event, Malformed>
     ensures { result ≡ read_body events.now kind index at }
 {
-    let next = events.len();
     match kind {
         SCALAR => read_scalar(events, index, at),
         SEQUENCE_START => Ok(Event::SequenceStart {
             index,
             tag: start_tag(events, at)?,
-            next,
         }),
         MAPPING_START => Ok(Event::MappingStart {
             index,
             tag: start_tag(events, at)?,
-            next,
         }),
         // The body of any other is its marker index alone.
-        _ if at < next => Err(Malformed),
-        SEQUENCE_END => Ok(Event::SequenceEnd { index, next }),
-        MAPPING_END => Ok(Event::MappingEnd { index, next }),
-        ALIAS => Ok(Event::Alias { index, next }),
+        _ if at < events.len() => Err(Malformed),
+        SEQUENCE_END => Ok(Event::SequenceEnd { index }),
+        MAPPING_END => Ok(Event::MappingEnd { index }),
+        ALIAS => Ok(Event::Alias { index }),
         _ => Err(Malformed),
     }
 }
 
-// The event that starts at `at`, or Malformed: the header cut off, an unknown tag or style, a flag above 1, a body that is
-// short, overlong or past the bytes, or a value, handle or suffix that is no UTF-8.
+// The event that starts at `at`, and the place after it, or Malformed: the header cut off, an unknown tag or style, a flag above 1, a
+// body that is short, overlong or past the bytes, or a value, handle or suffix that is no UTF-8.
 #[tactic(auto, unfolding(crate::specs::Read::read_event))]
-pub fn read_event(events: &[u8], at: usize) -> Result<Event, Malformed>
+pub fn read_event(events: &[u8], at: usize) -> Result<(Event, usize), Malformed>
     ensures { result ≡ read_event events.now at }
 {
     if events.len().saturating_sub(at) < HEADER {
@@ -150,5 +142,6 @@ pub fn read_event(events: &[u8], at: usize) -> Result<Event, Malformed>
     }
     let index = number_at(events, body, INDEX);
     // Nothing of the event is read past its body's end.
-    read_body(&events[..end], events[at], index, body + INDEX)
+    let event = read_body(&events[..end], events[at], index, body + INDEX)?;
+    Ok((event, end))
 }

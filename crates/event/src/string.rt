@@ -19,6 +19,7 @@ pub struct Part {
 impl Part {
     // Its bytes.
     pub fn bytes_in(self, events: &[u8]) -> &[u8]
+        // A slice's index asks that the bytes are there.
         requires { self.at + self.len ≤ length events.now }
         ensures { result.now ≡ part_of events.now self }
     {

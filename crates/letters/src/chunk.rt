@@ -1,9 +1,10 @@
-// Bytes that are looked at a chunk at a time. No place of a chunk ends the loop over it: each is tested, and the first that fails is kept, which a
-// processor does for all of them at once.
+// Bytes that are looked at a chunk at a time. No place of a chunk ends the loop over it: each is tested, and the first that fails is kept,
+// which a processor does for all of them at once.
 ghost use Rattle.std.specs.Prelude.{ℕ, ◌*◌, ◌^◌, ◌<◌, true};
 ghost use Rattle.letters.specs.FirstPlaces.{FirstPlaces};
 
-// How many places pass before the first that does not, of so many chunks of N.
+// How many places pass before the first that does not, of so many chunks of N. N is a `u8` and no `usize`: places within a chunk are single
+// bytes, so that a processor keeps more of them at once.
 pub fn passing<const N: u8, F: Fn(usize) -> bool>(chunks: usize, passes: F) -> usize
     requires size { chunks * N < 2 ^ 64 }
     requires callable { (i : ℕ) → i < chunks * N → F.pre passes i }

@@ -43,9 +43,9 @@ fn first_line(tail: Utf8Bytes<'_>) -> Line
     Line { lead, trimmed, len }
 }
 
-// The length in bytes of a block scalar whose first content character stands at the start of `rest`, at column `column`: it goes
-// on over lines that are blank or indented at least so far, and ends with the last one that is not blank. The loop goes line by line, each as
-// long as it is read to be.
+// The length in bytes of a block scalar whose first content character stands at the start of `rest`, at column `column`: it goes on over
+// lines that are blank or indented at least so far, and ends with the last one that is not blank. The loop goes line by line, each as long
+// as it is read to be.
 pub fn block_scalar_len(rest: Utf8Bytes<'_>, column: usize) -> usize
     ensures { result ≡ block_len rest.entry.bytes.now column }
 {
@@ -53,7 +53,7 @@ pub fn block_scalar_len(rest: Utf8Bytes<'_>, column: usize) -> usize
     let mut end = first.trimmed;
     let mut at = first.len + 1;
     while at < rest.bytes.len() {
-        let line = first_line(rest.from(at));
+        let line = first_line(rest.rest_from(at));
         if 0 < line.trimmed {
             if line.lead < column {
                 return end;

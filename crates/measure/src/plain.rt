@@ -7,6 +7,7 @@ use crate::run::{NEWLINE, white_space_run};
 use letters::letter::letters;
 use utf8::utf8::{Utf8Bytes, first_char};
 
+// A code point, where the one of `utf8` is a byte.
 const BLANK: u32 = 0x20;
 
 // Whether a character of a value can stand for a folded line break. The walk asks it of a byte.
@@ -17,13 +18,13 @@ fn is_fold(code: u32) -> bool
     code == BLANK || code == NEWLINE
 }
 
-// The length in bytes of a plain scalar that stands at the start of `rest`: up to the last character that is equal in the value,
-// or, assumed, the value's own length where the two do not line up.
+// The length in bytes of a plain scalar that stands at the start of `rest`: up to the last character that is equal in the value, or,
+// assumed, the value's own length where the two do not line up.
 //
 // `at` and `v` are how far the rest and the value are matched. The first unequal byte ends the whole measure: its break leaves both loops
 // with the value's length. `known` is where the white space that was last looked at ends: no newline stands before it, so it is not looked
-// at again. After an equal character come mostly letters, which are passed over at once. The two loops and the labelled break are a rule of the
-// project (F6).
+// at again. After an equal character come mostly letters, which are passed over at once. The two loops and the labelled break are a rule of
+// the project (F6).
 pub fn plain_scalar_len(rest: Utf8Bytes<'_>, value: Utf8Bytes<'_>) -> Measure
     ensures { result ≡ plain_measure rest.entry.bytes.now value.entry.bytes.now }
 {
@@ -37,7 +38,7 @@ pub fn plain_scalar_len(rest: Utf8Bytes<'_>, value: Utf8Bytes<'_>) -> Measure
             break Measure::measured(end);
         };
         if known <= at && is_fold(c.code) {
-            let run = white_space_run(rest.from(at));
+            let run = white_space_run(rest.rest_from(at));
             if run.newline {
                 at += run.len;
                 v += c.len;

@@ -3,14 +3,11 @@ ghost use Rattle.std.specs.Prelude.{◌≡◌};
 ghost use Rattle.measure.specs.Quoted.{passed_together, quoted_len, quoted_measure};
 
 use crate::length::Measure;
+pub use letters::letter::{BACKSLASH, SINGLE_QUOTE};
 use letters::mark::unmarked;
 use utf8::utf8::byte_at;
 
-pub const SINGLE_QUOTE: u8 = b'\'';
-
 pub const DOUBLE_QUOTE: u8 = b'"';
-
-pub const BACKSLASH: u8 = b'\\';
 
 // Whether `a` and the byte `b` after it are passed together: `''` in single quotes; in double quotes a backslash and any byte.
 #[tactic(auto, unfolding(crate::specs::Quoted::passed_together))]
@@ -24,8 +21,8 @@ fn passed_together(quote: u8, a: u8, b: u8) -> bool
     }
 }
 
-// The length in bytes of a quoted scalar that stands at the start of `rest`, both marks counted, or None where `rest` does not start with `quote`
-// or has no closing one. After an ordinary byte come mostly more, which are passed over at once.
+// The length in bytes of a quoted scalar that stands at the start of `rest`, both marks counted, or None where `rest` does not start with
+// `quote` or has no closing one. After an ordinary byte come mostly more, which are passed over at once.
 pub fn quoted_scalar_len(rest: &[u8], quote: u8) -> Option<usize>
     ensures { result ≡ quoted_len rest.now quote }
 {

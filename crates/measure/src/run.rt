@@ -6,6 +6,7 @@ ghost use Rattle.measure.specs.Counted.{run_of};
 use utf8::utf8::{Utf8Bytes, first_char};
 use utf8::white_space::is_white_space;
 
+// A code point, where the one of `utf8` is a byte.
 pub const NEWLINE: u32 = 0xa;
 
 // The white space that a text begins with: its bytes, and whether a newline is among it. By code points: the walk has a run of its own, by

@@ -1,7 +1,7 @@
 -- The nodes that a call builds are the tree of its events, written in post-order, their records are sound, and each has the kind of the event
 -- that completes it (N2, N3): kept by every step of the machine.
 use mathlib.Core.Path.{◌≡◌, refl, sym, ap, subst, ◌∙◌}
-use mathlib.Core.Bool.{Bool, true, false, ◌&&◌, not, cond}
+use mathlib.Core.Bool.{Bool, true, false, cond}
 use mathlib.Core.List.{List, [], ◌∷◌, ◌++◌, append_assoc, append-nil}
 use Rattle.std.specs.Prelude.{Option, Result, Ok, Err, None, Some}
 use Prim.Native.Nat.{ℕ, zero, suc, ◌+◌, ◌%◌, ◌<◌, ◌≤◌}
@@ -24,12 +24,14 @@ use Rattle.event.specs.declared.read.Event.TheVariants.{SequenceStart, SequenceE
 use Rattle.event.specs.declared.tag.YamlTag.{YamlTag}
 use Rattle.records.specs.Record.{with_list, alias_node}
 use Rattle.spans.specs.Scalar.{ScalarAt, list_at, suffix_of, tag_info, resolved_by, scalar_over, scalar_node, scalar_given, event_scalar, event_node}
-use Rattle.spans.specs.Collection.{with_child, awaits_value, closes, members, collection_over, collection_node}
-use Rattle.parser.specs.Machine.{State, empty, Next, go, stop, Outcome, built, refused, root_done, before_root, within_depth, within_room, completed, on_start, ended, on_end, on_alias, keeping, scalar_kept, on_scalar, on_event, next_place, ending, run, run_all}
+use Rattle.spans.specs.Collection.{with_child, awaits_value, closes, collection_kind, members, collection_over, collection_node}
+use Rattle.parser.specs.Machine.{State, empty, Next, go, stop, Outcome, built, refused, root_done, before_root, within_depth, within_room, completed, opening as opened, on_start, ended, on_end, on_alias, keeping, scalar_kept, on_scalar, on_read, next_place, ending, run, run_all}
 use Rattle.records.specs.Layout.{record_room, piece_room}
 use Rattle.parser.specs.Call.{admitted, building}
 use Rattle.parser.proofs.RunLaws.{run_ended, run_stopped, stop_not_go}
 use Rattle.records.specs.declared.record.Node.{Node}
+use Rattle.spans.specs.declared.open.Collection.{Collection}
+use Rattle.spans.specs.declared.open.Collection.TheVariants.{Sequence, Mapping}
 use Rattle.spans.specs.declared.open.Open.{Open}
 use Rattle.node.specs.Forest.{Forest, nil, snoc, post_order, nodes_in}
 use Rattle.node.proofs.ForestLaws.{both_true}
@@ -192,23 +194,30 @@ scalar-kept text events room x tag g st n k d e =
 
 -- ---- ends
 
+-- what ends a collection is of its kind
+same_kind : (collection is : Collection) (o : Open) → o.collection ≡ is → closes collection o ≡ true → is ≡ collection
+unfolding closes
+same_kind Sequence Sequence o q e = refl
+same_kind Sequence Mapping o q e = absurd (true_not_false (sym (rw q at e)))
+same_kind Mapping Sequence o q e = absurd (true_not_false (sym (rw q at e)))
+same_kind Mapping Mapping o q e = refl
+
 -- a mapping that ends has as many values as keys
-even : (mapping is : Bool) (c : ℕ) → cond mapping (is && eqb (c % 2) 0) (not is) ≡ true → is ≡ true → c % 2 ≡ 0
-even true true c e q = eqb-true (c % 2) 0 e
-even true false c e q = absurd (true_not_false (sym q))
-even false true c e q = absurd (true_not_false (sym e))
-even false false c e q = absurd (true_not_false (sym q))
+even : (collection : Collection) (o : Open) → o.collection ≡ Mapping → closes collection o ≡ true → o.children % 2 ≡ 0
+unfolding closes
+even Sequence o q e = absurd (true_not_false (sym (rw q at e)))
+even Mapping o q e = eqb-true (o.children % 2) 0 (rw q at e)
 
 collection-tree :
-    (text : List ℕ) (mapping : Bool) (o : Open) (kids : Forest) (s e n : ℕ) →
-    closes mapping o ≡ true → o.children ≡ trees kids → n ≡ o.before + nodes_in kids → Tree (collection_over text o s e n) kids
-unfolding collection_over closes members
-collection-tree text mapping o kids s e n ends c m = by o.mapping refl
+    (text : List ℕ) (collection : Collection) (o : Open) (kids : Forest) (s e n : ℕ) →
+    closes collection o ≡ true → o.children ≡ trees kids → n ≡ o.before + nodes_in kids → Tree (collection_over text o s e n) kids
+unfolding collection_over members
+collection-tree text collection o kids s e n ends c m = by o.collection refl
   where
-    by : (is : Bool) → o.mapping ≡ is → Tree (collection_over text o s e n) kids
-    by true q =
-        let p = even mapping o.mapping o.children ends q in
-        let k : ◌≡◌ {A = ℕ} (cond o.mapping 8 7) 8 = rw q refl in
+    by : (is : Collection) → o.collection ≡ is → Tree (collection_over text o s e n) kids
+    by Mapping q =
+        let p = even collection o q ends in
+        let k : collection_kind o.collection ≡ 8 = rw q refl in
         record {
           kind = rw q refl;
           count = omega arith;
@@ -216,8 +225,8 @@ collection-tree text mapping o kids s e n ends c m = by o.mapping refl
           array = λ h. absurd (omega arith);
           hash = λ h. rw q (omega arith);
         }
-    by false q =
-        let k : ◌≡◌ {A = ℕ} (cond o.mapping 8 7) 7 = rw q refl in
+    by Sequence q =
+        let k : collection_kind o.collection ≡ 7 = rw q refl in
         record {
           kind = rw q refl;
           count = omega arith;
@@ -226,36 +235,32 @@ collection-tree text mapping o kids s e n ends c m = by o.mapping refl
           hash = λ h. absurd (omega arith);
         }
 
--- what an end of a mapping, or of a sequence, completes
-abbrev end_shape : Bool → Shape
-end_shape mapping = cond mapping hash array
+-- what the end of a collection completes
+abbrev end_shape : Collection → Shape
+end_shape Sequence = array
+end_shape Mapping = hash
 
--- it is of the kind of its end
-same_kind : (mapping is : Bool) (c : ℕ) → cond mapping (is && eqb (c % 2) 0) (not is) ≡ true → is ≡ mapping
-same_kind true true c e = refl
-same_kind true false c e = absurd (true_not_false (sym e))
-same_kind false true c e = absurd (true_not_false (sym e))
-same_kind false false c e = refl
+kind_shape : (collection : Collection) (x : Node) → x.kind ≡ collection_kind collection → HasShape (end_shape collection) x
+kind_shape Sequence x e = e
+kind_shape Mapping x e = e
 
-kind_shape : (mapping : Bool) (x : Node) → x.kind ≡ cond mapping 8 7 → HasShape (end_shape mapping) x
-kind_shape true x e = e
-kind_shape false x e = e
-
-collection_shape : (text : List ℕ) (mapping : Bool) (o : Open) (i n : ℕ) → closes mapping o ≡ true → HasShape (end_shape mapping) (collection_node text o i n)
-unfolding collection_node collection_over closes
-collection_shape text mapping o i n ends =
-    kind_shape mapping (collection_node text o i n) (ap (λ (is : Bool). cond {A = ℕ} is 8 7) (same_kind mapping o.mapping o.children ends))
+collection_shape :
+    (text : List ℕ) (collection : Collection) (o : Open) (i n : ℕ) → closes collection o ≡ true →
+    HasShape (end_shape collection) (collection_node text o i n)
+unfolding collection_node collection_over
+collection_shape text collection o i n ends =
+    kind_shape collection (collection_node text o i n) (ap collection_kind (same_kind collection o.collection o refl ends))
 
 end-added :
-    (text : List ℕ) (mapping : Bool) (o : Open) (os : List Open) (g : Progress) (st : State) (i : ℕ) → Kept g (o ∷ os) st.nodes → closes mapping o ≡ true →
-    Advance (closing (end_shape mapping)) g st (completed (collection_node text o i (length st.nodes)) (record { nodes = st.nodes; opens = os; pieces = st.pieces }))
+    (text : List ℕ) (collection : Collection) (o : Open) (os : List Open) (g : Progress) (st : State) (i : ℕ) → Kept g (o ∷ os) st.nodes → closes collection o ≡ true →
+    Advance (closing (end_shape collection)) g st (completed (collection_node text o i (length st.nodes)) (record { nodes = st.nodes; opens = os; pieces = st.pieces }))
 unfolding completed collection_node growth
-end-added text mapping o os (growing []) st i k c = absurd k
-end-added text mapping o os (growing (kids ∷ fs)) st i (outer, nest, l) c =
+end-added text collection o os (growing []) st i k c = absurd k
+end-added text collection o os (growing (kids ∷ fs)) st i (outer, nest, l) c =
     let x = collection_node text o i (length st.nodes) in
     let n : length st.nodes ≡ length outer + nodes_in kids = ap length l.order ∙ length-append outer (post_order kids) in
     let b = l.before in
-    let t = collection-tree text mapping o kids _ _ (length st.nodes) c l.children (omega arith) in
+    let t = collection-tree text collection o kids _ _ (length st.nodes) c l.children (omega arith) in
     let e : st.nodes ++ (x ∷ []) ≡ outer ++ (post_order kids ++ (x ∷ [])) = ap (λ (z : List Node). z ++ (x ∷ [])) l.order ∙ append_assoc outer (post_order kids) (x ∷ []) in
     record {
       new = x ∷ [];
@@ -263,35 +268,35 @@ end-added text mapping o os (growing (kids ∷ fs)) st i (outer, nest, l) c =
       nodes = refl;
       kept = completes fs os outer (st.nodes ++ (x ∷ [])) x kids x.extent.start nest l.sound t e;
       onward = λ ms ys. ap (growth ms ys) (stack-complete x kids fs);
-      shaped = λ ms ys h. (collection_shape text mapping o i (length st.nodes) c, h);
+      shaped = λ ms ys h. (collection_shape text collection o i (length st.nodes) c, h);
     }
-end-added text mapping o os (grown y others) st i k c = absurd (let z : ◌≡◌ {A = ℕ} (suc (length os)) 0 = ap length k.0 in omega arith)
+end-added text collection o os (grown y others) st i k c = absurd (let z : ◌≡◌ {A = ℕ} (suc (length os)) 0 = ap length k.0 in omega arith)
 
 closes_on : (t : Bool) (m : ℕ) (x : Next) (n : State) → cond t x (stop m) ≡ go n → (t ≡ true) × (x ≡ go n)
 closes_on true m x n e = (refl, e)
 closes_on false m x n e = absurd (stop_not_go m n e)
 
 end_kept :
-    (text : List ℕ) (room : ℕ) (mapping : Bool) (index : ℕ) (os : List Open) (g : Progress) (st n : State) →
-    Kept g os st.nodes → on_end text room mapping index os st ≡ go n → Advance (closing (end_shape mapping)) g st n
+    (text : List ℕ) (room : ℕ) (collection : Collection) (index : ℕ) (os : List Open) (g : Progress) (st n : State) →
+    Kept g os st.nodes → on_end text room collection index os st ≡ go n → Advance (closing (end_shape collection)) g st n
 unfolding ended within_room
-end_kept text room mapping index [] g st n k e = absurd (stop_not_go 4 n e)
-end_kept text room mapping index (o ∷ os) g st n k e =
-    let c = closes_on (closes mapping o) 4 (ended text room index o os st) n e in
+end_kept text room collection index [] g st n k e = absurd (stop_not_go 4 n e)
+end_kept text room collection index (o ∷ os) g st n k e =
+    let c = closes_on (closes collection o) 4 (ended text room index o os st) n e in
     let a = completed (collection_node text o (byte_offset text index) (length st.nodes)) (record { nodes = st.nodes; opens = os; pieces = st.pieces }) in
-    reached (closing (end_shape mapping)) g st a n (end-added text mapping o os g st (byte_offset text index) k c.0) (cond_goes (leb room (length st.nodes)) 7 (go a) n c.1).1
+    reached (closing (end_shape collection)) g st a n (end-added text collection o os g st (byte_offset text index) k c.0) (cond_goes (leb room (length st.nodes)) 7 (go a) n c.1).1
 
 -- ---- starts
 
 start-kept :
-    (text : List ℕ) (mapping : Bool) (index : ℕ) (tag : Option YamlTag) (g : Progress) (st n : State) →
-    Kept g st.opens st.nodes → on_start text mapping index tag st ≡ go n → Advance opening g st n
+    (text : List ℕ) (collection : Collection) (index : ℕ) (tag : Option YamlTag) (g : Progress) (st n : State) →
+    Kept g st.opens st.nodes → on_start text collection index tag st ≡ go n → Advance opening g st n
 unfolding on_start before_root within_depth growth SoundForest post_order
-start-kept text mapping index tag (grown y others) st n k e = absurd (true_not_false (sym (root_is_done st y others k) ∙ (cond_goes (root_done st) 5 _ n e).0))
-start-kept text mapping index tag (growing fs) st n k e =
+start-kept text collection index tag (grown y others) st n k e = absurd (true_not_false (sym (root_is_done st y others k) ∙ (cond_goes (root_done st) 5 _ n e).0))
+start-kept text collection index tag (growing fs) st n k e =
     let a : State = record {
       nodes = st.nodes;
-      opens = record { mapping = mapping; start = byte_offset text index; suffix = suffix_of tag; children = 0; first = 0; before = length st.nodes } ∷ st.opens;
+      opens = opened collection (byte_offset text index) tag (length st.nodes) ∷ st.opens;
       pieces = st.pieces;
     } in
     let z : st.nodes ≡ st.nodes ++ [] = sym (append-nil st.nodes) in
@@ -324,17 +329,17 @@ built_at false xs ys ps qs k e = absurd (refused_not_built 9 k ys qs e)
 -- ---- every step
 
 module _ (text events : List ℕ) (room piece_room : ℕ) where
-  step_kept : (e : Result Event Malformed) (g : Progress) (st n : State) → Kept g st.opens st.nodes → on_event text events room piece_room e st ≡ go n → Advance (effect_of e) g st n
+  step_kept : (e : Result (Event × ℕ) Malformed) (g : Progress) (st n : State) → Kept g st.opens st.nodes → on_read text events room piece_room e st ≡ go n → Advance (effect_of e) g st n
   unfolding on_alias on_scalar before_root within_room
-  step_kept (Ok (SequenceStart index tag m)) g st n k e = start-kept text false index tag g st n k e
-  step_kept (Ok (SequenceEnd index m)) g st n k e = end_kept text room false index st.opens g st n k e
-  step_kept (Ok (MappingStart index tag m)) g st n k e = start-kept text true index tag g st n k e
-  step_kept (Ok (MappingEnd index m)) g st n k e = end_kept text room true index st.opens g st n k e
-  step_kept (Ok (Scalar index column style empty_span tag value m)) g st n k e =
+  step_kept (Ok (SequenceStart index tag, m)) g st n k e = start-kept text Sequence index tag g st n k e
+  step_kept (Ok (SequenceEnd index, m)) g st n k e = end_kept text room Sequence index st.opens g st n k e
+  step_kept (Ok (MappingStart index tag, m)) g st n k e = start-kept text Mapping index tag g st n k e
+  step_kept (Ok (MappingEnd index, m)) g st n k e = end_kept text room Mapping index st.opens g st n k e
+  step_kept (Ok (Scalar index column style empty_span tag value, m)) g st n k e =
       let a = cond_goes (root_done st) 5 _ n e in
       let b = cond_goes (leb room (length st.nodes)) 7 _ n a.1 in
       scalar-kept text events piece_room (event_scalar text events (byte_offset text index) (awaits_value st.opens) (scalar_given (record { index = index; column = column; style = style; empty = empty_span }) tag value)) tag g st n k a.0 b.1
-  step_kept (Ok (Alias index m)) g st n k e =
+  step_kept (Ok (Alias index, m)) g st n k e =
       let a = cond_goes (root_done st) 5 _ n e in
       let b = cond_goes (leb room (length st.nodes)) 7 _ n a.1 in
       let x = alias_node (byte_offset text index) in
@@ -406,7 +411,7 @@ module _ (text events : List ℕ) (room piece_room : ℕ) where
   run_none i k st = refl
 
   run-next :
-      (f i k : ℕ) (st n : State) → i < length events → on_event text events room piece_room (read_event events i) st ≡ go n →
+      (f i k : ℕ) (st n : State) → i < length events → on_read text events room piece_room (read_event events i) st ≡ go n →
       run text events room piece_room (suc f) i k st ≡ run text events room piece_room f (next_place (read_event events i)) (k + 1) n
   unfolding run
   run-next f i k st n l e = rw (lt-ltb i (length events) l, e)
@@ -422,7 +427,7 @@ module _ (text events : List ℕ) (room piece_room : ℕ) where
           (n : Progress × State) → Kept n.0 n.1.opens n.1.nodes → run text events room piece_room f (next_place (read_event events i)) (k + 1) n.1 ≡ built xs ps →
           Made (effects_from events f (next_place (read_event events i))) n.0 n.1.nodes xs
 
-      onward : i < length events → Rest → (n : Next) → on_event text events room piece_room (read_event events i) st ≡ n → Made (effects_from events (suc f) i) g st.nodes xs
+      onward : i < length events → Rest → (n : Next) → on_read text events room piece_room (read_event events i) st ≡ n → Made (effects_from events (suc f) i) g st.nodes xs
       onward l rest (stop m) q = absurd (refused_not_built m k xs ps (sym (run_stopped text events room piece_room (suc f) i k m st (omega arith) l q) ∙ e))
       onward l rest (go n) q =
           let v = step_kept (read_event events i) g st n h q in
@@ -430,7 +435,7 @@ module _ (text events : List ℕ) (room piece_room : ℕ) where
           subst (λ (ms : List Effect). Made ms g st.nodes xs) (sym (effects_on f i l)) r
 
       by : Dec (i < length events) → Rest → Made (effects_from events (suc f) i) g st.nodes xs
-      by (yes l) rest = onward l rest (on_event text events room piece_room (read_event events i) st) refl
+      by (yes l) rest = onward l rest (on_read text events room piece_room (read_event events i) st) refl
       by (no l) rest = rw (effects_end (suc f) i (omega arith)) (ending_made k g st xs ps h (sym (run_ended text events room piece_room (suc f) i k st (omega arith)) ∙ e))
 
 -- ---- the call

@@ -1,8 +1,8 @@
 -- One step back over children, and over pairs.
-use Rattle.std.proofs.Common.{◌≡◌, refl, ℕ, zero, suc, ◌+◌, ◌-◌, ◌<◌, List, cond, Option, None, Some, arith}
+use Rattle.std.proofs.Common.{◌≡◌, ℕ, zero, suc, ◌-◌, ◌<◌, List, Option, None, Some, arith}
 use Rattle.node.specs.Child.{child_before, steps_back}
 use Rattle.node.specs.Entry.{pair_ending}
-use Rattle.node.specs.Search.{key_is, earlier, search_back}
+use Rattle.node.specs.Search.{earlier, search_back}
 use Rattle.node.specs.declared.entry.YamlHashEntry.{YamlHashEntry}
 
 less_one : (k : ℕ) → suc k - 1 ≡ k

@@ -25,13 +25,14 @@ pub data Effect : Type 0 where
   leaf : Effect
   faulty : Effect
 
-abbrev pub effect_of : Result Event Malformed → Effect
-effect_of (Ok (SequenceStart index tag n)) = opening
-effect_of (Ok (SequenceEnd index n)) = closing array
-effect_of (Ok (MappingStart index tag n)) = opening
-effect_of (Ok (MappingEnd index n)) = closing hash
-effect_of (Ok (Scalar index column style empty_span tag value n)) = leaf
-effect_of (Ok (Alias index n)) = leaf
+-- what was read, an event and the place after it
+abbrev pub effect_of : Result (Event × ℕ) Malformed → Effect
+effect_of (Ok (SequenceStart index tag, next)) = opening
+effect_of (Ok (SequenceEnd index, next)) = closing array
+effect_of (Ok (MappingStart index tag, next)) = opening
+effect_of (Ok (MappingEnd index, next)) = closing hash
+effect_of (Ok (Scalar index column style empty_span tag value, next)) = leaf
+effect_of (Ok (Alias index, next)) = leaf
 effect_of (Err e) = faulty
 
 -- of the events from the place i on; each takes a byte or more, and no more than f are read

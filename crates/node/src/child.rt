@@ -1,4 +1,5 @@
-// Children by their records' numbers. (01: `get_array_item`; the last child is n − 1, the child before c is c less c's subtree count; N3.)
+// Children by their records' numbers. (01: `get_array_item`; the last child is n − 1, the child before c is c less c's subtree count;
+// N3.)
 //
 // Going from the last child back by `child_before` costs one step a child. By index it costs the distance from the last.
 ghost use Rattle.std.specs.Prelude.{◌≡◌};
@@ -63,7 +64,7 @@ fn steps_back(records: &[u32], c: usize, k: usize) -> Option<usize>
 }
 
 // How many children a node has: the items of an array, the keys and values of a hash.
-fn child_count(x: Node) -> usize
+pub fn child_count(x: Node) -> usize
     ensures { result ≡ children x }
 {
     let count = x.payload.first as usize;

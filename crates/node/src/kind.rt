@@ -1,6 +1,5 @@
 // What a node is, and how many children it has. (01: `is_scalar`, `is_array`, `is_hash`, `len`, `is_empty`; N3.)
 ghost use Rattle.std.specs.Prelude.{◌≡◌};
-ghost use Rattle.node.specs.Record.{record_at};
 ghost use Rattle.node.specs.Kind.{is_scalar_at, is_array_at, is_hash_at, members_at, len_at, is_empty_at};
 
 use crate::record::get_record;
@@ -28,7 +27,8 @@ pub fn is_hash(records: &[u32], n: usize) -> Option<bool>
     get_record(records, n).map(|x| x.is(Kind::Hash))
 }
 
-// How many items or pairs record `n` says that it has, if it is of the kind with this number, which may be any.
+// How many items or pairs record `n` says that it has, if it is of the kind with this number. A `Kind` would ask more of callers than the
+// number that it always took.
 pub fn members(records: &[u32], n: usize, kind: u32) -> Option<u32>
     ensures { result ≡ members_at records.now n kind }
 {

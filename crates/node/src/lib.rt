@@ -2,8 +2,9 @@
 //
 // A node is a record's number. Every call reads any buffer, built here or not, and asks nothing of its caller.
 //
-// Buffer and number are two parameters and no handle: answers are numbers, as in the C interface, so a handle of both would be made anew for
-// each of them, at every step from one record to the next. The event bytes and a key are two more, which only the search needs.
+// Buffer and number are two parameters and no handle: answers are numbers, as in the C interface, so a handle of both would be made anew
+// for each of them, at every step from one record to the next; nor would a handle of the records alone be plainer: it would only rename
+// the slice. The event bytes and a key are two more parameters, which only the search needs.
 #![tactic(auto)]
 
 pub mod child;

@@ -16,7 +16,7 @@ fn string_is(events: &[u8], key: &[u8], x: Node) -> bool
 {
     let from = x.payload.first as usize;
     let end = from + x.payload.second as usize;
-    x.is(Kind::Str) && end <= events.len() && &events[from..end] == key
+    x.is(Kind::Str) && events.get(from..end) == Some(key)
 }
 
 // Whether record `k` is a string with the bytes `key`.

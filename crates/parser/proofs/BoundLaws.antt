@@ -25,12 +25,14 @@ use Rattle.spans.specs.Scalar.{Mark, ScalarAt, scalar_at}
 use Rattle.spans.specs.Collection.{closes}
 use Rattle.parser.specs.Machine.{State, empty, Next, go, stop, Outcome, built, refused, depth_limit, root_done, before_root, within_depth, within_room}
 use Rattle.parser.specs.Machine.{completed, on_start, ended, on_end, on_alias, keeping, scalar_kept, on_scalar}
-use Rattle.parser.specs.Machine.{on_event, next_place, ending, follow, run, run_all}
+use Rattle.parser.specs.Machine.{on_read, next_place, ending, follow, run, run_all}
 use Rattle.parser.proofs.RunLaws.{onward, stop_not_go}
 use Rattle.parser.specs.Bounds.{last_number, Bounded}
 use Rattle.records.specs.Layout.{record_room, piece_room, piece_limit}
 use Rattle.parser.specs.Call.{admitted, building, one_scalar, scalar_call}
 use Rattle.records.specs.declared.record.Node.{Node}
+use Rattle.spans.specs.declared.open.Collection.{Collection}
+use Rattle.spans.specs.declared.open.Collection.TheVariants.{Sequence, Mapping}
 use Rattle.spans.specs.declared.open.Open.{Open}
 
 -- ---- a step
@@ -68,15 +70,15 @@ abbrev with_pieces : List Piece → State → State
 with_pieces ps st = record { nodes = st.nodes; opens = st.opens; pieces = st.pieces ++ ps }
 
 module _ (text events : List ℕ) (room r k : ℕ) where
-  start_stepped : (mapping : Bool) (index : ℕ) (tag : Option YamlTag) (st : State) → Holding k r st → Stepped (k + 1) r (on_start text mapping index tag st)
+  start_stepped : (collection : Collection) (index : ℕ) (tag : Option YamlTag) (st : State) → Holding k r st → Stepped (k + 1) r (on_start text collection index tag st)
   unfolding on_start
-  start_stepped mapping index tag st h = before_root_lem (k + 1) r st _ (within_depth_lem (k + 1) r st _ (omega arith, h.1))
+  start_stepped collection index tag st h = before_root_lem (k + 1) r st _ (within_depth_lem (k + 1) r st _ (omega arith, h.1))
 
-  end_stepped : (mapping : Bool) (index : ℕ) (os : List Open) (st : State) → Holding k r st → Stepped (k + 1) r (on_end text room mapping index os st)
+  end_stepped : (collection : Collection) (index : ℕ) (os : List Open) (st : State) → Holding k r st → Stepped (k + 1) r (on_end text room collection index os st)
   unfolding ended
-  end_stepped mapping index [] st h = omega arith
-  end_stepped mapping index (o ∷ os) st h =
-      pick_stepped (k + 1) r (closes mapping o) (ended text room index o os st) (stop 4) (within_room_lem (k + 1) r room st _ (completes k r _ _ h)) (omega arith)
+  end_stepped collection index [] st h = omega arith
+  end_stepped collection index (o ∷ os) st h =
+      pick_stepped (k + 1) r (closes collection o) (ended text room index o os st) (stop 4) (within_room_lem (k + 1) r room st _ (completes k r _ _ h)) (omega arith)
 
   alias_stepped : (index : ℕ) (st : State) → Holding k r st → Stepped (k + 1) r (on_alias text room index st)
   unfolding on_alias
@@ -98,14 +100,14 @@ module _ (text events : List ℕ) (room r k : ℕ) where
   unfolding scalar_kept
   scalar_stepped x tag st h = keep_stepped _ _ st h
 
-  pub stepped : (e : Result Event Malformed) (st : State) → Holding k r st → Stepped (k + 1) r (on_event text events room r e st)
+  pub stepped : (e : Result (Event × ℕ) Malformed) (st : State) → Holding k r st → Stepped (k + 1) r (on_read text events room r e st)
   unfolding on_scalar
-  stepped (Ok (SequenceStart index tag n)) st h = start_stepped false index tag st h
-  stepped (Ok (SequenceEnd index n)) st h = end_stepped false index st.opens st h
-  stepped (Ok (MappingStart index tag n)) st h = start_stepped true index tag st h
-  stepped (Ok (MappingEnd index n)) st h = end_stepped true index st.opens st h
-  stepped (Ok (Scalar index column style empty_span tag value n)) st h = before_root_lem (k + 1) r st _ (within_room_lem (k + 1) r room st _ (scalar_stepped _ tag st h))
-  stepped (Ok (Alias index n)) st h = alias_stepped index st h
+  stepped (Ok (SequenceStart index tag, n)) st h = start_stepped Sequence index tag st h
+  stepped (Ok (SequenceEnd index, n)) st h = end_stepped Sequence index st.opens st h
+  stepped (Ok (MappingStart index tag, n)) st h = start_stepped Mapping index tag st h
+  stepped (Ok (MappingEnd index, n)) st h = end_stepped Mapping index st.opens st h
+  stepped (Ok (Scalar index column style empty_span tag value, n)) st h = before_root_lem (k + 1) r st _ (within_room_lem (k + 1) r room st _ (scalar_stepped _ tag st h))
+  stepped (Ok (Alias index, n)) st h = alias_stepped index st h
   stepped (Err e) st h = omega arith
 
 -- ---- the run
@@ -120,21 +122,21 @@ ended_bounded n r k st h l = by (root_done st)
 
 module _ (text events : List ℕ) (bytes : Bytes events) (room r : ℕ) where
   -- an event that leads on ends further on, within the bytes
-  led_on : (i : ℕ) (st n : State) → on_event text events room r (read_event events i) st ≡ go n
+  led_on : (i : ℕ) (st n : State) → on_read text events room r (read_event events i) st ≡ go n
       → (i < next_place (read_event events i)) × (next_place (read_event events i) ≤ length events)
   led_on i st n e =
       onward events i (read_event events i) (answer_within events i bytes)
-      (λ bad. stop_not_go 3 n (sym (ap (λ (x : Result Event Malformed). on_event text events room r x st) bad) ∙ e))
+      (λ bad. stop_not_go 3 n (sym (ap (λ (x : Result (Event × ℕ) Malformed). on_read text events room r x st) bad) ∙ e))
 
   -- event number k stands at i, and at most k nodes are complete before it
   pub run_bounded : (f i k : ℕ) (st : State) → Holding k r st → k ≤ i → i ≤ length events → Bounded (length events) r (run text events room r f i k st)
   unfolding run
   run_bounded zero i k st h l m = ended_bounded (length events) r k st h (omega arith)
   run_bounded (suc f) i k st h l m =
-      by (ltb i (length events)) (on_event text events room r (read_event events i) st) refl (stepped text events room r k (read_event events i) st h)
+      by (ltb i (length events)) (on_read text events room r (read_event events i) st) refl (stepped text events room r k (read_event events i) st h)
       (λ j u g a b. run_bounded f j (k + 1) u g a b)
     where
-      by : (t : Bool) (n : Next) → on_event text events room r (read_event events i) st ≡ n → Stepped (k + 1) r n
+      by : (t : Bool) (n : Next) → on_read text events room r (read_event events i) st ≡ n → Stepped (k + 1) r n
           → ((j : ℕ) (u : State) → Holding (k + 1) r u → k + 1 ≤ j → j ≤ length events → Bounded (length events) r (run text events room r f j (k + 1) u))
           → Bounded (length events) r (cond t (follow n (λ (u : State). run text events room r f (next_place (read_event events i)) (k + 1) u) k) (ending k st))
       by false n e g rest = ended_bounded (length events) r k st h (omega arith)

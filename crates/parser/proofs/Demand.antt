@@ -55,7 +55,7 @@ use Rattle.records.specs.Record.{absent, extent, no_tag, no_list, piece_list, wi
 use Rattle.spans.specs.Scalar.{Mark, mark, start_at, scalar_at, walk_first, suffix_of, tag_info, resolved_by, scalar_over, scalar_node, event_node}
 use Rattle.spans.specs.Collection.{awaits_value, closes}
 use Rattle.parser.specs.Machine.{State, empty, Next, go, stop, Outcome, built, refused, depth_limit, root_done, before_root, within_depth, within_room, completed, on_start, ended, on_end, on_alias, keeping}
-use Rattle.parser.specs.Machine.{scalar_kept, on_scalar, on_event, follow, ending, run, run_all}
+use Rattle.parser.specs.Machine.{scalar_kept, on_scalar, on_read, follow, ending, run, run_all}
 use Rattle.parser.proofs.RunLaws.{stop_not_go, run_stopped, run_enough}
 use Rattle.parser.specs.EventRun.{reached, run_events, malformed, EventsAsList}
 use Rattle.records.specs.Layout.{record_room, piece_room}
@@ -66,6 +66,8 @@ use Rattle.records.specs.declared.record.Extent.{Extent}
 use Rattle.records.specs.declared.record.TagInfo.{TagInfo}
 use Rattle.records.specs.declared.record.Node.{Node}
 use Rattle.records.specs.declared.record.PieceList.{PieceList}
+use Rattle.spans.specs.declared.open.Collection.{Collection}
+use Rattle.spans.specs.declared.open.Collection.TheVariants.{Sequence, Mapping}
 use Rattle.spans.specs.declared.open.Open.{Open}
 use Rattle.spans.proofs.SpanLaws.{start_boundary, span_from, pieces_are, measured_list, measured_pieces_end}
 use Rattle.parser.proofs.Pieces.{filled_none}
@@ -373,17 +375,17 @@ gate_stop : (t : Bool) (m k : ℕ) (n : Next) → (m ≡ k → ⊥) → cond t (
 gate_stop true m k n ne e = absurd (ne (stop_is m k e))
 gate_stop false m k n ne e = (refl, e)
 
-start_no_8 : (text : List ℕ) (mapping : Bool) (index : ℕ) (tag : Option YamlTag) (st : State) → on_start text mapping index tag st ≡ stop 8 → ⊥
+start_no_8 : (text : List ℕ) (collection : Collection) (index : ℕ) (tag : Option YamlTag) (st : State) → on_start text collection index tag st ≡ stop 8 → ⊥
 unfolding on_start before_root within_depth
-start_no_8 text mapping index tag st h =
+start_no_8 text collection index tag st h =
     let a = gate_stop (root_done st) 5 8 _ (λ z. omega arith) h in
     let b = gate_stop (leb depth_limit (length st.opens)) 6 8 _ (λ z. omega arith) a.1 in
     stop_not_go 8 _ (sym b.1)
 
-end_no_8 : (text : List ℕ) (room : ℕ) (mapping : Bool) (index : ℕ) (os : List Open) (st : State) → on_end text room mapping index os st ≡ stop 8 → ⊥
+end_no_8 : (text : List ℕ) (room : ℕ) (collection : Collection) (index : ℕ) (os : List Open) (st : State) → on_end text room collection index os st ≡ stop 8 → ⊥
 unfolding ended within_room
-end_no_8 text room mapping index [] st h = let z : ◌≡◌ {A = ℕ} 4 8 = stop_is 4 8 h in omega arith
-end_no_8 text room mapping index (o ∷ os) st h = by (closes mapping o) h
+end_no_8 text room collection index [] st h = let z : ◌≡◌ {A = ℕ} 4 8 = stop_is 4 8 h in omega arith
+end_no_8 text room collection index (o ∷ os) st h = by (closes collection o) h
   where
     within : ended text room index o os st ≡ stop 8 → ⊥
     within f = let b = gate_stop (leb room (length st.nodes)) 7 8 _ (λ z. omega arith) f in stop_not_go 8 _ (sym b.1)
@@ -481,7 +483,7 @@ module _ (text events : List ℕ) (sound : AdmittedText text) (room most : ℕ) 
       ∙ ap (λ (o : Option (List Piece)). keeping most node_here o st) (pieces_are text sound.utf8 awaited m value value_at)
 
   abbrev step_here : Next
-  step_here = on_event text events room most (Ok (placed i (scalar_of m tag value))) st
+  step_here = on_read text events room most (Ok (placed i (scalar_of m tag value))) st
 
   -- it leads on: what is kept
   leads : (st' : State) → step_here ≡ go st' → Keeps most node_here found_here st st'
@@ -541,13 +543,13 @@ module _ (text events : List ℕ) (sound : AdmittedText text) (room most : ℕ) 
       rw (t.before_root_lem, r) (kept_is ∙ ap (λ (o : Option (List Piece)). keeping most node_here o st) is ∙ rw over refl)
 
 -- only a scalar is refused by row 8
-other_number : (text events : List ℕ) (room most i : ℕ) (e : YamlEvent) (st : State) → on_event text events room most (Ok (placed i e)) st ≡ stop 8
+other_number : (text events : List ℕ) (room most i : ℕ) (e : YamlEvent) (st : State) → on_read text events room most (Ok (placed i e)) st ≡ stop 8
     → (m : Mark) × (tag : Tag) × (value : List ℕ) × (e ≡ scalar_of m tag value)
 unfolding placed on_start ended on_alias before_root within_depth within_room
-other_number text events room most i (sequence_start m t) st h = absurd (start_no_8 text false m (placed_tag (start_tag_place i) t) st h)
-other_number text events room most i (sequence_end m) st h = absurd (end_no_8 text room false m st.opens st h)
-other_number text events room most i (mapping_start m t) st h = absurd (start_no_8 text true m (placed_tag (start_tag_place i) t) st h)
-other_number text events room most i (mapping_end m) st h = absurd (end_no_8 text room true m st.opens st h)
+other_number text events room most i (sequence_start m t) st h = absurd (start_no_8 text Sequence m (placed_tag (start_tag_place i) t) st h)
+other_number text events room most i (sequence_end m) st h = absurd (end_no_8 text room Sequence m st.opens st h)
+other_number text events room most i (mapping_start m t) st h = absurd (start_no_8 text Mapping m (placed_tag (start_tag_place i) t) st h)
+other_number text events room most i (mapping_end m) st h = absurd (end_no_8 text room Mapping m st.opens st h)
 other_number text events room most i (scalar m c y f t v) st h = (mark m c y f, t, v, refl)
 other_number text events room most i (alias m) st h = absurd (alias_no_8 text room m st h)
 
@@ -604,8 +606,8 @@ module _ (text events : List ℕ) (size pieces_size : ℕ) where
         let ok' : AllSound (before ++ (e ∷ after)) = subst AllSound split ok in
         let z : 0 + length (encode_events before) ≡ length (encode_events before) = omega arith in
         let stands : StandsAt events (length (encode_events before)) e = one_stands events before e after [] ok' (bytes ∙ ap encode_events split ∙ sym (append-nil (encode_events (before ++ (e ∷ after))))) in
-        let on : on_event text events records_in most (Ok (placed (length (encode_events before)) e)) p.here ≡ go p.next =
-        ap (λ (j : ℕ). on_event text events records_in most (Ok (placed j e)) p.here) (sym z) ∙ p.on in
+        let on : on_read text events records_in most (Ok (placed (length (encode_events before)) e)) p.here ≡ go p.next =
+        ap (λ (j : ℕ). on_read text events records_in most (Ok (placed j e)) p.here) (sym z) ∙ p.on in
         let k = leads text events sound records_in most (room_small pieces_size) (length (encode_events before)) m tag value stands p.here p.next on in
         let g = run_grown text events records_in most (room_small pieces_size) p.place p.number after p.next xs ps p.rest in
         listed before m tag value p.here p.next p.to_here stands k g
@@ -621,7 +623,7 @@ module _ (text events : List ℕ) (size pieces_size : ℕ) where
   never_built : (i k : ℕ) (es : List YamlEvent) (st : State) (xs : List Node) (ps : List Piece) → run_events text events records_in most malformed i k es st ≡ built xs ps → ⊥
   unfolding run_events
   never_built i k [] st xs ps e = refused_not_built 3 k xs ps e
-  never_built i k (x ∷ es) st xs ps e = by (on_event text events records_in most (Ok (placed i x)) st) e (λ s f. never_built (i + length (encode_event x)) (k + 1) es s xs ps f)
+  never_built i k (x ∷ es) st xs ps e = by (on_read text events records_in most (Ok (placed i x)) st) e (λ s f. never_built (i + length (encode_event x)) (k + 1) es s xs ps f)
     where
       by : (n : Next) → follow n (λ (s : State). run_events text events records_in most malformed (i + length (encode_event x)) (k + 1) es s) k ≡ built xs ps
           → ((s : State) → run_events text events records_in most malformed (i + length (encode_event x)) (k + 1) es s ≡ built xs ps → ⊥) → ⊥
@@ -676,8 +678,8 @@ module _ (text events : List ℕ) (size pieces_size : ℕ) where
             let whole : events ≡ encode_events (s.before ++ (x ∷ s.after)) ++ front.rest = front.bytes ∙ ap (λ (l : List YamlEvent). encode_events l ++ front.rest) split in
             let stands : StandsAt events (length (encode_events s.before)) x = one_stands events s.before x s.after front.rest ok whole in
             let z : 0 + length (encode_events s.before) ≡ length (encode_events s.before) = omega arith in
-            let stops : on_event text events records_in most (Ok (placed (length (encode_events s.before)) x)) s.here ≡ stop 8 =
-            ap (λ (j : ℕ). on_event text events records_in most (Ok (placed j x)) s.here) (sym z) ∙ ap (λ (y : YamlEvent). on_event text events records_in most (Ok (placed (0 + length (encode_events s.before)) y)) s.here) (sym is) ∙ s.stops in
+            let stops : on_read text events records_in most (Ok (placed (length (encode_events s.before)) x)) s.here ≡ stop 8 =
+            ap (λ (j : ℕ). on_read text events records_in most (Ok (placed j x)) s.here) (sym z) ∙ ap (λ (y : YamlEvent). on_read text events records_in most (Ok (placed (0 + length (encode_events s.before)) y)) s.here) (sym is) ∙ s.stops in
             let t = too_many_only text events p.text_sound records_in most (room_small pieces_size) (length (encode_events s.before)) m tag value stands s.here stops in
             let num = s.number in
             record {
@@ -737,7 +739,7 @@ module _ (text events : List ℕ) (size pieces_size : ℕ) where
         building_runs text events size pieces_size n.events_short n.text_sound
         ∙ in_order_lem text events records_in most last i (λ f m st h. run_enough text events bytes records_in most f (length events) i m st h (omega arith)) (length events) 0 0 n.before empty stand (omega arith)
         ∙ over_through text events records_in most last 0 0 n.before empty n.st n.let_through
-        ∙ run_stopped text events records_in most (length events) i (0 + length n.before) 8 n.st (omega arith) (omega arith) (ap (λ (e : Result Event Malformed). on_event text events records_in most e n.st) read ∙ stops)
+        ∙ run_stopped text events records_in most (length events) i (0 + length n.before) 8 n.st (omega arith) (omega arith) (ap (λ (e : Result (Event × ℕ) Malformed). on_read text events records_in most e n.st) read ∙ stops)
         ∙ ap (refused 8) numbered
 
     -- demand 3 of every scalar event of a document

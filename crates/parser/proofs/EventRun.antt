@@ -25,7 +25,7 @@ use Rattle.event.proofs.ReadLaws.{sound_is_read, none_stands_malformed}
 use Rattle.event.specs.declared.read.Event.{Event}
 use Rattle.event.specs.declared.malformed.Malformed.{Malformed}
 use Rattle.event.specs.Read as read
-use Rattle.parser.specs.Machine.{State, empty, Next, go, stop, Outcome, built, refused, on_event, next_place, ending, follow, run, run_all}
+use Rattle.parser.specs.Machine.{State, empty, Next, go, stop, Outcome, built, refused, on_read, next_place, ending, follow, run, run_all}
 use Rattle.parser.proofs.RunLaws.{run_ended, run_on, run_stopped, stop_not_go}
 use Rattle.records.specs.declared.record.Node.{Node}
 use Rattle.parser.proofs.Room.{next_placed}
@@ -43,8 +43,8 @@ pub stop_is : (m n : ℕ) → stop m ≡ stop n → m ≡ n
 stop_is m n e = cc
 
 module _ (text events : List ℕ) (room piece_room : ℕ) where
-  abbrev step_of : Result Event Malformed → State → Next
-  step_of = on_event text events room piece_room
+  abbrev step_of : Result (Event × ℕ) Malformed → State → Next
+  step_of = on_read text events room piece_room
 
   abbrev run_from : ℕ → ℕ → ℕ → State → Outcome
   run_from = run text events room piece_room
@@ -76,9 +76,9 @@ module _ (text events : List ℕ) (room piece_room : ℕ) where
           where
             with_read : (x : Next) → step_of (Ok (placed i e)) st ≡ x → ((st' : State) → run_from (f - 1) (i + length (encode_event e)) (k + 1) st' ≡ over last (i + length (encode_event e)) (k + 1) es st')
                 → read_event events i ≡ Ok (placed i e) → i < length events → 0 < f → run_from f i k st ≡ follow x (λ (st' : State). over last (i + length (encode_event e)) (k + 1) es st') k
-            with_read (stop m) is rest read l o = run_stopped text events room piece_room f i k m st o l (ap (λ (z : Result Event Malformed). step_of z st) read ∙ is)
+            with_read (stop m) is rest read l o = run_stopped text events room piece_room f i k m st o l (ap (λ (z : Result (Event × ℕ) Malformed). step_of z st) read ∙ is)
             with_read (go st') is rest read l o =
-                run_on text events room piece_room f i k st st' o l (ap (λ (z : Result Event Malformed). step_of z st) read ∙ is)
+                run_on text events room piece_room f i k st st' o l (ap (λ (z : Result (Event × ℕ) Malformed). step_of z st) read ∙ is)
                 ∙ ap (λ (j : ℕ). run_from (f - 1) j (k + 1) st') (ap next_place read ∙ next_placed i e)
                 ∙ rest st'
 
@@ -93,7 +93,7 @@ module _ (text events : List ℕ) (room piece_room : ℕ) where
             let size : length events ≡ length (encode_events es) + length rest = ap length is ∙ length-append (encode_events es) rest in
             let faulty : read_event events (length (encode_events es)) ≡ Err read.malformed = none_stands_malformed events bytes (length (encode_events es)) bad in
             in_order_lem malformed (length (encode_events es))
-            (λ f k st h. run_stopped text events room piece_room f (length (encode_events es)) k (event_number (Err read.malformed)) st (omega arith) (omega arith) (ap (λ (z : Result Event Malformed). step_of z st) faulty))
+            (λ f k st h. run_stopped text events room piece_room f (length (encode_events es)) k (event_number (Err read.malformed)) st (omega arith) (omega arith) (ap (λ (z : Result (Event × ℕ) Malformed). step_of z st) faulty))
             (length events) 0 0 es empty stand (omega arith);
       }
     where

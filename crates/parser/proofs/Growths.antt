@@ -21,11 +21,13 @@ use Rattle.records.specs.Record.{absent, no_list, with_list}
 use Rattle.spans.specs.Scalar.{ScalarAt, scalar_over, event_node}
 use Rattle.spans.specs.Collection.{closes, collection_over, collection_node}
 use Rattle.parser.specs.Machine.{State, Next, go, stop, built, refused, depth_limit, root_done, before_root, within_depth, within_room}
-use Rattle.parser.specs.Machine.{completed, on_start, ended, on_end, on_alias, keeping, scalar_kept, on_scalar, on_event, ending, follow}
+use Rattle.parser.specs.Machine.{completed, on_start, ended, on_end, on_alias, keeping, scalar_kept, on_scalar, on_read, ending, follow}
 use Rattle.parser.proofs.RunLaws.{stop_not_go}
 use Rattle.parser.specs.EventRun.{go_on, reached, run_events}
 use Rattle.parser.specs.Demand.{Consecutive}
 use Rattle.records.specs.declared.record.Node.{Node}
+use Rattle.spans.specs.declared.open.Collection.{Collection}
+use Rattle.spans.specs.declared.open.Collection.TheVariants.{Sequence, Mapping}
 use Rattle.spans.specs.declared.open.Open.{Open}
 use Rattle.parser.proofs.EventRun.{go_is, refused_not_built}
 
@@ -134,15 +136,15 @@ unfolding collection_node collection_over
 collection_no_list text o i n = refl
 
 module _ (text events : List ℕ) (room most : ℕ) (small : most < absent) where
-  start_grown : (mapping : Bool) (index : ℕ) (tag : Option YamlTag) (st st' : State) → on_start text mapping index tag st ≡ go st' → Grown most st st'
+  start_grown : (collection : Collection) (index : ℕ) (tag : Option YamlTag) (st st' : State) → on_start text collection index tag st ≡ go st' → Grown most st st'
   unfolding on_start
-  start_grown mapping index tag st st' e =
+  start_grown collection index tag st st' e =
       subst (λ (s : State). Grown most st s) (go_is _ st' (past_depth st _ st' (past_root st _ st' e).1)) (grown_same most st _ refl refl)
 
-  end_grown : (mapping : Bool) (index : ℕ) (os : List Open) (st st' : State) → on_end text room mapping index os st ≡ go st' → Grown most st st'
+  end_grown : (collection : Collection) (index : ℕ) (os : List Open) (st st' : State) → on_end text room collection index os st ≡ go st' → Grown most st st'
   unfolding ended
-  end_grown mapping index [] st st' e = absurd (stop_not_go 4 st' e)
-  end_grown mapping index (o ∷ os) st st' e = by (closes mapping o) e
+  end_grown collection index [] st st' e = absurd (stop_not_go 4 st' e)
+  end_grown collection index (o ∷ os) st st' e = by (closes collection o) e
     where
       by : (t : Bool) → cond t (ended text room index o os st) (stop 4) ≡ go st' → Grown most st st'
       by true f = opened f
@@ -159,14 +161,14 @@ module _ (text events : List ℕ) (room most : ℕ) (small : most < absent) wher
   unfolding scalar_kept event_node scalar_over
   scalar_grown x tag st st' e = grown_kept most _ _ st st' small refl e
 
-  pub step_grown : (e : Result Event Malformed) (st st' : State) → on_event text events room most e st ≡ go st' → Grown most st st'
+  pub step_grown : (e : Result (Event × ℕ) Malformed) (st st' : State) → on_read text events room most e st ≡ go st' → Grown most st st'
   unfolding on_scalar
-  step_grown (Ok (SequenceStart index tag n)) st st' h = start_grown false index tag st st' h
-  step_grown (Ok (SequenceEnd index n)) st st' h = end_grown false index st.opens st st' h
-  step_grown (Ok (MappingStart index tag n)) st st' h = start_grown true index tag st st' h
-  step_grown (Ok (MappingEnd index n)) st st' h = end_grown true index st.opens st st' h
-  step_grown (Ok (Scalar index column style empty_span tag value n)) st st' h = scalar_grown _ tag st st' (past_room room st _ st' (past_root st _ st' h).1).1
-  step_grown (Ok (Alias index n)) st st' h = alias_grown index st st' h
+  step_grown (Ok (SequenceStart index tag, n)) st st' h = start_grown Sequence index tag st st' h
+  step_grown (Ok (SequenceEnd index, n)) st st' h = end_grown Sequence index st.opens st st' h
+  step_grown (Ok (MappingStart index tag, n)) st st' h = start_grown Mapping index tag st st' h
+  step_grown (Ok (MappingEnd index, n)) st st' h = end_grown Mapping index st.opens st st' h
+  step_grown (Ok (Scalar index column style empty_span tag value, n)) st st' h = scalar_grown _ tag st st' (past_room room st _ st' (past_root st _ st' h).1).1
+  step_grown (Ok (Alias index, n)) st st' h = alias_grown index st st' h
   step_grown (Err e) st st' h = absurd (stop_not_go 3 st' h)
 
   -- ---- the run
@@ -174,9 +176,9 @@ module _ (text events : List ℕ) (room most : ℕ) (small : most < absent) wher
   pub reached_grown : (i : ℕ) (es : List YamlEvent) (st st' : State) → reached text events room most i es st ≡ go st' → Grown most st st'
   unfolding reached
   reached_grown i [] st st' e = subst (λ (s : State). Grown most st s) (go_is st st' e) (grown_same most st st refl refl)
-  reached_grown i (x ∷ es) st st' e = by (on_event text events room most (Ok (placed i x)) st) refl e (λ s h. reached_grown (i + length (encode_event x)) es s st' h)
+  reached_grown i (x ∷ es) st st' e = by (on_read text events room most (Ok (placed i x)) st) refl e (λ s h. reached_grown (i + length (encode_event x)) es s st' h)
     where
-      by : (n : Next) → on_event text events room most (Ok (placed i x)) st ≡ n → go_on n (λ (s : State). reached text events room most (i + length (encode_event x)) es s) ≡ go st'
+      by : (n : Next) → on_read text events room most (Ok (placed i x)) st ≡ n → go_on n (λ (s : State). reached text events room most (i + length (encode_event x)) es s) ≡ go st'
           → ((s : State) → reached text events room most (i + length (encode_event x)) es s ≡ go st' → Grown most s st') → Grown most st st'
       by (stop m) is f rest = absurd (stop_not_go m st' f)
       by (go s) is f rest = grown_on most st s st' (step_grown (Ok (placed i x)) st s is) (rest s f)
@@ -196,9 +198,9 @@ module _ (text events : List ℕ) (room most : ℕ) (small : most < absent) wher
   pub run_grown : (i k : ℕ) (es : List YamlEvent) (st : State) (xs : List Node) (ps : List Piece) → run_events text events room most ending i k es st ≡ built xs ps → Grown most st (final xs ps)
   unfolding run_events
   run_grown i k [] st xs ps e = ending_grown k st xs ps e
-  run_grown i k (x ∷ es) st xs ps e = by (on_event text events room most (Ok (placed i x)) st) refl e (λ s h. run_grown (i + length (encode_event x)) (k + 1) es s xs ps h)
+  run_grown i k (x ∷ es) st xs ps e = by (on_read text events room most (Ok (placed i x)) st) refl e (λ s h. run_grown (i + length (encode_event x)) (k + 1) es s xs ps h)
     where
-      by : (n : Next) → on_event text events room most (Ok (placed i x)) st ≡ n → follow n (λ (s : State). run_events text events room most ending (i + length (encode_event x)) (k + 1) es s) k ≡ built xs ps
+      by : (n : Next) → on_read text events room most (Ok (placed i x)) st ≡ n → follow n (λ (s : State). run_events text events room most ending (i + length (encode_event x)) (k + 1) es s) k ≡ built xs ps
           → ((s : State) → run_events text events room most ending (i + length (encode_event x)) (k + 1) es s ≡ built xs ps → Grown most s (final xs ps)) → Grown most st (final xs ps)
       by (stop m) is f rest = absurd (refused_not_built m k xs ps f)
       by (go s) is f rest = grown_on most st s (final xs ps) (step_grown (Ok (placed i x)) st s is) (rest s f)

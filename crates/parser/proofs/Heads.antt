@@ -16,7 +16,7 @@ use Rattle.event.specs.Read.{events_limit, read_event}
 use Rattle.event.proofs.ReadLaws.{malformed_or_answers, answer_within}
 use Rattle.event.specs.declared.read.Event.{Event}
 use Rattle.event.specs.Read as read
-use Rattle.parser.specs.Machine.{State, empty, Next, go, stop, refused, on_event, next_place, ending, run, run_all}
+use Rattle.parser.specs.Machine.{State, empty, Next, go, stop, refused, on_read, next_place, ending, run, run_all}
 use Rattle.parser.proofs.RunLaws.{run_ended, run_on, run_stopped, onward, stop_not_go}
 use Rattle.parser.specs.Held.{is_root_done, ValueShort, Read, Held, Ready, Moved, Follows, Filled}
 use Rattle.parser.specs.declared.answer.Refusal.{Refusal}
@@ -31,7 +31,7 @@ use Rattle.parser.proofs.Turns.{root_is, builder}
 
 -- ---- what was read
 
-placed_short : (i : ℕ) (e : YamlEvent) → SoundEvent e → ValueShort (placed i e)
+placed_short : (i : ℕ) (e : YamlEvent) → SoundEvent e → ValueShort (placed i e).0
 unfolding placed
 placed_short i (sequence_start m t) s = tt
 placed_short i (sequence_end m) s = tt
@@ -44,15 +44,15 @@ placed_short i (scalar m c y f t v) s =
     omega arith
 placed_short i (alias m) s = tt
 
-value_short : (s : List ℕ) → Bytes s → (i : ℕ) (e : Event) → read_event s i ≡ Ok e → ValueShort e
-value_short s b i e is = by (malformed_or_answers s b i)
+value_short : (s : List ℕ) → Bytes s → (i : ℕ) (e : Event) (n : ℕ) → read_event s i ≡ Ok (e, n) → ValueShort e
+value_short s b i e n is = by (malformed_or_answers s b i)
   where
     by : (read_event s i ≡ Err read.malformed) ⊎ Answers s i (read_event s i) → ValueShort e
     by (inl bad) = cc
-    by (inr x) = let same : e ≡ placed i x.event = let p = sym is ∙ x.answered in cc in rw same (placed_short i x.event x.stands.sound)
+    by (inr x) = let same : e ≡ (placed i x.event).0 = let p = sym is ∙ x.answered in cc in rw same (placed_short i x.event x.stands.sound)
 
-pub read_of : (s : List ℕ) → Bytes s → length s ≤ events_limit → (i : ℕ) (e : Event) → read_event s i ≡ Ok e → Read s e
-read_of s b h i e is = record { place = i; within = rw is at (answer_within s i b); value_short = value_short s b i e is; short = h }
+pub read_of : (s : List ℕ) → Bytes s → length s ≤ events_limit → (i : ℕ) (e : Event) (n : ℕ) → read_event s i ≡ Ok (e, n) → Read s e
+read_of s b h i e n is = record { place = i; next = n; within = rw is at (answer_within s i b); value_short = value_short s b i e n is; short = h }
 
 -- ---- the head
 
@@ -97,8 +97,8 @@ module _ {text events : List ℕ} {size pieces_size : ℕ} {c : Builder} {b p : 
   ready l m = let f = h.few in let n = h.numbered in record { size = size; pieces_size = pieces_size; st = h.st; held = h.held; few = omega arith }
 
   module _ (bytes : Bytes events) (more : i < length events) (r : Result ℕ Refusal) (c' : Builder) (b' p' : List ℕ)
-      (follows : Follows text c b p (λ (room piece_room : ℕ) (st : State). on_event text events room piece_room (read_event events i) st) r c' b' p') where
-    stepped : Moved text size pieces_size c.nodes (on_event text events (record_room size) (pieces_size / piece_width) (read_event events i) h.st) r c' b' p'
+      (follows : Follows text c b p (λ (room piece_room : ℕ) (st : State). on_read text events room piece_room (read_event events i) st) r c' b' p') where
+    stepped : Moved text size pieces_size c.nodes (on_read text events (record_room size) (pieces_size / piece_width) (read_event events i) h.st) r c' b' p'
     stepped = follows size pieces_size h.st h.held
 
     pub record NextHead (j : ℕ) : Type 0 where
@@ -108,7 +108,7 @@ module _ {text events : List ℕ} {size pieces_size : ℕ} {c : Builder} {b p : 
     pub next_head : (x j : ℕ) → r ≡ Ok x → j ≡ next_place (read_event events i) → NextHead j
     next_head x j er place =
         let g = moved_go text size pieces_size c.nodes _ x c' b' p' (rw er at stepped) in
-        let sound = onward events i (read_event events i) (answer_within events i bytes) (λ bad. stop_not_go 3 g.0 (sym (ap (λ x. on_event text events (record_room size) (pieces_size / piece_width) x h.st) bad) ∙ g.1)) in
+        let sound = onward events i (read_event events i) (answer_within events i bytes) (λ bad. stop_not_go 3 g.0 (sym (ap (λ x. on_read text events (record_room size) (pieces_size / piece_width) x h.st) bad) ∙ g.1)) in
         let on : i < next_place (read_event events i) = sound.0 in
         let inside : next_place (read_event events i) ≤ length events = sound.1 in
         let numbered = h.numbered in

@@ -11,7 +11,7 @@ use Rattle.std.proofs.lemmas.Bool.{lt-leb}
 use Rattle.std.proofs.Math.ListN.{length}
 use Rattle.provenance.specs.Reading.{Piece}
 use Rattle.utf8.specs.Ascii.{Bytes}
-use Rattle.event.specs.Encode.{YamlEvent, sequence_start, sequence_end, mapping_start, mapping_end, scalar, alias, encode_event}
+use Rattle.event.specs.Encode.{YamlEvent, encode_event}
 use Rattle.event.proofs.EncodeLaws.{stands_inside}
 use Rattle.event.proofs.EventListLaws.{event_takes}
 use Rattle.event.specs.Read.{read_event, events_limit}
@@ -27,11 +27,13 @@ use Rattle.text.specs.declared.admission.TextError.{TextError}
 use Rattle.text.specs.declared.admission.TextError.TheVariants.{TooLong, NotUtf8}
 use Rattle.spans.specs.Collection.{closes}
 use Rattle.parser.specs.Machine.{State, empty, Next, go, stop, Outcome, built, refused, depth_limit, root_done, before_root, within_depth, within_room}
-use Rattle.parser.specs.Machine.{on_start, ended, on_end, on_alias, keeping, scalar_kept, on_scalar, on_event, next_place, ending, follow, run, run_all}
+use Rattle.parser.specs.Machine.{on_start, ended, on_end, on_alias, keeping, scalar_kept, on_scalar, on_read, next_place, ending, follow, run, run_all}
 use Rattle.records.specs.Layout.{record_room, piece_room}
 use Rattle.parser.specs.Call.{admitted, building}
 use Rattle.parser.proofs.BoundLaws.{Holding, Stepped, stepped}
 use Rattle.records.specs.declared.record.Node.{Node}
+use Rattle.spans.specs.declared.open.Collection.{Collection}
+use Rattle.spans.specs.declared.open.Collection.TheVariants.{Sequence, Mapping}
 use Rattle.spans.specs.declared.open.Open.{Open}
 
 -- the fewest bytes of an event: its tag byte, its body's length, its marker index
@@ -62,43 +64,38 @@ module _ (room : ℕ) (st : State) (free : length st.nodes < room) where
   unfolding within_room
   within_room_lem n h = rw (lt-leb room (length st.nodes) free) h
 
-  start_passes : (text : List ℕ) (mapping : Bool) (index : ℕ) (tag : Option YamlTag) → Passes (on_start text mapping index tag st)
+  start_passes : (text : List ℕ) (collection : Collection) (index : ℕ) (tag : Option YamlTag) → Passes (on_start text collection index tag st)
   unfolding on_start within_depth
-  start_passes text mapping index tag = before_root_lem st _ (pick_passes (leb depth_limit (length st.opens)) (stop 6) _ (λ e. omega arith) tt)
+  start_passes text collection index tag = before_root_lem st _ (pick_passes (leb depth_limit (length st.opens)) (stop 6) _ (λ e. omega arith) tt)
 
-  end_passes : (text : List ℕ) (mapping : Bool) (index : ℕ) (os : List Open) → Passes (on_end text room mapping index os st)
+  end_passes : (text : List ℕ) (collection : Collection) (index : ℕ) (os : List Open) → Passes (on_end text room collection index os st)
   unfolding ended
-  end_passes text mapping index [] = λ e. omega arith
-  end_passes text mapping index (o ∷ os) = pick_passes (closes mapping o) (ended text room index o os st) (stop 4) (within_room_lem _ tt) (λ e. omega arith)
+  end_passes text collection index [] = λ e. omega arith
+  end_passes text collection index (o ∷ os) = pick_passes (closes collection o) (ended text room index o os st) (stop 4) (within_room_lem _ tt) (λ e. omega arith)
 
   keep_passes : (r : ℕ) (x : Node) (l : Option (List Piece)) → Passes (keeping r x l st)
   unfolding keeping
   keep_passes r x None = tt
   keep_passes r x (Some ps) = pick_passes (ltb r (length st.pieces + length ps)) (stop 8) _ (λ e. omega arith) tt
 
-  step_passes : (text events : List ℕ) (r : ℕ) (e : Result Event Malformed) → Passes (on_event text events room r e st)
+  step_passes : (text events : List ℕ) (r : ℕ) (e : Result (Event × ℕ) Malformed) → Passes (on_read text events room r e st)
   unfolding on_scalar scalar_kept on_alias
-  step_passes text events r (Ok (SequenceStart index tag n)) = start_passes text false index tag
-  step_passes text events r (Ok (SequenceEnd index n)) = end_passes text false index st.opens
-  step_passes text events r (Ok (MappingStart index tag n)) = start_passes text true index tag
-  step_passes text events r (Ok (MappingEnd index n)) = end_passes text true index st.opens
-  step_passes text events r (Ok (Scalar index column style empty_span tag value n)) = before_root_lem st _ (within_room_lem _ (keep_passes r _ _))
-  step_passes text events r (Ok (Alias index n)) = before_root_lem st _ (within_room_lem _ tt)
+  step_passes text events r (Ok (SequenceStart index tag, n)) = start_passes text Sequence index tag
+  step_passes text events r (Ok (SequenceEnd index, n)) = end_passes text Sequence index st.opens
+  step_passes text events r (Ok (MappingStart index tag, n)) = start_passes text Mapping index tag
+  step_passes text events r (Ok (MappingEnd index, n)) = end_passes text Mapping index st.opens
+  step_passes text events r (Ok (Scalar index column style empty_span tag value, n)) = before_root_lem st _ (within_room_lem _ (keep_passes r _ _))
+  step_passes text events r (Ok (Alias index, n)) = before_root_lem st _ (within_room_lem _ tt)
   step_passes text events r (Err e) = λ e. omega arith
 
 -- ---- an event's bytes
 
 pub next_placed : (i : ℕ) (e : YamlEvent) → next_place (Ok (placed i e)) ≡ i + length (encode_event e)
 unfolding placed
-next_placed i (sequence_start m t) = refl
-next_placed i (sequence_end m) = refl
-next_placed i (mapping_start m t) = refl
-next_placed i (mapping_end m) = refl
-next_placed i (scalar m c y f t v) = refl
-next_placed i (alias m) = refl
+next_placed i e = refl
 
 -- an event that is read at i takes at least seven bytes, all within s
-pub answer_takes : (s : List ℕ) (i : ℕ) (r : Result Event Malformed) → Answers s i r → (i + event_least ≤ next_place r) × (next_place r ≤ length s)
+pub answer_takes : (s : List ℕ) (i : ℕ) (r : Result (Event × ℕ) Malformed) → Answers s i r → (i + event_least ≤ next_place r) × (next_place r ≤ length s)
 answer_takes s i r a =
     let e = a.event in
     let least = event_takes e in
@@ -132,14 +129,14 @@ module _ (text events : List ℕ) (bytes : Bytes events) (room r : ℕ) (enough 
   run_fits (suc f) k i st h l = by (ltb i (length events)) (malformed_or_answers events bytes i) (run_fits f (k + 1))
     where
       by : (t : Bool) → (read_event events i ≡ Err read.malformed) ⊎ Answers events i (read_event events i) → Rest f (k + 1)
-          → Fits (cond t (follow (on_event text events room r (read_event events i) st) (λ (u : State). run text events room r f (next_place (read_event events i)) (k + 1) u) k) (ending k st))
+          → Fits (cond t (follow (on_read text events room r (read_event events i) st) (λ (u : State). run text events room r f (next_place (read_event events i)) (k + 1) u) k) (ending k st))
       by false a rest = ended_fits k st
       by true (inl bad) rest = rw bad (λ e. omega arith)
       by true (inr a) rest =
           let e = read_event events i in
           let takes = answer_takes events i e a in
           let free : length st.nodes < room = omega arith in
-          followed f (next_place e) k (on_event text events room r e st) (step_passes room st free text events r e) (stepped text events room r k e st h) (omega arith) rest
+          followed f (next_place e) k (on_read text events room r e st) (step_passes room st free text events r e) (stepped text events room r k e st h) (omega arith) rest
 
 admitted_fits : (a : Result Bool TextError) (o : Outcome) → Fits o → Fits (admitted a o)
 admitted_fits (Ok ascii) o h = h

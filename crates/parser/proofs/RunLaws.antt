@@ -14,7 +14,7 @@ use Rattle.event.specs.declared.read.Event.{Event}
 use Rattle.event.specs.declared.malformed.Malformed.{Malformed}
 use Rattle.event.specs.Read as read
 use Rattle.event.specs.declared.read.Event.TheVariants.{SequenceStart, SequenceEnd, MappingStart, MappingEnd, Scalar, Alias}
-use Rattle.parser.specs.Machine.{State, Next, go, stop, refused, on_event, next_place, ending, run}
+use Rattle.parser.specs.Machine.{State, Next, go, stop, refused, on_read, next_place, ending, run}
 
 module _ (text events : List ℕ) (room piece_room : ℕ) where
   -- no event is left
@@ -24,14 +24,14 @@ module _ (text events : List ℕ) (room piece_room : ℕ) where
   run_ended (suc f) i k st h = rw (le-ltb i (length events) h) refl
 
   -- an event that leads on
-  pub run_on : (f i k : ℕ) (st n : State) → 0 < f → i < length events → on_event text events room piece_room (read_event events i) st ≡ go n
+  pub run_on : (f i k : ℕ) (st n : State) → 0 < f → i < length events → on_read text events room piece_room (read_event events i) st ≡ go n
       → run text events room piece_room f i k st ≡ run text events room piece_room (f - 1) (next_place (read_event events i)) (k + 1) n
   unfolding run
   run_on zero i k st n o h e = absurd (omega arith)
   run_on (suc f) i k st n o h e = let p : suc f - 1 ≡ f = omega arith in rw (lt-ltb i (length events) h, e, p) refl
 
   -- an event that is refused
-  pub run_stopped : (f i k m : ℕ) (st : State) → 0 < f → i < length events → on_event text events room piece_room (read_event events i) st ≡ stop m
+  pub run_stopped : (f i k m : ℕ) (st : State) → 0 < f → i < length events → on_read text events room piece_room (read_event events i) st ≡ stop m
       → run text events room piece_room f i k st ≡ refused m k
   unfolding run
   run_stopped zero i k m st o h e = absurd (omega arith)
@@ -39,13 +39,13 @@ module _ (text events : List ℕ) (room piece_room : ℕ) where
 
 -- ---- every number that is enough gives the same run
 
-pub onward : (s : List ℕ) (i : ℕ) (r : Result Event Malformed) → EventWithin s i r → (r ≡ Err read.malformed → ⊥) → (i < next_place r) × (next_place r ≤ length s)
-onward s i (Ok (SequenceStart m t n)) w x = (w.0.onward, w.0.inside)
-onward s i (Ok (SequenceEnd m n)) w x = (w.onward, w.inside)
-onward s i (Ok (MappingStart m t n)) w x = (w.0.onward, w.0.inside)
-onward s i (Ok (MappingEnd m n)) w x = (w.onward, w.inside)
-onward s i (Ok (Scalar m c y f t v n)) w x = (w.passed.onward, w.passed.inside)
-onward s i (Ok (Alias m n)) w x = (w.onward, w.inside)
+pub onward : (s : List ℕ) (i : ℕ) (r : Result (Event × ℕ) Malformed) → EventWithin s i r → (r ≡ Err read.malformed → ⊥) → (i < next_place r) × (next_place r ≤ length s)
+onward s i (Ok (SequenceStart m t, n)) w x = (w.0.onward, w.0.inside)
+onward s i (Ok (SequenceEnd m, n)) w x = (w.onward, w.inside)
+onward s i (Ok (MappingStart m t, n)) w x = (w.0.onward, w.0.inside)
+onward s i (Ok (MappingEnd m, n)) w x = (w.onward, w.inside)
+onward s i (Ok (Scalar m c y f t v, n)) w x = (w.passed.onward, w.passed.inside)
+onward s i (Ok (Alias m, n)) w x = (w.onward, w.inside)
 onward s i (Err e) w x = absurd (x refl)
 
 pub stop_not_go : (n : ℕ) (st : State) → stop n ≡ go st → ⊥
@@ -53,10 +53,10 @@ stop_not_go n st e = let z : ◌≡◌ {A = ℕ} 0 1 = cc in omega arith
 
 module _ (text events : List ℕ) (bytes : Bytes events) (room piece_room : ℕ) where
   -- an event that leads on takes at least a byte
-  pub leads_on : (i : ℕ) (st n : State) → on_event text events room piece_room (read_event events i) st ≡ go n → i < next_place (read_event events i)
+  pub leads_on : (i : ℕ) (st n : State) → on_read text events room piece_room (read_event events i) st ≡ go n → i < next_place (read_event events i)
   leads_on i st n e =
       (onward events i (read_event events i) (answer_within events i bytes)
-      (λ bad. stop_not_go 3 n (sym (ap (λ (x : Result Event Malformed). on_event text events room piece_room x st) bad) ∙ e))).0
+      (λ bad. stop_not_go 3 n (sym (ap (λ (x : Result (Event × ℕ) Malformed). on_read text events room piece_room x st) bad) ∙ e))).0
 
   -- from event number k on, wherever it stands, two numbers that are enough give the same
   abbrev pub Same : ℕ → ℕ → ℕ → Type 0
@@ -67,7 +67,7 @@ module _ (text events : List ℕ) (bytes : Bytes events) (room piece_room : ℕ)
   run_enough (suc f) zero i k st a b = run_ended text events room piece_room (suc f) i k st (omega arith) ∙ sym (run_ended text events room piece_room zero i k st (omega arith))
   run_enough (suc f) (suc g) i k st a b = by (dec_lt i (length events)) (λ j n c d. run_enough f g j (k + 1) n c d)
     where
-      more : Same f g (k + 1) → i < length events → (n : Next) → on_event text events room piece_room (read_event events i) st ≡ n → run text events room piece_room (suc f) i k st ≡ run text events room piece_room (suc g) i k st
+      more : Same f g (k + 1) → i < length events → (n : Next) → on_read text events room piece_room (read_event events i) st ≡ n → run text events room piece_room (suc f) i k st ≡ run text events room piece_room (suc g) i k st
       more rest l (stop m) e = run_stopped text events room piece_room (suc f) i k m st (omega arith) l e ∙ sym (run_stopped text events room piece_room (suc g) i k m st (omega arith) l e)
       more rest l (go n) e =
           let on = leads_on i st n e in
@@ -78,5 +78,5 @@ module _ (text events : List ℕ) (bytes : Bytes events) (room piece_room : ℕ)
           ∙ sym (run_on text events room piece_room (suc g) i k st n (omega arith) l e)
 
       by : Dec (i < length events) → Same f g (k + 1) → run text events room piece_room (suc f) i k st ≡ run text events room piece_room (suc g) i k st
-      by (yes l) rest = more rest l (on_event text events room piece_room (read_event events i) st) refl
+      by (yes l) rest = more rest l (on_read text events room piece_room (read_event events i) st) refl
       by (no l) rest = run_ended text events room piece_room (suc f) i k st (omega arith) ∙ sym (run_ended text events room piece_room (suc g) i k st (omega arith))

@@ -1,6 +1,6 @@
 -- What the code does to its stack and buffers is what the machine does to its state, on plain values.
 use mathlib.Core.Path.{◌≡◌, refl, sym, ap, ◌∙◌}
-use mathlib.Core.Bool.{Bool, true}
+use mathlib.Core.Bool.{true}
 use mathlib.Core.List.{List, [], ◌∷◌, ◌++◌}
 use Prim.Native.Nat.{ℕ, ◌+◌, ◌-◌, ◌*◌, ◌/◌, ◌≤◌, ◌<◌}
 use native.Mathlib.Omega.{arith}
@@ -9,7 +9,6 @@ use lib.Dec.{leb}
 use lib.ListN.{length, take, replicate, length-append}
 use Rattle.utf8.specs.Utf8.{Utf8}
 use Rattle.utf8.specs.Boundary.{Boundary}
-use Rattle.utf8.proofs.Utf8Laws.{boundary_start}
 use Rattle.text.specs.Offset.{byte_offset, cursor_at, Stands}
 use Rattle.text.proofs.OffsetLaws.{cursor_stands}
 use Rattle.text.specs.declared.offset.Cursor.{Cursor}
@@ -19,16 +18,16 @@ use Rattle.provenance.specs.declared.walk.Walked.{Walked}
 use Rattle.provenance.specs.declared.walk.Walked.TheVariants.{Listed, NoRoom, NoList}
 use Rattle.event.specs.declared.tag.YamlTag.{YamlTag}
 use Rattle.records.specs.Record.{record_width, with_list}
-use Rattle.spans.specs.Scalar.{suffix_of}
 use Rattle.spans.specs.Collection.{with_child, closes, collection_node}
-use Rattle.parser.specs.Machine.{State, Next, go, stop, depth_limit, root_done, before_root, within_depth, within_room, completed, on_start, ended, on_end, keeping}
+use Rattle.parser.specs.Machine.{State, Next, go, stop, depth_limit, root_done, before_root, within_depth, within_room, completed, opening, on_start, ended, on_end, keeping}
 use Rattle.records.specs.Layout.{stored, record_room, piece_limit}
 use Rattle.parser.specs.Opens.{Below, OnBoundaries}
 use Rattle.parser.specs.Held.{gate, is_root_done, Held, Moved, Counted}
 use Rattle.records.specs.declared.record.Node.{Node}
+use Rattle.spans.specs.declared.open.Collection.{Collection}
 use Rattle.spans.specs.declared.open.Open.{Open}
 use Rattle.parser.specs.declared.on_event.Builder.{Builder}
-use Rattle.std.specs.Prelude.{Option, Result, Ok, Err, IsErrAnd, Some, None}
+use Rattle.std.specs.Prelude.{Option, Result, Ok, Err, IsErrAnd, Some, None, IfSome}
 use Rattle.records.specs.LayoutLaws.{nodes_more}
 use Rattle.parser.proofs.Pieces.{Walks, walks_of, back_zero, back_with}
 use Rattle.parser.proofs.Opens.{below_more, boundaries_more}
@@ -114,14 +113,11 @@ module _ {text : List ℕ} {size pieces_size : ℕ} {st : State} {c : Builder} {
 
   -- ---- a collection starts
 
-  abbrev pub opening : Bool → ℕ → Option YamlTag → Open
-  opening mapping i tag = record { mapping = mapping; start = i; suffix = suffix_of tag; children = 0; first = 0; before = c.nodes }
-
-  pub opened : (mapping : Bool) (index : ℕ) (tag : Option YamlTag) (cur : Cursor) (v : Unit {0}) → Utf8 text → cur ≡ cursor_at text index
+  pub opened : (collection : Collection) (index : ℕ) (tag : Option YamlTag) (cur : Cursor) (v : Unit {0}) → Utf8 text → cur ≡ cursor_at text index
       → gate (is_root_done c) AfterRoot ≡ Ok v → length c.stack < depth_limit
-      → Moved text size pieces_size c.nodes (on_start text mapping index tag st) (Ok (tt {0})) (builder c.nodes c.used cur (opening mapping cur.offset tag ∷ c.stack)) b p
+      → Moved text size pieces_size c.nodes (on_start text collection index tag st) (Ok (tt {0})) (builder c.nodes c.used cur (opening collection cur.offset tag c.nodes ∷ c.stack)) b p
   unfolding on_start
-  opened mapping index tag cur v u e g l =
+  opened collection index tag cur v u e g l =
       let o : cur.offset ≡ byte_offset text index = cursor_offset text index cur e in
       rw (past_root _ _ g, not_deep _ l) (
         record {
@@ -130,7 +126,7 @@ module _ {text : List ℕ} {size pieces_size : ℕ} {st : State} {c : Builder} {
           opens_held = record {
             opens_are = rw (← o, h.nodes_are, h.opens_are) refl;
             below = (omega arith, h.below);
-            on_boundaries = (cursor_boundary u index cur e, boundary_start u, h.on_boundaries);
+            on_boundaries = (cursor_boundary u index cur e, tt, h.on_boundaries);
           };
           cursor_stands = rw e (cursor_stands text index);
         },
@@ -143,15 +139,15 @@ module _ {text : List ℕ} {size pieces_size : ℕ} {st : State} {c : Builder} {
     abbrev pub outside : State
     outside = record { nodes = st.nodes; opens = os; pieces = st.pieces }
 
-    pub matched : (room index : ℕ) (mapping : Bool) → closes mapping inner ≡ true
-        → on_end text room mapping index st.opens st ≡ within_room room st (go (completed (collection_node text inner (byte_offset text index) c.nodes) outside))
+    pub matched : (room index : ℕ) (collection : Collection) → closes collection inner ≡ true
+        → on_end text room collection index st.opens st ≡ within_room room st (go (completed (collection_node text inner (byte_offset text index) c.nodes) outside))
     unfolding ended
-    matched room index mapping e = rw (h.opens_are, is, e, h.nodes_are)
+    matched room index collection e = rw (h.opens_are, is, e, h.nodes_are)
 
     pub inner_below : (inner.before + inner.children ≤ c.nodes) × Below os c.nodes
     inner_below = rw is at h.below
 
-    pub inner_on : Boundary text inner.start × Boundary text inner.first × OnBoundaries text os
+    pub inner_on : Boundary text inner.start × IfSome inner.first (λ first. Boundary text first) × OnBoundaries text os
     inner_on = rw is at h.on_boundaries
 
     -- the innermost collection is taken off, and the cursor moves

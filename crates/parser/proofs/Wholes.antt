@@ -27,7 +27,7 @@ use Rattle.records.specs.LayoutLaws.{take-replicate}
 use Rattle.records.specs.declared.record.Node.{Node}
 use Rattle.spans.specs.Scalar.{Mark, scalar_from, scalar_start, span_measure, list_at, tag_info, resolved_by, event_node}
 use Rattle.spans.specs.Fits.{scalar_entry}
-use Rattle.spans.specs.declared.scalar.Entry.{Entry}
+use Rattle.spans.specs.declared.scalar.ScalarEntry.{ScalarEntry}
 use Rattle.parser.specs.Machine.{State, empty, Outcome, built, refused, completed, keeping, scalar_kept, follow, run_all}
 use Rattle.parser.specs.Call.{row_number, building, one_scalar, scalar_measured, scalar_call, Delivered, DeliveredScalar}
 use Rattle.parser.specs.Held.{Filled, Refuses, Counted, alone_answer}
@@ -118,7 +118,7 @@ module _ (size : ℕ) (small : size ≤ pieces_limit) (q : List ℕ) (len : leng
   flag_is text m value i e = ap (λ (k : ℕ). (span_measure text (scalar_from k m value 0)).measured) e
 
   -- the scalar's outcome goes by its record and its walk
-  pub one_told : (text : List ℕ) (m : Mark) (value : List ℕ) (i : ℕ) (r : Resolved) (x : Entry)
+  pub one_told : (text : List ℕ) (m : Mark) (value : List ℕ) (i : ℕ) (r : Resolved) (x : ScalarEntry)
       → m.style ≤ folded → i ≡ byte_offset text m.index → r ≡ resolve_scalar value m.style None
       → x ≡ scalar_entry (room size) text (scalar_from i m value 0) no_tag r → q ≡ buffer_of size (list_at text (scalar_from i m value 0))
       → DeliveredScalar size (one_scalar text m value size) (scalar_measured text m value) (alone_answer x) q

@@ -6,7 +6,7 @@ use Rattle.event.specs.Encode.{YamlEvent, encode_event}
 use Rattle.event.specs.Meaning.{StandsAt, placed, event_number}
 use Rattle.event.specs.EventList.{encode_events}
 use Rattle.event.specs.Read as read
-use Rattle.parser.specs.Machine.{State, empty, Next, go, stop, Outcome, refused, on_event, ending, follow, run_all}
+use Rattle.parser.specs.Machine.{State, empty, Next, go, stop, Outcome, refused, on_read, ending, follow, run_all}
 use Rattle.parser.specs.Call.{building}
 
 abbrev pub go_on : Next → (State → Next) → Next
@@ -17,13 +17,13 @@ module _ (text events : List ℕ) (room piece_room : ℕ) where
   -- the events, of which the first stands at the place i, are let through to this state, or one of them is refused
   unfoldable pub reached : ℕ → List YamlEvent → State → Next
   reached i [] st = go st
-  reached i (e ∷ es) st = go_on (on_event text events room piece_room (Ok (placed i e)) st) (λ (n : State). reached (i + length (encode_event e)) es n)
+  reached i (e ∷ es) st = go_on (on_read text events room piece_room (Ok (placed i e)) st) (λ (n : State). reached (i + length (encode_event e)) es n)
 
   -- what they come to, the first being number k: a refusal, or what `last` says after them
   unfoldable pub run_events : (ℕ → State → Outcome) → ℕ → ℕ → List YamlEvent → State → Outcome
   run_events last i k [] st = last k st
   run_events last i k (e ∷ es) st =
-      follow (on_event text events room piece_room (Ok (placed i e)) st) (λ (n : State). run_events last (i + length (encode_event e)) (k + 1) es n) k
+      follow (on_read text events room piece_room (Ok (placed i e)) st) (λ (n : State). run_events last (i + length (encode_event e)) (k + 1) es n) k
 
 -- no sound event stands where one should: row 3
 abbrev pub malformed : ℕ → State → Outcome

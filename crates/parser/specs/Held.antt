@@ -17,7 +17,7 @@ use Rattle.records.specs.Layout.{piece_limit, pieces_limit, record_room, piece_r
 use Rattle.parser.specs.Call.{row_number, returned, table_row, building, Delivered}
 use Rattle.records.specs.declared.record.Node.{Node}
 use Rattle.spans.specs.declared.open.Open.{Open}
-use Rattle.spans.specs.declared.scalar.Entry.{Entry}
+use Rattle.spans.specs.declared.scalar.ScalarEntry.{ScalarEntry}
 use Rattle.parser.specs.declared.answer.Scalar as answer
 use Rattle.parser.specs.declared.answer.Refusal.{Refusal}
 use Rattle.parser.specs.declared.answer.Refusal.TheVariants as row
@@ -61,17 +61,18 @@ pub record Held (text : List ℕ) (size pieces_size : ℕ) (st : State) (b : Bui
 
 -- a value is no longer than a text may be
 abbrev pub ValueShort : Event → Type 0
-ValueShort (SequenceStart m t n) = Unit {0}
-ValueShort (SequenceEnd m n) = Unit {0}
-ValueShort (MappingStart m t n) = Unit {0}
-ValueShort (MappingEnd m n) = Unit {0}
-ValueShort (Scalar m c y f t v n) = v.len ≤ text_limit
-ValueShort (Alias m n) = Unit {0}
+ValueShort (SequenceStart m t) = Unit {0}
+ValueShort (SequenceEnd m) = Unit {0}
+ValueShort (MappingStart m t) = Unit {0}
+ValueShort (MappingEnd m) = Unit {0}
+ValueShort (Scalar m c y f t v) = v.len ≤ text_limit
+ValueShort (Alias m) = Unit {0}
 
--- the event was read at some place of the event bytes, and those are within their limit
+-- the event was read at some place of the event bytes, with some place after it, and those are within their limit
 pub record Read (events : List ℕ) (e : Event) : Type 0 where
   pub place : ℕ
-  pub within : EventWithin events place (Ok e)
+  pub next : ℕ
+  pub within : EventWithin events place (Ok (e, next))
   pub value_short : ValueShort e
   pub short : length events ≤ events_limit
 
@@ -151,11 +152,11 @@ alone_by x t (Listed n) = Ok (record { node = with_list x 0 n; measured = t; pie
 alone_by x t NoRoom = Err row.NoPieceRoom
 alone_by x t NoList = Ok (record { node = x; measured = t; pieces = 0 })
 
-abbrev pub alone_answer : Entry → Result answer.Scalar Refusal
+abbrev pub alone_answer : ScalarEntry → Result answer.Scalar Refusal
 alone_answer x = alone_by x.node x.measured x.walked
 
 -- the scalar x is kept, its walk having left y in the free part of the pieces, whatever its list o
-abbrev pub Keeps : Builder → Entry → List ℕ → Result Unit Refusal → Builder → List ℕ → Type 0
+abbrev pub Keeps : Builder → ScalarEntry → List ℕ → Result Unit Refusal → Builder → List ℕ → Type 0
 Keeps b x records r b' records' =
     (text : List ℕ) (size pieces_size : ℕ) (st : State) (pieces : List ℕ) (o : Option (List Piece)) (y : List ℕ)
     → Boundary text x.node.extent.start → Held text size pieces_size st b records pieces

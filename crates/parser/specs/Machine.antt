@@ -3,7 +3,7 @@
 -- no cursor here: an offset is `byte_offset` of its index. `room` is how many records fit, `piece_room` how many pieces.
 --
 -- `run` counts down the length of the event bytes, which are more than the events; what a reader expects of it stands in `RunLaws`.
-use Rattle.std.specs.Prelude.{ℕ, zero, suc, ◌+◌, Bool, true, false, ◌&&◌, cond, List, [], ◌∷◌, ◌++◌, eqb, ltb, leb, length, Option, Result, Ok, Err, Some, None}
+use Rattle.std.specs.Prelude.{ℕ, zero, suc, ◌+◌, Bool, ◌&&◌, cond, List, [], ◌∷◌, ◌++◌, eqb, ltb, leb, length, Option, Result, Ok, Err, Some, None}
 use Rattle.text.specs.Offset.{byte_offset}
 use Rattle.provenance.specs.Reading.{Piece}
 use Rattle.provenance.specs.Layout.{walked_number}
@@ -18,6 +18,8 @@ use Rattle.records.specs.Record.{with_list, alias_node}
 use Rattle.spans.specs.Scalar.{ScalarAt, scalar_given, list_at, suffix_of, event_node, event_scalar}
 use Rattle.spans.specs.Collection.{with_child, awaits_value, closes, collection_node}
 use Rattle.records.specs.declared.record.Node.{Node}
+use Rattle.spans.specs.declared.open.Collection.{Collection}
+use Rattle.spans.specs.declared.open.Collection.TheVariants.{Sequence, Mapping}
 use Rattle.spans.specs.declared.open.Open.{Open}
 use Rattle.spans.specs.declared.scalar.ScalarEvent.{ScalarEvent}
 
@@ -66,13 +68,17 @@ within_room room st n = cond (leb room (length st.nodes)) (stop 7) n
 unfoldable pub completed : Node → State → State
 completed x st = record { nodes = st.nodes ++ (x ∷ []); opens = with_child x.extent.start st.opens; pieces = st.pieces }
 
-unfoldable pub on_start : List ℕ → Bool → ℕ → Option YamlTag → State → Next
-on_start text mapping index tag st =
+-- a collection that starts at byte i, after n nodes
+abbrev pub opening : Collection → ℕ → Option YamlTag → ℕ → Open
+opening collection i tag n = record { collection = collection; start = i; suffix = suffix_of tag; children = 0; first = None; before = n }
+
+unfoldable pub on_start : List ℕ → Collection → ℕ → Option YamlTag → State → Next
+on_start text collection index tag st =
     before_root st
     (within_depth st
     (go (record {
       nodes = st.nodes;
-      opens = record { mapping = mapping; start = byte_offset text index; suffix = suffix_of tag; children = 0; first = 0; before = length st.nodes } ∷ st.opens;
+      opens = opening collection (byte_offset text index) tag (length st.nodes) ∷ st.opens;
       pieces = st.pieces;
     })))
 
@@ -83,9 +89,9 @@ ended text room index o os st =
     (go (completed (collection_node text o (byte_offset text index) (length st.nodes)) (record { nodes = st.nodes; opens = os; pieces = st.pieces })))
 
 -- R4
-abbrev pub on_end : List ℕ → ℕ → Bool → ℕ → List Open → State → Next
-on_end text room mapping index [] st = stop 4
-on_end text room mapping index (o ∷ os) st = cond (closes mapping o) (ended text room index o os st) (stop 4)
+abbrev pub on_end : List ℕ → ℕ → Collection → ℕ → List Open → State → Next
+on_end text room collection index [] st = stop 4
+on_end text room collection index (o ∷ os) st = cond (closes collection o) (ended text room index o os st) (stop 4)
 
 unfoldable pub on_alias : List ℕ → ℕ → ℕ → State → Next
 on_alias text room index st = before_root st (within_room room st (go (completed (alias_node (byte_offset text index)) st)))
@@ -110,24 +116,23 @@ on_scalar text events room piece_room e st =
 
 -- ---- the step, the run, the ending
 
-abbrev pub on_event : List ℕ → List ℕ → ℕ → ℕ → Result Event Malformed → State → Next
-on_event text events room piece_room (Ok (SequenceStart index tag n)) st = on_start text false index tag st
-on_event text events room piece_room (Ok (SequenceEnd index n)) st = on_end text room false index st.opens st
-on_event text events room piece_room (Ok (MappingStart index tag n)) st = on_start text true index tag st
-on_event text events room piece_room (Ok (MappingEnd index n)) st = on_end text room true index st.opens st
-on_event text events room piece_room (Ok (Scalar index column style empty_span tag value n)) st =
+abbrev pub on_event : List ℕ → List ℕ → ℕ → ℕ → Event → State → Next
+on_event text events room piece_room (SequenceStart index tag) st = on_start text Sequence index tag st
+on_event text events room piece_room (SequenceEnd index) st = on_end text room Sequence index st.opens st
+on_event text events room piece_room (MappingStart index tag) st = on_start text Mapping index tag st
+on_event text events room piece_room (MappingEnd index) st = on_end text room Mapping index st.opens st
+on_event text events room piece_room (Scalar index column style empty_span tag value) st =
     on_scalar text events room piece_room (scalar_given (record { index = index; column = column; style = style; empty = empty_span }) tag value) st
-on_event text events room piece_room (Ok (Alias index n)) st = on_alias text room index st
-on_event text events room piece_room (Err e) st = stop (event_number (Err e))
+on_event text events room piece_room (Alias index) st = on_alias text room index st
 
--- the place after an event
-abbrev pub next_place : Result Event Malformed → ℕ
-next_place (Ok (SequenceStart index tag n)) = n
-next_place (Ok (SequenceEnd index n)) = n
-next_place (Ok (MappingStart index tag n)) = n
-next_place (Ok (MappingEnd index n)) = n
-next_place (Ok (Scalar index column style empty_span tag value n)) = n
-next_place (Ok (Alias index n)) = n
+-- what is read: an event, or nothing that is one (R3)
+abbrev pub on_read : List ℕ → List ℕ → ℕ → ℕ → Result (Event × ℕ) Malformed → State → Next
+on_read text events room piece_room (Ok (e, next)) st = on_event text events room piece_room e st
+on_read text events room piece_room (Err e) st = stop (event_number (Err e))
+
+-- the place after what is read
+abbrev pub next_place : Result (Event × ℕ) Malformed → ℕ
+next_place (Ok (e, next)) = next
 next_place (Err e) = 0
 
 -- the events have ended, and were k (R0, R9)
@@ -143,7 +148,7 @@ unfoldable pub run : List ℕ → List ℕ → ℕ → ℕ → ℕ → ℕ → �
 run text events room piece_room zero i k st = ending k st
 run text events room piece_room (suc f) i k st =
     cond (ltb i (length events))
-    (follow (on_event text events room piece_room (read_event events i) st) (λ (n : State). run text events room piece_room f (next_place (read_event events i)) (k + 1) n) k)
+    (follow (on_read text events room piece_room (read_event events i) st) (λ (n : State). run text events room piece_room f (next_place (read_event events i)) (k + 1) n) k)
     (ending k st)
 
 -- over all events, from nothing

@@ -12,15 +12,15 @@ use text::admission::TextError;
 // Why a call refuses: rows 1 to 9 of the table, in their order.
 #[derive(Clone, Copy, Debug, PartialEq, Eq)]
 pub enum Refusal {
-    TooLong,
-    NotUtf8,
-    Malformed,
-    Unbalanced,
-    AfterRoot,
-    TooDeep,
-    NoRecordRoom,
-    NoPieceRoom,
-    Unfinished,
+    TooLong = 1,
+    NotUtf8 = 2,
+    Malformed = 3,
+    Unbalanced = 4,
+    AfterRoot = 5,
+    TooDeep = 6,
+    NoRecordRoom = 7,
+    NoPieceRoom = 8,
+    Unfinished = 9,
 }
 
 // The row's number.
@@ -28,17 +28,7 @@ impl From<Refusal> for u32 {
     ghost from_gives = { λ refusal n. n ≡ row_number refusal };
 
     fn from(refusal: Refusal) -> u32 {
-        match refusal {
-            Refusal::TooLong => 1,
-            Refusal::NotUtf8 => 2,
-            Refusal::Malformed => 3,
-            Refusal::Unbalanced => 4,
-            Refusal::AfterRoot => 5,
-            Refusal::TooDeep => 6,
-            Refusal::NoRecordRoom => 7,
-            Refusal::NoPieceRoom => 8,
-            Refusal::Unfinished => 9,
-        }
+        refusal as u32
     }
 }
 

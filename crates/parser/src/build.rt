@@ -5,30 +5,16 @@ ghost use Rattle.text.specs.Admission.{admission};
 ghost use Rattle.provenance.specs.Layout.{zeros};
 ghost use Rattle.event.specs.Read.{events_limit, read_event};
 ghost use Rattle.records.specs.Layout.{pieces_limit};
-ghost use Rattle.parser.specs.Machine.{on_event, next_place};
+ghost use Rattle.parser.specs.Machine.{on_read, next_place};
 ghost use Rattle.parser.specs.Call.{Promised};
 ghost use Rattle.parser.specs.Held.{Ready, Refuses, Follows, Fills, Settles};
 
 use crate::answer::{Built, Refusal, Refused};
 use crate::on_event::Builder;
-use event::read::{EVENTS_LIMIT, Event, read_event};
+use event::read::{EVENTS_LIMIT, read_event};
 use provenance::write::clear;
 use records::buffer::usable;
 use text::admission::{Text, admit_text};
-
-// The place after an event.
-fn next_place(e: Event) -> usize
-    ensures { result ≡ next_place (Ok e) }
-{
-    match e {
-        Event::SequenceStart { next, .. }
-        | Event::SequenceEnd { next, .. }
-        | Event::MappingStart { next, .. }
-        | Event::MappingEnd { next, .. }
-        | Event::Scalar { next, .. }
-        | Event::Alias { next, .. } => next,
-    }
-}
 
 // A document: a text that is admitted, and event bytes within their limit.
 #[derive(Clone, Copy)]
@@ -49,13 +35,13 @@ fn step(
 ) -> Result<usize, Refusal>
     requires { Ready document.text.content.bytes.now builder.old records.old pieces.old }
     ensures stepped { Follows document.entry.text.content.bytes.now builder.old records.old pieces.old
-        (λ room piece_room st. on_event document.entry.text.content.bytes.now document.entry.events.now room piece_room (read_event document.entry.events.now at) st) result builder.new records.new pieces.new }
+        (λ room piece_room st. on_read document.entry.text.content.bytes.now document.entry.events.now room piece_room (read_event document.entry.events.now at) st) result builder.new records.new pieces.new }
     ensures next { IfOk result (λ n. n ≡ next_place (read_event document.entry.events.now at)) }
 {
     let Document { text, events } = document;
-    let e = read_event(events, at)?;
+    let (e, next) = read_event(events, at)?;
     builder.on_event(text, events, records, pieces, e)?;
-    Ok(next_place(e))
+    Ok(next)
 }
 
 // All events in order, into buffers that are zero. A loop: where the next event begins is read.

@@ -1,5 +1,5 @@
 // What each event does to the open collections and the buffers. (01: `on_event`, `push_complete`; rows 3 to 8.)
-ghost use Rattle.std.specs.Prelude.{◌≡◌, ◌/◌, [], leb, length, Ok};
+ghost use Rattle.std.specs.Prelude.{◌≡◌, ◌/◌, [], leb, length};
 ghost use Rattle.records.specs.Record.{record_width};
 ghost use Rattle.parser.specs.Machine.{on_start, on_end, on_alias, on_scalar, on_event};
 ghost use Rattle.parser.specs.Held.{gate, is_root_done, Read, Ready, ReadyBut, ReadyToOpen, Pushable, Completes, Counted, Keeps, Follows, FollowsBut, Opens};
@@ -11,16 +11,14 @@ use crate::stack::{DEPTH_LIMIT, Stack};
 use event::read::Event;
 use event::tag::YamlTag;
 use provenance::walk::Walked;
-use records::record::{Extent, NO_LIST, NO_TAG, Node, RECORD_WIDTH, put_record, with_list};
+use provenance::write::PIECE_WIDTH;
+use records::record::{Extent, NO_LIST, NO_TAG, Node, RECORD_WIDTH, put_record};
 use schema::record::{Kind, Payload};
 use spans::collection::{closes_open, collection_node};
-use spans::open::Open;
-use spans::scalar::{Entry, ScalarEvent, ScalarMark, event_scalar, suffix_of};
+use spans::open::{Collection, Open};
+use spans::scalar::{ScalarEntry, ScalarEvent, ScalarMark, event_scalar, suffix_of};
 use text::admission::{AdmittedPlace, Text};
 use text::offset::{Cursor, START};
-
-// How many numbers a piece has.
-const PIECE_WIDTH: usize = 4;
 
 // How far a call has got. Its records and pieces are lent to each step: a struct that holds a `&mut` has to say in each contract that it
 // keeps that one.
@@ -88,13 +86,13 @@ impl Builder {
     fn on_start(
         &mut self,
         text: Text<'_>,
-        mapping: bool,
+        collection: Collection,
         index: u32,
         tag: Option<YamlTag>,
     ) -> Result<(), Refusal>
         requires ready { ReadyToOpen text.content.bytes.now self.old }
         requires tag_fits { TagFits tag }
-        ensures { Opens text.entry.content.bytes.now self.old (on_start text.entry.content.bytes.now mapping index tag) result self.new }
+        ensures { Opens text.entry.content.bytes.now self.old (on_start text.entry.content.bytes.now collection index tag) result self.new }
     {
         self.before_root()?;
         if DEPTH_LIMIT <= self.stack.depth() {
@@ -102,11 +100,11 @@ impl Builder {
         }
         self.cursor = text.byte_offset_of_char(self.cursor, index as usize);
         self.stack.push(Open {
-            mapping,
+            collection,
             start: self.cursor.offset as u32,
             suffix: suffix_of(tag),
             children: 0,
-            first: 0,
+            first: None,
             before: self.nodes as u32,
         });
         Ok(())
@@ -117,17 +115,17 @@ impl Builder {
         &mut self,
         text: Text<'_>,
         records: &mut [u32],
-        mapping: bool,
+        collection: Collection,
         index: u32,
     ) -> Result<(), Refusal>
         requires { ReadyBut text.content.bytes.now self.old records.old }
         ensures { FollowsBut text.entry.content.bytes.now self.old records.old
-            (λ room st. on_end text.entry.content.bytes.now room mapping index st.opens st) result self.new records.new }
+            (λ room st. on_end text.entry.content.bytes.now room collection index st.opens st) result self.new records.new }
     {
         let Some(open) = self.stack.pop() else {
             return Err(Refusal::Unbalanced);
         };
-        if !closes_open(mapping, open) {
+        if !closes_open(collection, open) {
             return Err(Refusal::Unbalanced);
         }
         self.within_room(records)?;
@@ -153,17 +151,14 @@ impl Builder {
             tag: NO_TAG,
             subtree: 1,
             list: NO_LIST,
-            payload: Payload {
-                first: 0,
-                second: 0,
-            },
+            payload: Payload::default(),
         };
         self.push_complete(records, x);
         Ok(())
     }
 
     // The scalar `x`, whose pieces its walk has left in the free part of their buffer, is complete, or has no room.
-    fn keep_scalar(&mut self, records: &mut [u32], x: Entry) -> Result<(), Refusal>
+    fn keep_scalar(&mut self, records: &mut [u32], x: ScalarEntry) -> Result<(), Refusal>
         requires pushable { Pushable self.old records.old }
         requires counted { Counted self.old.used x.walked }
         ensures { Keeps self.old x records.old result self.new records.new }
@@ -172,7 +167,7 @@ impl Builder {
             Walked::NoRoom => return Err(Refusal::NoPieceRoom),
             Walked::NoList => self.push_complete(records, x.node),
             Walked::Listed(n) => {
-                let node = with_list(x.node, self.used as u32, n as u32);
+                let node = x.node.with_list(self.used as u32, n as u32);
                 self.used += n;
                 self.push_complete(records, node);
             }
@@ -219,13 +214,17 @@ impl Builder {
         requires ready { Ready text.content.bytes.now self.old records.old pieces.old }
         requires read { Read events.now e }
         ensures { Follows text.entry.content.bytes.now self.old records.old pieces.old
-            (λ room piece_room st. on_event text.entry.content.bytes.now events.now room piece_room (Ok e) st) result self.new records.new pieces.new }
+            (λ room piece_room st. on_event text.entry.content.bytes.now events.now room piece_room e st) result self.new records.new pieces.new }
     {
         match e {
-            Event::SequenceStart { index, tag, .. } => self.on_start(text, false, index, tag),
-            Event::SequenceEnd { index, .. } => self.on_end(text, records, false, index),
-            Event::MappingStart { index, tag, .. } => self.on_start(text, true, index, tag),
-            Event::MappingEnd { index, .. } => self.on_end(text, records, true, index),
+            Event::SequenceStart { index, tag } => {
+                self.on_start(text, Collection::Sequence, index, tag)
+            }
+            Event::SequenceEnd { index } => self.on_end(text, records, Collection::Sequence, index),
+            Event::MappingStart { index, tag } => {
+                self.on_start(text, Collection::Mapping, index, tag)
+            }
+            Event::MappingEnd { index } => self.on_end(text, records, Collection::Mapping, index),
             Event::Scalar {
                 index,
                 column,
@@ -233,7 +232,6 @@ impl Builder {
                 empty_span,
                 tag,
                 value,
-                ..
             } => {
                 let mark = ScalarMark {
                     index,
@@ -244,7 +242,7 @@ impl Builder {
                 let scalar = ScalarEvent { mark, tag, value };
                 self.on_scalar(text, events, records, pieces, scalar)
             }
-            Event::Alias { index, .. } => self.on_alias(text, records, index),
+            Event::Alias { index } => self.on_alias(text, records, index),
         }
     }
 }

@@ -10,15 +10,15 @@ use crate::answer::{Refusal, Scalar};
 use provenance::walk::Walked;
 use provenance::write::clear;
 use records::buffer::usable;
-use records::record::{NO_TAG, with_list};
+use records::record::NO_TAG;
 use schema::tag::resolve_scalar;
-use spans::scalar::{Entry, ScalarMark, walk_scalar};
+use spans::scalar::{ScalarEntry, ScalarMark, walk_scalar};
 use style::Style;
 use text::admission::{Admitted, AdmittedPlace, Text, admit_text_and_value};
 use text::offset::START;
 
 // What the call on the scalar `x` answers, by its walk.
-fn alone(x: Entry) -> Result<Scalar, Refusal>
+fn alone(x: ScalarEntry) -> Result<Scalar, Refusal>
     requires { Counted 0 x.walked }
     ensures { result ≡ alone_answer x }
 {
@@ -31,7 +31,7 @@ fn alone(x: Entry) -> Result<Scalar, Refusal>
             pieces: 0,
         }),
         Walked::Listed(n) => Ok(Scalar {
-            node: with_list(x.node, 0, n as u32),
+            node: x.node.with_list(0, n as u32),
             measured,
             pieces: n,
         }),
@@ -59,8 +59,8 @@ fn one_scalar(
 }
 
 // One scalar, given as its event would give it: it awaits nothing, has no tag, and its value has the place 0. What it answers, the record
-// and every number of the buffer afterwards is `scalar_call`; on a refusal the buffer is zero. `scalar_measured` is the flag. The style is a
-// number, since the call refuses those that no style has.
+// and every number of the buffer afterwards is `scalar_call`; on a refusal the buffer is zero. `scalar_measured` is the flag. The style is
+// a number, since the call refuses those that no style has.
 pub fn scalar(
     text: &[u8],
     index: u32,

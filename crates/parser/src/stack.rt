@@ -1,22 +1,23 @@
 // The open collections. (01: row 6; N2.)
-ghost use Rattle.std.specs.Prelude.{◌≡◌, ◌+◌, ◌^◌, ◌≤◌, ◌<◌, [], ◌∷◌, List, take, reverse, length, MatchOption};
+ghost use Rattle.std.specs.Prelude.{◌≡◌, ◌≤◌, ◌<◌, [], ◌∷◌, List, take, reverse, length, MatchOption};
 ghost use Rattle.spans.specs.Collection.{with_child, awaits_value};
 ghost use Rattle.spans.specs.declared.open.Open.{Open};
 ghost use Rattle.parser.specs.Opens.{Countable};
 ghost use Rattle.parser.specs.Machine.{depth_limit};
 
-use spans::open::Open;
+use spans::open::{Collection, Open};
 use std::marker::Model;
 
 // How many collections may be open.
 pub const DEPTH_LIMIT: usize = 64;
 
-const NONE: Open = Open {
-    mapping: false,
+// Fills the places that are not used.
+const UNUSED: Open = Open {
+    collection: Collection::Sequence,
     start: 0,
     suffix: None,
     children: 0,
-    first: 0,
+    first: None,
     before: 0,
 };
 
@@ -42,7 +43,7 @@ impl Stack {
         ensures { result ≡ [] }
     {
         Stack {
-            opens: [NONE; DEPTH_LIMIT],
+            opens: [UNUSED; DEPTH_LIMIT],
             depth: 0,
         }
     }
@@ -77,11 +78,8 @@ impl Stack {
     pub fn expecting_value(&self) -> bool
         ensures { result ≡ awaits_value self.now }
     {
-        if self.depth == 0 {
-            return false;
-        }
-        let o = self.opens[self.depth - 1];
-        o.mapping && o.children % 2 == 1
+        let innermost = self.opens[..self.depth].last();
+        innermost.is_some_and(|o| o.collection == Collection::Mapping && o.children % 2 == 1)
     }
 
     // The innermost one, if there is one, has a child more, which starts at `start`.
@@ -89,16 +87,11 @@ impl Stack {
         requires { Countable self.old }
         ensures { self.new ≡ with_child start self.old }
     {
-        if self.depth == 0 {
-            return;
+        // By its index: `last_mut` of `opens[..depth]` was tried, and no fact was found that says what that part ends as.
+        if let Some(k) = self.depth.checked_sub(1) {
+            let o = &mut self.opens[k];
+            o.children += 1;
+            o.first = o.first.or(Some(start));
         }
-        let k = self.depth - 1;
-        let o = self.opens[k];
-        let first = if o.children == 0 { start } else { o.first };
-        self.opens[k] = Open {
-            children: o.children + 1,
-            first,
-            ..o
-        };
     }
 }

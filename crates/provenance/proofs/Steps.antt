@@ -7,7 +7,7 @@ use native.Mathlib.Omega.{arith}
 use lib.Dec.{ltb, eqb}
 use lib.ListN.{length, take, drop, get_or, length-take, length-drop}
 use lib.Seq.{drop-drop}
-use borrow.Author.Tests.{lt-ltb, le-ltb, eq-eqb, ne_eqb}
+use borrow.Author.Tests.{lt-ltb, le-ltb}
 use Rattle.utf8.specs.Ascii.{same_bytes}
 use Rattle.provenance.specs.declared.run.Run.{Run}
 use Rattle.provenance.specs.declared.escape.Escape.{Escape}
@@ -16,7 +16,7 @@ use Rattle.std.specs.Option.{option_or}
 use Rattle.std.specs.Bool.{then_some}
 use Rattle.provenance.specs.declared.step.Step.{Step}
 use Rattle.provenance.specs.declared.step.Step.TheVariants.{Verbatim, Replacement}
-use Rattle.provenance.specs.Run.{white_run, newlines_in, through_last, cut, blank_run}
+use Rattle.provenance.specs.Run.{white_run, newlines_in, cut, blank_run}
 use Rattle.provenance.specs.Counted.{no_run, counted_run, cut_len}
 use Rattle.provenance.specs.Grammar.{Rules, FittingStep, break_pair, starts_break, is_break_byte, opens_break, break_step, as_step, escape_step, equal_step, end_step, step}
 use Rattle.provenance.specs.Looked.{break_run, Tells, known_after}
@@ -41,11 +41,6 @@ pub opens_told : (t block block' : Bool) (b b' c c' : ℕ) → t ≡ opens_break
 opens_told t block block' b b' c c' e p q r = sym (e ∙ ap (λ (x : Bool). opens_break x b c) p ∙ ap (λ (x : ℕ). opens_break block' x c) q ∙ ap (λ (x : ℕ). opens_break block' b' x) r)
 
 -- ---- the run that is looked at
-
--- the numbers of a run
-pub numbers_of : (run : Run) (l : List ℕ) → run ≡ counted_run l → (run.len ≡ length (white_run l)) × (run.newlines ≡ newlines_in (white_run l)) × (run.last ≡ through_last (white_run l))
-unfolding counted_run
-numbers_of run l e = (ap (λ (x : Run). x.len) e, ap (λ (x : Run). x.newlines) e, ap (λ (x : Run). x.last) e)
 
 -- what step 1 looks at is nothing, or the run that stands there
 looks_at : {X : Type 0} (block : Bool) (src val : List ℕ) (run : Run) → run ≡ break_run block src val → (run ≡ no_run → X) → (opens_break block (get_or src 0 0) (get_or val 0 0) ≡ true → run ≡ counted_run src → X) → X
@@ -76,14 +71,15 @@ pub cut_of : (block : Bool) (column : ℕ) (run : Run) (l : List ℕ) (a : ℕ) 
 unfolding counted_run
 cut_of block column run l a e q = e ∙ ap (λ (x : Run). cut_len block column x) q ∙ cut_numbers block column (white_run l)
 
-pub blanks_of : (run : Run) (l val : List ℕ) (b : ℕ) → b ≡ min run.newlines (length (blank_run val)) → run ≡ counted_run l → b ≡ length (take (newlines_in (white_run l)) (blank_run val))
-blanks_of run l val b e q = e ∙ ap (λ (k : ℕ). min k (length (blank_run val))) (numbers_of run l q).1 ∙ sym (length-take (newlines_in (white_run l)) (blank_run val))
+pub folds_of : (run : Run) (l val : List ℕ) (b : ℕ) → b ≡ min run.newlines (length (blank_run val)) → run ≡ counted_run l → b ≡ length (take (newlines_in (white_run l)) (blank_run val))
+unfolding counted_run
+folds_of run l val b e q = e ∙ ap (λ (x : Run). min x.newlines (length (blank_run val))) q ∙ sym (length-take (newlines_in (white_run l)) (blank_run val))
 
 pub cut_inside : (block : Bool) (column : ℕ) (l : List ℕ) → length (cut block column (white_run l)) ≤ length l
 cut_inside block column l = let p = cut_within block column (white_run l) in let q = run_within l in omega arith
 
-pub blanks_inside : (n : ℕ) (val : List ℕ) → length (take n (blank_run val)) ≤ length val
-blanks_inside n val = let p = length-take n (blank_run val) in let q = blanks_within val in omega arith
+pub folds_inside : (n : ℕ) (val : List ℕ) → length (take n (blank_run val)) ≤ length val
+folds_inside n val = let p = length-take n (blank_run val) in let q = blanks_within val in omega arith
 
 module _ (block : Bool) (column : ℕ) (l val : List ℕ) (a b : ℕ) (ea : a ≡ length (cut block column (white_run l))) (eb : b ≡ length (take (newlines_in (white_run l)) (blank_run val))) where
   abbrev X : List ℕ
@@ -115,10 +111,10 @@ module _ (block : Bool) (column : ℕ) (l val : List ℕ) (a b : ℕ) (ea : a �
 
 module _ (r : Rules) (src val : List ℕ) where
   pub step_break : (run : Run) → run ≡ break_run r.block src val → 0 < run.newlines → (t : Step) → t ≡ break_pair r.block r.column (white_run src) val → Some t ≡ step r src val
-  unfolding step break_step
+  unfolding step break_step counted_run
   step_break run e h t q =
       let p = found r.block src val run e h in
-      let n : 0 < newlines_in (white_run src) = (let m = (numbers_of run src p.1).1 in omega arith) in
+      let n : 0 < newlines_in (white_run src) = (let m : run.newlines ≡ newlines_in (white_run src) = ap (λ (x : Run). x.newlines) p.1 in omega arith) in
       ap (λ (x : Step). Some x) q ∙ sym (rw (p.0, lt-ltb 0 _ n))
 
   module _ (z : (break_run r.block src val).newlines ≡ 0) where
@@ -179,16 +175,17 @@ module _ (block : Bool) (src val : List ℕ) (s v known : ℕ) (clear : Clear sr
       record { fits = λ _. z; falls = λ h. ap (λ (x : Run). x.newlines) (sym z) ∙ h })
 
   pub run_small : run.len ≤ length src
+  unfolding counted_run
   run_small =
       by_order s known
       (λ lt. let z : run ≡ no_run = rw (lt-ltb _ _ lt) at e in let n : run.len ≡ 0 = ap (λ (x : Run). x.len) z in omega arith)
       (λ le.
       looks_at block (drop s src) (drop v val) run (rw (le-ltb _ _ le) at e)
       (λ z. let n : run.len ≡ 0 = ap (λ (x : Run). x.len) z in omega arith)
-      (λ o z. let n = (numbers_of run (drop s src) z).0 in let w = run_within (drop s src) in let d = length-drop s src in omega arith))
+      (λ o z. let n : run.len ≡ length (white_run (drop s src)) = ap (λ (x : Run). x.len) z in let w = run_within (drop s src) in let d = length-drop s src in omega arith))
 
   clear_known : Clear src s (known_after known s run)
-  unfolding known_after
+  unfolding known_after counted_run
   clear_known =
       by_order 0 run.newlines
       (λ lt. rw (lt-ltb _ _ lt) clear)
@@ -204,7 +201,8 @@ module _ (block : Bool) (src val : List ℕ) (s v known : ℕ) (clear : Clear sr
       looks_at block (drop s src) (drop v val) run (rw (le-ltb _ _ le) at e)
       (λ q. absurd (some_len (ap (λ (x : Run). x.len) q)))
       (λ o q i a b.
-      let n = numbers_of run (drop s src) q in
+      let n : run.len ≡ length (white_run (drop s src)) = ap (λ (x : Run). x.len) q in
+      let k : run.newlines ≡ newlines_in (white_run (drop s src)) = ap (λ (x : Run). x.newlines) q in
       let j : s + (i - s) ≡ i = omega arith in
       let w : newlines_in (white_run (drop (i - s) (drop s src))) ≡ 0 = clear_inside (drop s src) (i - s) (omega arith) (omega arith) in
       sym (ap (λ (l : List ℕ). newlines_in (white_run l)) (drop-drop (i - s) s src ∙ ap (λ (k : ℕ). drop k src) j)) ∙ w)))))

@@ -59,19 +59,32 @@ module _ (r : Rules) {reach : EscapeReach} (fair : FairTable r.escapes reach) (s
       kept_is : Kept m (laid base base ts) (put_open buf n base from s)
       kept_is = end_kept reach at (length src) (length val) base m walk_fair buf s v from n h end
 
-      module _ (n' : ℕ) (buf' : List ℕ) (en : n' ≡ count_open n from s) (eb : buf' ≡ put_open buf n base from s) where
-        pub ends_listed : n' ≤ room m → Ends (Listed n') buf'
-        unfolding answer_of buffer_of
-        ends_listed le =
-            let c : n' ≡ length (laid base base ts) = en ∙ sym count_is in
-            let le' : length (laid base base ts) ≤ room m = omega arith in
-            (rw (list_is, le-leb _ _ le') (ap Listed c), rw (list_is, le-leb _ _ le') (eb ∙ kept_is.kept (omega arith)))
+      -- n' pieces were counted, and buf' left: it stays where there is room for them all, and is cleared where there is none
+      pub record Ended (n' : ℕ) (buf' : List ℕ) : Type 0 where
+        pub listed : n' ≤ room m → Ends (Listed n') buf'
+        pub full : room m < n' → (cleared : List ℕ) → cleared ≡ cleared_to (written_len n' (length buf')) buf' → Ends NoRoom cleared
 
-        pub ends_full : room m < n' → (k : ℕ) (buf'' : List ℕ) → k ≡ written_len n' m → buf'' ≡ cleared_to k buf' → Ends NoRoom buf''
+      -- as the last call tells them, with the base that it was given and the buffer's length kept
+      module _ (base' : ℕ) (same_base : base' ≡ base) (n' : ℕ) (buf' : List ℕ) (en : n' ≡ count_open n from s)
+          (eb : buf' ≡ put_open buf n base' from s) (same_length : length buf' ≡ length buf) where
+        count_told : n' ≡ length (laid base base ts)
+        count_told = en ∙ sym count_is
+
+        kept_told : Kept m (laid base base ts) buf'
+        kept_told = subst (λ (l : List ℕ). Kept m (laid base base ts) l) (sym (rw same_base at eb)) kept_is
+
+        pub ended : Ended n' buf'
         unfolding answer_of buffer_of
-        ends_full lt k buf'' ek eb'' =
-            let c : n' ≡ length (laid base base ts) = en ∙ sym count_is in
-            let lt' : room m < length (laid base base ts) = omega arith in
-            let z : cleared_to k buf' ≡ zeros m =
-            clear_all m (laid base base ts) buf' k (subst (λ (l : List ℕ). Kept m (laid base base ts) l) (sym eb) kept_is) (ek ∙ ap (λ (j : ℕ). written_len j m) c) in
-            (rw (list_is, lt-leb _ _ lt'), rw (list_is, lt-leb _ _ lt') (eb'' ∙ z))
+        ended =
+            let c = count_told in
+            let size = h.held.size in
+            let k : written_len n' (length buf') ≡ written_len (length (laid base base ts)) m =
+            ap (λ (j : ℕ). written_len j (length buf')) c ∙ ap (λ (j : ℕ). written_len (length (laid base base ts)) j) (same_length ∙ size) in
+            record {
+              listed = λ le.
+                  let le' : length (laid base base ts) ≤ room m = omega arith in
+                  (rw (list_is, le-leb _ _ le') (ap Listed c), rw (list_is, le-leb _ _ le') (kept_told.kept (omega arith)));
+              full = λ lt cleared e.
+                  let lt' : room m < length (laid base base ts) = omega arith in
+                  (rw (list_is, lt-leb _ _ lt'), rw (list_is, lt-leb _ _ lt') (e ∙ clear_all m (laid base base ts) buf' _ kept_told k));
+            }

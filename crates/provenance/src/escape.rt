@@ -1,12 +1,12 @@
 // Escapes: how many source bytes one takes, and how many content bytes it stands for. (01: `escape_len`; Piece grammar, step 2; P7.)
 ghost use Rattle.std.specs.Prelude.{◌≡◌, ◌≤◌, ◌<◌, IfSome, length, get_or};
 ghost use Rattle.style.specs.Style.{style_number};
-ghost use Rattle.utf8.specs.Utf8.{encode};
 ghost use Rattle.provenance.specs.Escape.{digits, radix16, code_content, is_one_of, one_byte_escapes, single_quote_escapes, backslash_escape, double_quote_escapes, escapes_of};
 
-use crate::run::{CARRIAGE_RETURN, NEWLINE, white_run};
-use measure::quoted::{BACKSLASH, SINGLE_QUOTE};
+use crate::run::white_run;
+use letters::letter::{BACKSLASH, SINGLE_QUOTE};
 use style::Style;
+use utf8::class::{CARRIAGE_RETURN, NEWLINE};
 use utf8::utf8::byte_at;
 
 // An escape takes so many source bytes and stands for so many content bytes. It is never compared with the value. (W2.)
@@ -30,29 +30,13 @@ fn is_one_byte_escape(c: u8) -> bool
     ONE_BYTE_ESCAPES.contains(&c)
 }
 
-// How many bytes encode a code point of at most four digits.
-#[tactic(auto, unfolding(utf8::specs::Utf8::encode))]
-fn encoded_len(code: u32) -> usize
-    requires { code < 0x1_0000 }
-    ensures { result ≡ length (encode code) }
-{
-    match code {
-        0..=0x7f => 1,
-        0x80..=0x7ff => 2,
-        _ => 3,
-    }
-}
-
 // The content of a code: its character's bytes, 1 for a surrogate and for no code.
-#[tactic(auto, unfolding(crate::specs::Escape::code_content))]
+#[tactic(auto, unfolding(crate::specs::Escape::code_content, utf8::specs::Utf8::encode))]
 fn code_content(code: Option<u32>) -> usize
     requires { IfSome code (λ c. c < 0x1_0000) }
     ensures { result ≡ code_content code }
 {
-    match code {
-        None | Some(0xd800..=0xdfff) => 1,
-        Some(c) => encoded_len(c),
-    }
+    code.and_then(char::from_u32).map_or(1, char::len_utf8)
 }
 
 // The number of at least one and at most four digits, if they can be read.

@@ -1,18 +1,10 @@
-// Runs of white-space bytes in the source, and of blanks in the value. (01: Piece grammar, step 1; S11, W1.)
-ghost use Rattle.std.specs.Prelude.{◌≡◌, ◌^◌, ◌<◌, min, length};
+// Runs of white-space bytes in the source, and of blanks and newlines in the value. (01: Piece grammar, step 1; S11, W1.)
+ghost use Rattle.std.specs.Prelude.{◌≡◌, ◌<◌, min, length};
 ghost use Rattle.provenance.specs.Run.{blank_run, only_newlines};
 ghost use Rattle.measure.specs.Plain.{is_fold};
 ghost use Rattle.provenance.specs.Counted.{cut_len, counted_run};
 
-use utf8::class::is_white_space_byte;
-
-pub const TAB: u8 = 9;
-
-pub const NEWLINE: u8 = 10;
-
-pub const CARRIAGE_RETURN: u8 = 13;
-
-const BLANK: u8 = 32;
+use utf8::class::{BLANK, NEWLINE, is_white_space_byte};
 
 // The white-space bytes that a source begins with: how many they are, how many newlines are among them, and how many go up to the
 // last newline, it counted in. By bytes: a measure has a run of its own, by code points, which counts other things.
@@ -23,7 +15,7 @@ pub struct Run {
     pub last: usize,
 }
 
-// No white space.
+// An empty run, without a newline: all that a step asks of a run where it looks at none.
 pub const NO_RUN: Run = Run {
     len: 0,
     newlines: 0,
@@ -60,19 +52,19 @@ pub fn cut_len(run: Run, block: bool, column: usize) -> usize
     }
 }
 
-// The same of a byte as `is_fold` of a code point, which is looked at in another type: asked by a cast, it would say less.
+// The same of a byte as measure's `is_fold` of a code point. It is not asked: a cast would read the byte as if it were a code point.
 #[tactic(auto, unfolding(measure::specs::Plain::is_fold))]
-pub fn is_blank(b: u8) -> bool
+pub fn is_fold(b: u8) -> bool
     ensures { result ≡ is_fold b }
 {
     b == BLANK || b == NEWLINE
 }
 
 // How many blanks and newlines a value begins with, at most `most`.
-pub fn blanks(tail: &[u8], most: usize) -> usize
+pub fn folds(tail: &[u8], most: usize) -> usize
     ensures { result ≡ min most (length (blank_run tail.now)) }
 {
-    tail.iter().take_while(|&&b| is_blank(b)).take(most).count()
+    tail.iter().take_while(|&&b| is_fold(b)).take(most).count()
 }
 
 // Whether a value is newlines and nothing else. An empty one is.

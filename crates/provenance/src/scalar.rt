@@ -1,5 +1,5 @@
 // The pieces of one scalar. (01: `compute_scalar_provenance`; N1, S13, S14, F3.)
-ghost use Rattle.std.specs.Prelude.{◌≡◌, ◌+◌, ◌^◌, ◌≤◌, ◌<◌, length};
+ghost use Rattle.std.specs.Prelude.{◌≡◌, ◌+◌, ◌≤◌, length};
 ghost use Rattle.style.specs.Style.{style_number};
 ghost use Rattle.text.specs.Admission.{text_limit};
 ghost use Rattle.provenance.specs.Layout.{room, zeros, answer_of, buffer_of};

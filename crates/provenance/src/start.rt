@@ -3,8 +3,9 @@ ghost use Rattle.std.specs.Prelude.{◌≡◌, ◌+◌, ◌≤◌, length};
 ghost use Rattle.style.specs.Style.{style_number};
 ghost use Rattle.provenance.specs.Start.{is_quoted, is_header, at_empty_block_header, header_end, walk_start};
 
-use crate::run::{NEWLINE, only_newlines};
+use crate::run::only_newlines;
 use style::Style;
+use utf8::class::NEWLINE;
 use utf8::utf8::byte_at;
 
 const LITERAL_HEADER: u8 = b'|';

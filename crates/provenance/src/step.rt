@@ -1,5 +1,5 @@
 // The steps of the piece grammar. (01: Piece grammar; S11.)
-ghost use Rattle.std.specs.Prelude.{cond, ◌≡◌, ◌^◌, ◌≤◌, ◌<◌, [], ltb, length, drop};
+ghost use Rattle.std.specs.Prelude.{cond, ◌≡◌, ◌≤◌, ◌<◌, [], ltb, length, drop};
 ghost use Rattle.style.specs.Style.{style_number, is_block};
 ghost use Rattle.text.specs.Admission.{text_limit};
 ghost use Rattle.provenance.specs.Run.{white_run};
@@ -8,11 +8,9 @@ ghost use Rattle.provenance.specs.Grammar.{rules_of, is_break_byte, opens_break,
 ghost use Rattle.provenance.specs.Looked.{break_run, Tells, known_after};
 
 use crate::escape::escape_len;
-use crate::run::{
-    CARRIAGE_RETURN, NEWLINE, NO_RUN, Run, TAB, blanks, cut_len, is_blank, only_newlines, white_run,
-};
+use crate::run::{NO_RUN, Run, cut_len, folds, is_fold, only_newlines, white_run};
 use style::Style;
-use utf8::class::is_white_space_byte;
+use utf8::class::{CARRIAGE_RETURN, NEWLINE, TAB, is_white_space_byte};
 use utf8::utf8::byte_at;
 
 // What stands at a source place and a value place.
@@ -24,7 +22,8 @@ pub enum Step {
     Replacement(usize, usize),
 }
 
-// What a walk goes through side by side, by the rules of a style and a column.
+// What a walk goes through side by side, by the rules of a style and a column. The places `s` and `v` and the run at `s` are no part of
+// it: they change at each step, the walk does not.
 #[derive(Clone, Copy)]
 pub struct Walk<'a> {
     pub src: &'a [u8],
@@ -37,7 +36,7 @@ pub struct Walk<'a> {
 fn is_break_byte(c: u8) -> bool
     ensures { result ≡ is_break_byte c }
 {
-    is_blank(c) || c == TAB
+    is_fold(c) || c == TAB
 }
 
 // Whether a break may begin with the source's byte `b` and the value's byte `c`.
@@ -100,7 +99,7 @@ impl Walk<'_> {
         ensures { result ≡ break_pair (is_block (style_number self.entry.style)) self.entry.column (white_run (drop s self.entry.src.now)) (drop v self.entry.value.now) }
     {
         let a = cut_len(run, self.style.is_block(), self.column);
-        let b = blanks(&self.value[v..], run.newlines);
+        let b = folds(&self.value[v..], run.newlines);
         if self.src[s..s + a] == self.value[v..v + b] {
             Step::Verbatim(a)
         } else {

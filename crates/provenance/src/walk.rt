@@ -1,5 +1,5 @@
 // The walk: the value against the source from the walk's first byte on. (01: Piece grammar; `walk_scalar_provenance`; S12, S13, F2, F3.)
-ghost use Rattle.std.specs.Prelude.{◌≡◌, ◌^◌, ◌≤◌, ◌<◌, length};
+ghost use Rattle.std.specs.Prelude.{◌≡◌, ◌≤◌, ◌<◌, length};
 ghost use Rattle.style.specs.Style.{style_number};
 ghost use Rattle.text.specs.Admission.{text_limit};
 ghost use Rattle.provenance.specs.Grammar.{rules_of};
@@ -10,8 +10,8 @@ use crate::step::{Step, Walk, known_after};
 use crate::write::{Written, clear_pieces, room};
 use letters::letter::letters;
 
-// A list of so many pieces; a list that there is no room for; no list. Each reader takes the three apart in one match: a Result of an Option
-// would nest it.
+// A list of so many pieces; a list that there is no room for; no list. Each reader takes the three apart in one match: a Result of an
+// Option would nest it.
 #[derive(Clone, Copy, Debug, PartialEq, Eq)]
 pub enum Walked {
     Listed(usize),
@@ -24,8 +24,8 @@ impl Walk<'_> {
     //
     // Past the room the walk goes on and only counts: whether there is a reading is not known before its end. No run of white space that
     // starts before `known` holds a newline, so none is looked at twice. After an equal byte come mostly letters, which are passed over at
-    // once. The loop goes by steps, of which each takes what it reads. That the buffer is zero is asked here and in the calls above: a type for it
-    // would hold a `&mut`, and have to say in each contract that it keeps that one.
+    // once. The loop goes by steps, of which each takes what it reads. That the buffer is zero is asked here and in the calls above: a
+    // type for it would hold a `&mut`, and have to say in each contract that it keeps that one.
     pub fn walk_scalar_provenance(self, base: usize, pieces: &mut [u32]) -> Walked
         requires short { (length self.src.now ≤ text_limit) × (length self.value.now ≤ text_limit) × (base ≤ text_limit) }
         requires pieces_zero { pieces.old ≡ zeros (length pieces.old) }

@@ -3,11 +3,11 @@ ghost use Rattle.std.specs.Prelude.{◌≡◌, ◌+◌, ◌≤◌, length};
 ghost use Rattle.text.specs.Admission.{text_limit};
 ghost use Rattle.provenance.specs.Counted.{place_limit};
 ghost use Rattle.provenance.specs.Layout;
-ghost use Rattle.provenance.specs.Reading.{piece};
+ghost use Rattle.provenance.specs.Reading;
 ghost use Rattle.provenance.specs.Writing.{put_piece, put_open, count_open, put_replacement, cleared_to, written_len};
 
 // The numbers of a piece: its kind, start, end, content length.
-const PIECE_WIDTH: usize = 4;
+pub const PIECE_WIDTH: usize = 4;
 
 // The kinds of pieces by their numbers in the layout. In a walk they are the two steps: an enum would be a second `Step`.
 const VERBATIM: u32 = 1;
@@ -21,18 +21,27 @@ pub fn room(size: usize) -> usize
     size / PIECE_WIDTH
 }
 
+// The bytes of the text from `start` to `end`, and how many bytes of the value they stand for.
+#[derive(Clone, Copy, Debug, PartialEq, Eq)]
+struct Piece {
+    kind: u32,
+    start: u32,
+    end: u32,
+    content: u32,
+}
+
 // Writes piece number `n`, if there is room for it.
 #[tactic(auto, unfolding(crate::specs::Writing::put_piece))]
-fn put_piece(pieces: &mut [u32], n: usize, kind: u32, start: u32, end: u32, content: u32)
-    ensures { pieces.new ≡ put_piece pieces.old n (piece kind start end content) }
+fn put_piece(pieces: &mut [u32], n: usize, piece: Piece)
+    ensures { pieces.new ≡ put_piece pieces.old n (Reading.piece piece.kind piece.start piece.end piece.content) }
 {
     if n < room(pieces.len()) {
         let at = PIECE_WIDTH * n;
         // One by one: copied from an array they would be read as one again, just after they were written as four.
-        pieces[at] = kind;
-        pieces[at + 1] = start;
-        pieces[at + 2] = end;
-        pieces[at + 3] = content;
+        pieces[at] = piece.kind;
+        pieces[at + 1] = piece.start;
+        pieces[at + 2] = piece.end;
+        pieces[at + 3] = piece.content;
     }
 }
 
@@ -54,14 +63,13 @@ impl Written {
         ensures pieces_after { pieces.new ≡ put_open pieces.old self.count self.base self.from s }
     {
         if self.from < s {
-            put_piece(
-                pieces,
-                self.count,
-                VERBATIM,
-                (self.base + self.from) as u32,
-                (self.base + s) as u32,
-                (s - self.from) as u32,
-            );
+            let piece = Piece {
+                kind: VERBATIM,
+                start: (self.base + self.from) as u32,
+                end: (self.base + s) as u32,
+                content: (s - self.from) as u32,
+            };
+            put_piece(pieces, self.count, piece);
             return self.count + 1;
         }
         self.count
@@ -75,14 +83,13 @@ impl Written {
         ensures pieces_after { pieces.new ≡ put_replacement pieces.old self.count self.base self.from s a b }
     {
         let next = self.put_open(pieces, s);
-        put_piece(
-            pieces,
-            next,
-            REPLACEMENT,
-            (self.base + s) as u32,
-            (self.base + s + a) as u32,
-            b as u32,
-        );
+        let piece = Piece {
+            kind: REPLACEMENT,
+            start: (self.base + s) as u32,
+            end: (self.base + s + a) as u32,
+            content: b as u32,
+        };
+        put_piece(pieces, next, piece);
         Written {
             count: next + 1,
             base: self.base,

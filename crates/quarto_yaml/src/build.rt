@@ -4,7 +4,7 @@ ghost use Rattle.node.specs.Marker.{scan_error, scanned};
 ghost use Rattle.quarto_yaml.specs.Answer.{three, answer_numbers, Told, ToldScalar};
 
 use parser::answer::Refusal;
-use records::record::{RECORD_WIDTH, record_numbers};
+use records::record::RECORD_WIDTH;
 
 // 0 and what the call says of the two others; or document 01's number, its place, and 0.
 #[repr(C)]
@@ -67,7 +67,7 @@ pub extern "C" fn quarto_yaml_scalar(
                 first: 1,
                 second: scalar.pieces as u32,
             },
-            record: record_numbers(scalar.node),
+            record: scalar.node.into(),
         },
         Err(refusal) => AnsweredScalar {
             answer: Answered {

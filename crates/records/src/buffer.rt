@@ -3,8 +3,10 @@ ghost use Rattle.std.specs.Prelude.{◌≡◌, ◌+◌, ◌≤◌, min, length};
 ghost use Rattle.std.proofs.lemmas.List.Edits.{sets};
 ghost use Rattle.records.specs.Layout.{pieces_limit};
 
+use provenance::write::PIECE_WIDTH;
+
 // The most numbers of the pieces' buffer that are used: those of 4,294,967,294 pieces, so that their count fits its number.
-const PIECES_LIMIT: usize = 17_179_869_176;
+const PIECES_LIMIT: usize = PIECE_WIDTH * 4_294_967_294;
 
 // How many numbers of the pieces' buffer are used.
 pub fn usable(size: usize) -> usize

@@ -1,4 +1,5 @@
-// A node's record: twelve numbers. Of all code only `record_numbers` and `read_record` know where each stands. (01: Events, records, pieces; E2.)
+// A node's record: twelve numbers. Of the library's code only `Node::read` and the array's `from` know where each stands. (01: Events,
+// records, pieces; E2.)
 ghost use Rattle.std.specs.Prelude.{◌≡◌, ◌/◌, ◌≤◌, ◌<◌, eqb, ltb, length};
 ghost use Rattle.schema.specs.Record.{number_of};
 ghost use Rattle.schema.specs.declared.record.Kind.TheVariants as kind;
@@ -8,7 +9,7 @@ ghost use Rattle.records.specs.Layout.{stored};
 use crate::buffer::put;
 use schema::record::{Kind, Payload};
 
-// What stands where there is none: no tag, no piece list. A number, as in the layout: a lent buffer may hold any numbers, and `read_record`
+// What stands where there is none: no tag, no piece list. A number, as in the layout: a lent buffer may hold any numbers, and `Node::read`
 // hands them back as they are.
 pub const ABSENT: u32 = 0xffff_ffff;
 
@@ -40,7 +41,7 @@ pub struct PieceList {
 
 #[derive(Clone, Copy, Debug, PartialEq, Eq)]
 pub struct Node {
-    // A kind's number, as in the layout: a lent buffer may hold any, and `read_record` hands it back.
+    // A kind's number, as in the layout: a lent buffer may hold any, and `Node::read` hands it back.
     pub kind: u32,
     pub extent: Extent,
     pub tag: TagInfo,
@@ -64,6 +65,36 @@ pub const NO_LIST: PieceList = PieceList {
 };
 
 impl Node {
+    // The node whose numbers come first.
+    #[tactic(auto, unfolding(crate::specs::Record::node_of))]
+    pub fn read(numbers: &[u32]) -> Node
+        requires { record_width ≤ length numbers.now }
+        ensures { result ≡ node_of numbers.now }
+    {
+        Node {
+            kind: numbers[0],
+            extent: Extent {
+                start: numbers[1],
+                end: numbers[2],
+            },
+            tag: TagInfo {
+                start: numbers[3],
+                end: numbers[4],
+                suffix: numbers[5],
+                len: numbers[6],
+            },
+            subtree: numbers[7],
+            list: PieceList {
+                first: numbers[8],
+                count: numbers[9],
+            },
+            payload: Payload {
+                first: numbers[10],
+                second: numbers[11],
+            },
+        }
+    }
+
     // Whether it is of this kind.
     pub fn is(self, kind: Kind) -> bool
         ensures { result ≡ eqb self.kind (number_of kind) }
@@ -77,66 +108,38 @@ impl Node {
     {
         self.kind < u32::from(Kind::Array)
     }
-}
 
-// The node with the `count` pieces from number `first` on.
-pub fn with_list(x: Node, first: u32, count: u32) -> Node
-    ensures { result ≡ with_list x first count }
-{
-    Node {
-        list: PieceList { first, count },
-        ..x
+    // The node with the `count` pieces from number `first` on.
+    pub fn with_list(self, first: u32, count: u32) -> Node
+        ensures { result ≡ with_list self first count }
+    {
+        Node {
+            list: PieceList { first, count },
+            ..self
+        }
     }
 }
 
 // The numbers of a record in their order.
-#[tactic(auto, unfolding(crate::specs::Record::node_numbers))]
-pub fn record_numbers(x: Node) -> [u32; RECORD_WIDTH]
-    ensures { result ≡ node_numbers x }
-{
-    [
-        x.kind,
-        x.extent.start,
-        x.extent.end,
-        x.tag.start,
-        x.tag.end,
-        x.tag.suffix,
-        x.tag.len,
-        x.subtree,
-        x.list.first,
-        x.list.count,
-        x.payload.first,
-        x.payload.second,
-    ]
-}
+impl From<Node> for [u32; RECORD_WIDTH] {
+    ghost from_gives = { λ x numbers. numbers ≡ node_numbers x };
 
-// The node whose numbers come first.
-#[tactic(auto, unfolding(crate::specs::Record::node_of))]
-pub fn read_record(numbers: &[u32]) -> Node
-    requires { record_width ≤ length numbers.now }
-    ensures { result ≡ node_of numbers.now }
-{
-    Node {
-        kind: numbers[0],
-        extent: Extent {
-            start: numbers[1],
-            end: numbers[2],
-        },
-        tag: TagInfo {
-            start: numbers[3],
-            end: numbers[4],
-            suffix: numbers[5],
-            len: numbers[6],
-        },
-        subtree: numbers[7],
-        list: PieceList {
-            first: numbers[8],
-            count: numbers[9],
-        },
-        payload: Payload {
-            first: numbers[10],
-            second: numbers[11],
-        },
+    #[tactic(auto, unfolding(crate::specs::Record::node_numbers))]
+    fn from(x: Node) -> [u32; RECORD_WIDTH] {
+        [
+            x.kind,
+            x.extent.start,
+            x.extent.end,
+            x.tag.start,
+            x.tag.end,
+            x.tag.suffix,
+            x.tag.len,
+            x.subtree,
+            x.list.first,
+            x.list.count,
+            x.payload.first,
+            x.payload.second,
+        ]
     }
 }
 
@@ -146,5 +149,6 @@ pub fn put_record(records: &mut [u32], n: usize, x: Node)
     requires { n < length records.old / record_width }
     ensures { records.new ≡ stored records.old n x }
 {
-    put(records, RECORD_WIDTH * n, &record_numbers(x));
+    let numbers: [u32; RECORD_WIDTH] = x.into();
+    put(records, RECORD_WIDTH * n, &numbers);
 }

@@ -1,5 +1,5 @@
 // The parts of an answered case.
-ghost use Rattle.std.specs.Prelude.{◌≡◌, length};
+ghost use Rattle.std.specs.Prelude.{◌≡◌, ◌+◌, ◌*◌, ◌≤◌, ◌<◌, ℕ, List, length, drop, MatchOption, ◌⊎◌};
 ghost use Rattle.replay.specs.Case.{number, part_of, text_of, events_of, rooms_of, returned_of, records_of, pieces_of, same_numbers};
 
 // The rooms of the two buffers, in numbers.
@@ -29,7 +29,10 @@ pub struct Case<'a> {
     pub pieces: &'a [u8],
 }
 
-// Stands in the place of a code where the original panics.
+// The bytes of a number.
+pub const NUMBER_BYTES: usize = 4;
+
+// Stands in the place of a code where the original panics: the lists' format gives it.
 const PANICKED: u32 = 255;
 
 // The number in the four bytes from `at` on, high byte first; bytes past the end are 0.
@@ -50,6 +53,43 @@ pub fn bytes_at(s: &[u8], at: usize, len: usize) -> &[u8]
     s.get(at..).and_then(|rest| rest.get(..len)).unwrap_or(&[])
 }
 
+// What is left of a case that is read from its start on.
+#[derive(Drop)]
+struct Reader<'a> {
+    rest: &'a [u8],
+}
+
+impl<'a> Reader<'a> {
+    // So many bytes are read.
+    fn skip(&mut self, len: usize)
+        ensures { self.new.rest.now ≡ drop len self.old.rest.now }
+    {
+        self.rest = self.rest.get(len..).unwrap_or(&[]);
+    }
+
+    // The next number.
+    fn number(&mut self) -> u32
+        ensures value { result ≡ number self.old.rest.now 0 }
+        ensures rest { self.new.rest.now ≡ drop 4 self.old.rest.now }
+    {
+        let n = number_at(self.rest, 0);
+        self.skip(NUMBER_BYTES);
+        n
+    }
+
+    // The next part: how many units it has, and then these, each `width` bytes.
+    fn part(&mut self, width: usize) -> &'a [u8]
+        requires { width ≤ 4 }
+        ensures value { result.now ≡ part_of self.old.rest.now 4 (width * number self.old.rest.now 0) }
+        ensures rest { self.new.rest.now ≡ drop (4 + width * number self.old.rest.now 0) self.old.rest.now }
+    {
+        let len = width * number_at(self.rest, 0) as usize;
+        let bytes = bytes_at(self.rest, NUMBER_BYTES, len);
+        self.skip(NUMBER_BYTES + len);
+        bytes
+    }
+}
+
 // The parts of an answered case. One that is cut off has empty parts, and numbers that are 0.
 pub fn case_of(s: &[u8]) -> Case<'_>
     ensures text { result.text.now ≡ text_of s.now }
@@ -59,29 +99,25 @@ pub fn case_of(s: &[u8]) -> Case<'_>
     ensures records { result.records.now ≡ records_of s.now }
     ensures pieces { result.pieces.now ≡ pieces_of s.now }
 {
-    let text_len = number_at(s, 0) as usize;
-    let events_at = 4 + text_len + 4;
-    let events_len = number_at(s, events_at - 4) as usize;
-    let rooms_at = events_at + events_len;
-    let code = number_at(s, rooms_at + 8);
-    let records_at = rooms_at + 24;
-    let records_len = 4 * number_at(s, rooms_at + 20) as usize;
-    let pieces_at = records_at + records_len + 4;
-    let pieces_len = 4 * number_at(s, pieces_at - 4) as usize;
+    let mut case = Reader { rest: s };
+    let text = case.part(1);
+    let events = case.part(1);
+    let rooms = Rooms {
+        records: case.number() as usize,
+        pieces: case.number() as usize,
+    };
+    let returned = Returned {
+        code: case.number(),
+        first: case.number() as usize,
+        second: case.number() as usize,
+    };
     Case {
-        text: bytes_at(s, 4, text_len),
-        events: bytes_at(s, events_at, events_len),
-        rooms: Rooms {
-            records: number_at(s, rooms_at) as usize,
-            pieces: number_at(s, rooms_at + 4) as usize,
-        },
-        returned: (code != PANICKED).then_some(Returned {
-            code,
-            first: number_at(s, rooms_at + 12) as usize,
-            second: number_at(s, rooms_at + 16) as usize,
-        }),
-        records: bytes_at(s, records_at, records_len),
-        pieces: bytes_at(s, pieces_at, pieces_len),
+        text,
+        events,
+        rooms,
+        returned: (returned.code != PANICKED).then_some(returned),
+        records: case.part(NUMBER_BYTES),
+        pieces: case.part(NUMBER_BYTES),
     }
 }
 
@@ -90,14 +126,13 @@ pub fn case_of(s: &[u8]) -> Case<'_>
 pub fn same_numbers(buffer: &[u32], list: &[u8]) -> bool
     ensures { result ≡ same_numbers buffer.now list.now }
 {
-    let mut rest = list;
+    let mut list = Reader { rest: list };
     for &n in buffer {
-        if n != number_at(rest, 0) {
+        if n != list.number() {
             return false;
         }
-        rest = rest.get(4..).unwrap_or(&[]);
     }
-    rest.is_empty()
+    list.rest.is_empty()
 }
 
 // How many numbers a program has room for, of records and of pieces.
@@ -108,4 +143,28 @@ pub fn numbers() -> [u32; ROOM]
     ensures { 4096 ≡ length result }
 {
     [7; ROOM]
+}
+
+// What is answered over a buffer of so many numbers; none where there is no room for so many.
+pub fn in_room<F: FnOnce(&mut [u32]) -> bool>(size: usize, answer: F) -> Option<bool>
+    requires { F.IsAlwaysCallable answer }
+    ensures { MatchOption result (4096 < size) (λ r. (lent : _) × (left : _) × (length lent.now ≡ size) × F.post answer lent r left) }
+{
+    let mut numbers = numbers();
+    let lent = numbers.get_mut(..size)?;
+    Some(answer(lent))
+}
+
+// The same over two buffers, of records and of pieces.
+pub fn in_rooms<F: FnOnce(&mut [u32], &mut [u32]) -> bool>(rooms: Rooms, answer: F) -> Option<bool>
+    requires { F.IsAlwaysCallable answer }
+    ensures { MatchOption result ((4096 < rooms.records) ⊎ (4096 < rooms.pieces))
+        (λ r. (records : _) × (pieces : _) × (left : _) × (pieces_left : _) × (length records.now ≡ rooms.records)
+        × (length pieces.now ≡ rooms.pieces) × F.post answer records pieces r left pieces_left) }
+{
+    let mut records = numbers();
+    let mut pieces = numbers();
+    let records = records.get_mut(..rooms.records)?;
+    let pieces = pieces.get_mut(..rooms.pieces)?;
+    Some(answer(records, pieces))
 }

@@ -4,6 +4,7 @@
 
 pub mod case;
 pub mod list;
+pub mod record;
 pub mod stream;
 pub mod tally;
 

@@ -6,8 +6,8 @@ use std::io;
 // The largest case that there is room for, in bytes.
 const SPACE: usize = 65536;
 
-// Judges every case of the list on standard input, and prints how many came to what. A loop over what is left: `fewer_left` says by that count
-// that a run ends.
+// Judges every case of the list on standard input, and prints how many came to what: that is all it does, so that there is nothing to
+// promise. A loop over what is left: `fewer_left` says by that count that a run ends.
 pub fn run<R: Input + Print, F: Fn(&[u8]) -> Verdict>(rt: &R, verdict: F) -> io::Result<()>
     requires { F.IsAlwaysCallable verdict }
 {

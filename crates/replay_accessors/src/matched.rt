@@ -4,8 +4,8 @@ ghost use Rattle.std.specs.Prelude.{◌≡◌, List, ℕ, Option, Some, None, op
 ghost use Rattle.replay_accessors.specs.Matched.{match_number, matched_whole, match_all, flag_numbers, count_numbers, span_numbers, tag_numbers, piece_numbers, record_numbers, match_record, match_place, match_entry};
 
 use node::entry::YamlHashEntry;
-use records::record::{Extent, Node, PieceList, TagInfo, record_numbers};
-use replay::case::number_at;
+use records::record::{Extent, Node, PieceList, RECORD_WIDTH, TagInfo};
+use replay::case::{NUMBER_BYTES, number_at};
 use std::marker::Model;
 
 // A list that is matched from its start on.
@@ -42,7 +42,9 @@ impl<'a> Matcher<'a> {
         ensures { self.new ≡ match_number self.old x }
     {
         self.rest = match self.rest {
-            Some(rest) if 4 <= rest.len() && number_at(rest, 0) == x => Some(&rest[4..]),
+            Some(rest) if NUMBER_BYTES <= rest.len() && number_at(rest, 0) == x => {
+                Some(&rest[NUMBER_BYTES..])
+            }
             _ => None,
         };
     }
@@ -81,6 +83,8 @@ impl<'a> Matcher<'a> {
         });
     }
 
+    // This and the answers below of one shape are written out: by one function over `Option<[u32; N]>` each needs an answer for its
+    // closure.
     pub fn count(&mut self, answer: Option<u32>)
         ensures { self.new ≡ match_all self.old (count_numbers answer) }
     {
@@ -157,8 +161,9 @@ impl<'a> Matcher<'a> {
     {
         match answer {
             Some(x) => {
+                let numbers: [u32; RECORD_WIDTH] = x.into();
                 self.number(SOME);
-                self.numbers(&record_numbers(x));
+                self.numbers(&numbers);
             }
             None => self.number(NONE),
         }

@@ -1,4 +1,7 @@
 // All that is asked about one record, in the order of the oracle.
+//
+// Most questions need the records alone, and `replay_damaged` asks with nothing else: they are functions of these. Only those that ask for
+// keys are methods of a `Subject`.
 ghost use Rattle.std.specs.Prelude.{◌≡◌, false, unwrap_or};
 ghost use Rattle.node.specs.Kind.{len_at, is_hash_at};
 ghost use Rattle.replay_accessors.specs.Matched.{match_all};

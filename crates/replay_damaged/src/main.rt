@@ -6,14 +6,11 @@
 use node::child::{child_before, child_from_last, record_before};
 use node::entry::pair_ending;
 use records::record::RECORD_WIDTH;
-use replay::case::{Case, case_of, number_at, numbers};
+use replay::case::{Case, NUMBER_BYTES, case_of, in_room, number_at};
 use replay::tally::{Verdict, verdict_of};
 use replay_accessors::matched::Matcher;
 use replay_accessors::questions::{Subject, at_index};
 use std::io;
-
-// The bytes of a number.
-const NUMBER_BYTES: usize = 4;
 
 // How far from the last child, or from the count of children, is asked.
 const LIMIT: usize = 3;
@@ -61,9 +58,11 @@ fn same_in(case: Case<'_>, records: &mut [u32]) -> bool {
 
 fn verdict(bytes: &[u8]) -> Verdict {
     let case = case_of(bytes);
-    let mut records = numbers();
-    let room = records.get_mut(..case.text.len() / NUMBER_BYTES);
-    verdict_of(case, room.map(|records| same_in(case, records)))
+    let same = in_room(
+        case.text.len() / NUMBER_BYTES,
+        |records| same_in(case, records),
+    );
+    verdict_of(case, same)
 }
 
 fn main(rt: HostRuntime) -> io::Result<()> {

@@ -3,20 +3,20 @@
 #![tactic(auto)]
 
 use event::read::read_event;
+use parser::answer::Refusal;
 use replay::case::case_of;
 use replay::tally::{Verdict, judged};
 use std::io;
 
-const MALFORMED: u32 = 3;
-
 fn verdict(bytes: &[u8]) -> Verdict {
     let case = case_of(bytes);
-    let refused = case.returned.filter(|returned| returned.code == MALFORMED);
+    let malformed = u32::from(Refusal::Malformed);
+    let refused = case.returned.filter(|returned| returned.code == malformed);
     if case.events.is_empty() {
         return judged(refused.is_none());
     }
-    let malformed = read_event(case.events, 0).is_err();
-    judged(malformed == refused.is_some_and(|returned| returned.first == 0))
+    let sound = read_event(case.events, 0).is_ok();
+    judged(sound != refused.is_some_and(|returned| returned.first == 0))
 }
 
 fn main(rt: HostRuntime) -> io::Result<()> {

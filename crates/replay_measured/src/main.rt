@@ -4,7 +4,7 @@
 #![tactic(auto)]
 
 use parser::one::scalar;
-use replay::case::{Case, case_of, number_at, numbers};
+use replay::case::{Case, NUMBER_BYTES, case_of, in_room, number_at};
 use replay::tally::{Verdict, verdict_of};
 use std::io;
 
@@ -18,9 +18,6 @@ const STYLE_AT: usize = 11;
 const EMPTY_SPAN_AT: usize = 12;
 
 const VALUE_AT: usize = 14;
-
-// The bytes of the record.
-const RECORD_BYTES: usize = 4;
 
 // Reads the scalar of a case in this buffer, and compares the refusal and the flag.
 fn read_the_same(case: Case<'_>, pieces: &mut [u32]) -> bool {
@@ -38,16 +35,15 @@ fn read_the_same(case: Case<'_>, pieces: &mut [u32]) -> bool {
         Ok(built) => (0, built.measured),
         Err(refusal) => (u32::from(refusal), false),
     };
-    case.records.len() == RECORD_BYTES
+    case.records.len() == NUMBER_BYTES
         && case.returned.is_some_and(|returned| returned.code == code)
         && number_at(case.records, 0) == u32::from(measured)
 }
 
 fn verdict(bytes: &[u8]) -> Verdict {
     let case = case_of(bytes);
-    let mut pieces = numbers();
-    let room = pieces.get_mut(..case.rooms.pieces);
-    verdict_of(case, room.map(|pieces| read_the_same(case, pieces)))
+    let same = in_room(case.rooms.pieces, |pieces| read_the_same(case, pieces));
+    verdict_of(case, same)
 }
 
 fn main(rt: HostRuntime) -> io::Result<()> {

@@ -4,25 +4,24 @@
 use event::read::{Event, read_event};
 use measure::scalar::scalar_len;
 use replay::case::{Case, bytes_at, case_of, number_at};
+use replay::record::{END_AT, START_AT};
 use replay::tally::{Verdict, verdict_of};
 use std::io;
 use utf8::utf8::Utf8Bytes;
 
-// Where a record's span stands, in bytes.
-const START_AT: usize = 4;
-
-const END_AT: usize = 8;
-
 // Whether the first event is a scalar whose span is the record's. A start that the text does not have has no length.
 fn same_span(case: Case<'_>) -> bool {
     let Ok(
-        Event::Scalar {
-            column,
-            style,
-            empty_span,
-            value,
-            ..
-        },
+        (
+            Event::Scalar {
+                column,
+                style,
+                empty_span,
+                value,
+                ..
+            },
+            _,
+        ),
     ) = read_event(case.events, 0)
     else {
         return false;

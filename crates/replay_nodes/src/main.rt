@@ -2,28 +2,19 @@
 // every record and the one past the last. The records of the case are the answers, its pieces are the keys to ask for.
 #![tactic(auto)]
 
-use node::child::{child_before, child_from_last, last_child, record_before};
+use node::child::{child_before, child_count, child_from_last, last_child, record_before};
 use node::entry::pair_ending;
+use node::record::get_record;
 use parser::answer::{Built, Refused};
 use parser::build::build;
-use replay::case::{Case, Returned, case_of, numbers};
+use replay::case::{Case, Returned, case_of, in_rooms};
 use replay::tally::{Verdict, verdict_of};
 use replay_accessors::matched::Matcher;
-use replay_accessors::questions::{Subject, is_hash_there, len_or_zero};
+use replay_accessors::questions::{Subject, is_hash_there};
 use std::io;
 
-// All children of a collection are asked for by index.
-const NO_LIMIT: usize = usize::MAX;
-
-// How many children a record has: two for each pair of a hash.
-fn children(records: &[u32], n: usize) -> usize {
-    let count = len_or_zero(records, n);
-    if is_hash_there(records, n) {
-        count.saturating_mul(2)
-    } else {
-        count
-    }
-}
+// How many children of a collection are asked for by index: a limit as any other, which no count of them reaches.
+const LIMIT: usize = usize::MAX;
 
 // Child `child` of `n`, with `after` children after it: asked by that number too, and a value for its pair.
 fn same_child(records: &[u32], n: usize, child: Option<usize>, after: usize, m: &mut Matcher<'_>) {
@@ -41,7 +32,8 @@ fn same_child(records: &[u32], n: usize, child: Option<usize>, after: usize, m: 
 // The children of `n` from the last to the first.
 fn same_children(records: &[u32], n: usize, m: &mut Matcher<'_>) {
     let mut child = last_child(records, n);
-    for after in 0..children(records, n) {
+    let count = get_record(records, n).map_or(0, child_count);
+    for after in 0..count {
         same_child(records, n, child, after, m);
         child = child.and_then(|c| child_before(records, c));
     }
@@ -52,13 +44,13 @@ fn read_the_same(subject: Subject<'_>, nodes: usize, list: &[u8]) -> bool {
     let mut m = Matcher::new(list);
     m.place(record_before(subject.records, nodes));
     for n in 0..=nodes {
-        subject.about(n, NO_LIMIT, &mut m);
+        subject.about(n, LIMIT, &mut m);
         same_children(subject.records, n, &mut m);
     }
     m.is_whole()
 }
 
-// Builds the document of a case in these buffers and reads it. What is returned is written as in replay_trees: a crate between would be
+// Builds the document of a case in these buffers and reads it. What is returned is written as in `replay_trees`: a crate between would be
 // no plainer.
 fn built_the_same(case: Case<'_>, records: &mut [u32], pieces: &mut [u32]) -> bool {
     match build(case.text, case.events, records, pieces) {
@@ -88,15 +80,9 @@ fn built_the_same(case: Case<'_>, records: &mut [u32], pieces: &mut [u32]) -> bo
 
 fn verdict(bytes: &[u8]) -> Verdict {
     let case = case_of(bytes);
-    let mut records = numbers();
-    let mut pieces = numbers();
-    let same = match (
-        records.get_mut(..case.rooms.records),
-        pieces.get_mut(..case.rooms.pieces),
-    ) {
-        (Some(records), Some(pieces)) => Some(built_the_same(case, records, pieces)),
-        _ => None,
-    };
+    let same = in_rooms(case.rooms, |records, pieces| {
+        built_the_same(case, records, pieces)
+    });
     verdict_of(case, same)
 }
 

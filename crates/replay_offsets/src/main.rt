@@ -3,6 +3,7 @@
 #![tactic(auto)]
 
 use replay::case::{Case, case_of, number_at};
+use replay::record::{RECORD_BYTES, START_AT};
 use replay::tally::{Verdict, judged};
 use std::io;
 use text::admission::{Text, admit_text};
@@ -17,11 +18,6 @@ const MARKER_AT: usize = 3;
 
 const END_BYTES: usize = 7;
 
-// A record's bytes, and where its span start stands. The sequence's record is the last.
-const RECORD_BYTES: usize = 48;
-
-const SPAN_START_AT: usize = 4;
-
 // Whether the offsets of the aliases' markers are the span starts of the records.
 fn same_offsets(text: Text<'_>, aliases: &[u8], records: &[u8]) -> bool {
     let mut cursor = START;
@@ -31,14 +27,14 @@ fn same_offsets(text: Text<'_>, aliases: &[u8], records: &[u8]) -> bool {
     {
         let marker = number_at(alias, MARKER_AT) as usize;
         cursor = text.byte_offset_of_char(cursor, marker);
-        if cursor.offset != number_at(record, SPAN_START_AT) as usize {
+        if cursor.offset != number_at(record, START_AT) as usize {
             return false;
         }
     }
     true
 }
 
-// Whether a case has a record for each alias and one for the sequence, and the aliases' are the same.
+// Whether a case has a record for each alias and then one for the sequence, and the aliases' are the same.
 fn same(case: Case<'_>) -> bool {
     let Ok(text) = admit_text(case.text) else {
         return false;

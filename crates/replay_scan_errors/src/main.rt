@@ -4,17 +4,15 @@
 
 use node::marker::scan_error;
 use parser::answer::Refusal;
-use replay::case::{Case, case_of, number_at};
+use replay::case::{Case, NUMBER_BYTES, case_of, number_at};
 use replay::tally::{Verdict, judged};
 use replay_accessors::matched::Matcher;
 use std::io;
 
-const INDEX_BYTES: usize = 4;
-
 // Whether the error at every index is where the list says, or the refusal is the one that the case says.
 fn same_errors(case: Case<'_>) -> bool {
     let mut m = Matcher::new(case.records);
-    for index in case.events.chunks(INDEX_BYTES) {
+    for index in case.events.chunks(NUMBER_BYTES) {
         let code = match scan_error(case.text, number_at(index, 0)) {
             Ok(span) => {
                 m.numbers(&[span.start, span.end]);

@@ -4,25 +4,24 @@
 use event::read::{Event, read_event};
 use event::string::Part;
 use replay::case::{Case, bytes_at, case_of, number_at};
+use replay::record::{KIND_AT, PAYLOAD_AT};
 use replay::tally::{Verdict, judged};
 use schema::record::{kind_number, payload_of};
 use schema::tag::{Tag, resolve_scalar};
 use std::io;
 
-// Where a record's kind and its two payload numbers stand, in bytes.
-const KIND_AT: usize = 0;
-
-const PAYLOAD_AT: usize = 40;
-
 // Whether the first event is a scalar, and the record has the kind and the payload of what it is.
 fn same_scalar(case: Case<'_>) -> bool {
     let Ok(
-        Event::Scalar {
-            style,
-            tag,
-            value,
-            ..
-        },
+        (
+            Event::Scalar {
+                style,
+                tag,
+                value,
+                ..
+            },
+            _,
+        ),
     ) = read_event(case.events, 0)
     else {
         return false;

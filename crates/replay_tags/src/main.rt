@@ -1,27 +1,18 @@
 // Replays the original's tag spans: each record with a tag has the tag's span and the suffix's length.
 #![tactic(auto)]
 
+use records::record::ABSENT;
 use replay::case::{case_of, number_at};
+use replay::record::{RECORD_BYTES, START_AT, SUFFIX_LEN_AT, TAG_AT};
 use replay::tally::{Verdict, judged};
 use std::io;
 use tag::property::{TagSpan, make_tag_info};
 use utf8::utf8::{Place, Utf8Bytes, is_boundary};
 
-// A record's bytes, and where its span start, its tag span and the length of its tag's suffix stand in them.
-const RECORD_BYTES: usize = 48;
-
-const START_AT: usize = 4;
-
-const TAG_AT: usize = 12;
-
-const SUFFIX_LEN_AT: usize = 24;
-
-const NO_TAG: u32 = 0xffff_ffff;
-
 // Whether the tag of a record, if it has one, is found, or guessed, where the record says.
 fn same_tag(text: Utf8Bytes<'_>, record: &[u8]) -> bool {
     let tag_start = number_at(record, TAG_AT);
-    if tag_start == NO_TAG {
+    if tag_start == ABSENT {
         return true;
     }
     let at = number_at(record, START_AT) as usize;

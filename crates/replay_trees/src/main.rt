@@ -3,12 +3,11 @@
 
 use parser::answer::{Built, Refused};
 use parser::build::build;
-use replay::case::{Case, Returned, case_of, numbers, same_numbers};
+use replay::case::{Case, Returned, case_of, in_rooms, same_numbers};
 use replay::tally::{Verdict, verdict_of};
 use std::io;
 
-// What is returned, as a list says it. replay_nodes has the same: a crate between, for
-// these lines alone, would be no plainer.
+// What is returned, as a list says it. `replay_nodes` has the same: a crate between, for these lines alone, would be no plainer.
 fn returned(answer: Result<Built, Refused>) -> Returned {
     match answer {
         Ok(Built { nodes, pieces }) => Returned {
@@ -34,15 +33,10 @@ fn built_the_same(case: Case<'_>, records: &mut [u32], pieces: &mut [u32]) -> bo
 
 fn verdict(bytes: &[u8]) -> Verdict {
     let case = case_of(bytes);
-    let mut records = numbers();
-    let mut pieces = numbers();
-    let (Some(records), Some(pieces)) = (
-        records.get_mut(..case.rooms.records),
-        pieces.get_mut(..case.rooms.pieces),
-    ) else {
-        return verdict_of(case, None);
-    };
-    verdict_of(case, Some(built_the_same(case, records, pieces)))
+    let same = in_rooms(case.rooms, |records, pieces| {
+        built_the_same(case, records, pieces)
+    });
+    verdict_of(case, same)
 }
 
 fn main(rt: HostRuntime) -> io::Result<()> {

@@ -5,23 +5,13 @@
 use event::read::{Event, read_event};
 use parser::one::scalar;
 use records::record::{Extent, Node, PieceList};
-use replay::case::{Case, bytes_at, case_of, number_at, numbers, same_numbers};
+use replay::case::{Case, bytes_at, case_of, in_room, number_at, same_numbers};
+use replay::record::{END_AT, FIRST_PIECE_AT, KIND_AT, PIECE_COUNT_AT, START_AT};
 use replay::tally::{Verdict, verdict_of};
 use std::io;
 
-// Where numbers of a record stand, in bytes. The payload of a real or a string names its place in the event bytes, which this call
-// does not have, and is left to `replay_schema`.
-const KIND_AT: usize = 0;
-
-const START_AT: usize = 4;
-
-const END_AT: usize = 8;
-
-const FIRST_PIECE_AT: usize = 32;
-
-const PIECE_COUNT_AT: usize = 36;
-
-// Whether a node has the kind, the span and the list of a record.
+// Whether a node has the kind, the span and the list of a record. The payload of a real or a string names its place in the event bytes,
+// which this call does not have, and is left to `replay_schema`.
 fn same_node(node: Node, record: &[u8]) -> bool {
     let extent = Extent {
         start: number_at(record, START_AT),
@@ -40,14 +30,17 @@ fn read_the_same(case: Case<'_>, pieces: &mut [u32]) -> bool {
         return false;
     };
     let Ok(
-        Event::Scalar {
-            index,
-            column,
-            style,
-            empty_span,
-            value,
-            ..
-        },
+        (
+            Event::Scalar {
+                index,
+                column,
+                style,
+                empty_span,
+                value,
+                ..
+            },
+            _,
+        ),
     ) = read_event(case.events, 0)
     else {
         return false;
@@ -67,9 +60,8 @@ fn read_the_same(case: Case<'_>, pieces: &mut [u32]) -> bool {
 
 fn verdict(bytes: &[u8]) -> Verdict {
     let case = case_of(bytes);
-    let mut pieces = numbers();
-    let room = pieces.get_mut(..case.rooms.pieces);
-    verdict_of(case, room.map(|pieces| read_the_same(case, pieces)))
+    let same = in_room(case.rooms.pieces, |pieces| read_the_same(case, pieces));
+    verdict_of(case, same)
 }
 
 fn main(rt: HostRuntime) -> io::Result<()> {

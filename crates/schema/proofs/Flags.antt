@@ -22,12 +22,14 @@ use Rattle.schema.specs.Integer.{ten, eight, sixteen}
 use Rattle.schema.specs.Standard.{Kind, null, bool, int, float, Row, table, reads, first_match}
 use Rattle.schema.specs.Kinds.{rows_of}
 use Rattle.schema.specs.Form.{form_for, form_of}
-use Rattle.schema.specs.Automaton.{expressions, all_rows, texts, state_count, start_state, dead_state, states, awaits, accepted, flags, letter_form, Tables, begins_no_row}
+use Rattle.schema.specs.Automaton.{expressions, all_rows, texts, state_count, start_state, dead_state, states, awaits, accepted, flags}
+use Rattle.schema.specs.Automaton.{Tables, begins_no_row}
 use Rattle.schema.specs.declared.form.Form.{Form}
 use Rattle.schema.specs.declared.form.Form.TheVariants.{Null, True, False, Decimal, Octal, Hexadecimal, Float, Other}
 use Rattle.schema.proofs.Bools.{is_true, implies, implied}
 use Rattle.schema.proofs.Lists.{every, every_at, pairwise, pairwise-length, pairwise_at}
-use Rattle.schema.proofs.Automaton.{same_rows, same_rows_is, state_count_lem, SymbolsRight, NextRight, line_count, symbol_from, symbol_low, entry_from, state_low, derives, moved}
+use Rattle.schema.proofs.Automaton.{same_rows, same_rows_is, state_count_lem, SymbolsRight, NextRight}
+use Rattle.schema.proofs.Automaton.{line_count, symbol_from, symbol_low, entry_from, state_low, derives, moved}
 
 -- ---- a step of a run
 accepted_cons : (b : ℕ) (s : List ℕ) (rs : List Regex) → accepted rs (b ∷ s) ≡ accepted (map (derivative b) rs) s
@@ -136,62 +138,65 @@ pub form_is : (s : List ℕ) → form_of s ≡ form_at (flags s)
 unfolding form_of table
 form_is s = form_by_lem any_kind s
 
--- ---- the letter of a form
-abbrev pub letter_of : Form → ℕ
-letter_of Null = 110
-letter_of True = 116
-letter_of False = 102
-letter_of Decimal = 100
-letter_of Octal = 111
-letter_of Hexadecimal = 120
-letter_of Float = 114
-letter_of Other = 46
+-- ---- forms that are the same
+abbrev pub place_of : Form → ℕ
+place_of Null = 0
+place_of True = 1
+place_of False = 2
+place_of Decimal = 3
+place_of Octal = 4
+place_of Hexadecimal = 5
+place_of Float = 6
+place_of Other = 7
 
-letter_form_lem : (f : Form) → letter_form (letter_of f) ≡ f
-letter_form_lem Null = refl
-letter_form_lem True = refl
-letter_form_lem False = refl
-letter_form_lem Decimal = refl
-letter_form_lem Octal = refl
-letter_form_lem Hexadecimal = refl
-letter_form_lem Float = refl
-letter_form_lem Other = refl
+abbrev form_placed : ℕ → Form
+form_placed k = get_or (Null ∷ True ∷ False ∷ Decimal ∷ Octal ∷ Hexadecimal ∷ Float ∷ []) k Other
+
+placed_lem : (f : Form) → form_placed (place_of f) ≡ f
+placed_lem Null = refl
+placed_lem True = refl
+placed_lem False = refl
+placed_lem Decimal = refl
+placed_lem Octal = refl
+placed_lem Hexadecimal = refl
+placed_lem Float = refl
+placed_lem Other = refl
 
 abbrev pub same_form : Form → Form → Bool
-same_form f g = eqb (letter_of f) (letter_of g)
+same_form f g = eqb (place_of f) (place_of g)
 
 pub same_form_lem : (f g : Form) → same_form f g ≡ true → f ≡ g
-same_form_lem f g e = sym (letter_form_lem f) ∙ ap letter_form (eqb-true (letter_of f) (letter_of g) e) ∙ letter_form_lem g
+same_form_lem f g e = sym (placed_lem f) ∙ ap form_placed (eqb-true (place_of f) (place_of g) e) ∙ placed_lem g
 
--- the code's letters: each is that of the form of its state
-abbrev pub FormsRight : List ℕ → Type 0
-FormsRight forms = pairwise (λ rs x. eqb x (letter_of (form_at (map nullable rs)))) states forms ≡ true
+-- the code's forms: each is that of its state
+abbrev pub form_right : List Regex → Form → Bool
+form_right rs f = same_form f (form_at (map nullable rs))
 
--- the form of a scalar that ends in a state, by the state's letter
-letter_tells : (forms : List ℕ) → FormsRight forms → (q : ℕ) (s : List ℕ) → q < state_count → accepted (awaits q) [] ≡ flags s
-    → letter_form (get_or forms q 0) ≡ form_of s
+abbrev pub FormsRight : List Form → Type 0
+FormsRight forms = pairwise form_right states forms ≡ true
+
+-- the form of a scalar that ends in a state
+form_tells : (forms : List Form) → FormsRight forms → (q : ℕ) (s : List ℕ) → q < state_count → accepted (awaits q) [] ≡ flags s
+    → get_or forms q Null ≡ form_of s
 unfolding flags_at awaits
-letter_tells forms t q s l e =
-    let h = pairwise_at (λ (rs : List Regex) (x : ℕ). eqb x (letter_of (form_at (map nullable rs)))) [] 0 states forms t q (rw state_count_lem l) in
-    ap letter_form (eqb-true (get_or forms q 0) (letter_of (form_at (flags_at q))) h)
-    ∙ letter_form_lem (form_at (flags_at q))
-    ∙ ap form_at (sym (ended q) ∙ e)
-    ∙ sym (form_is s)
+form_tells forms t q s l e =
+    let h = pairwise_at form_right [] Null states forms t q (rw state_count_lem l) in
+    same_form_lem (get_or forms q Null) (form_at (flags_at q)) h ∙ ap form_at (sym (ended q) ∙ e) ∙ sym (form_is s)
 
 -- tables that pass the three tests
-pub tables : (symbols : List ℕ) (next : List (List ℕ)) (forms : List ℕ) → length symbols ≡ 256 → SymbolsRight symbols → NextRight next → FormsRight forms
-    → Tables symbols next forms
+pub tables : (symbols : List ℕ) (next : List (List ℕ)) (forms : List Form)
+    → length symbols ≡ 256 → SymbolsRight symbols → NextRight next → FormsRight forms → Tables symbols next forms
 tables symbols next forms count s n t =
     record {
       symbol_count = count;
       line_count = line_count symbols next count s n;
-      form_count = sym (pairwise-length (λ (rs : List Regex) (x : ℕ). eqb x (letter_of (form_at (map nullable rs)))) states forms t) ∙ state_count_lem;
+      form_count = sym (pairwise-length form_right states forms t) ∙ state_count_lem;
       symbol_from = symbol_from symbols next count s n;
       symbol_low = symbol_low symbols next count s n;
       entry_from = λ q b l h. entry_from symbols next count s n b h q l;
       state_low = λ q b l h. state_low symbols next count s n b h q l;
       derives = λ q b l h. derives symbols next count s n b h q l;
-      letter_tells = letter_tells forms t;
+      form_tells = form_tells forms t;
     }
 
 -- ---- the state that awaits nothing
@@ -205,7 +210,10 @@ unfolding awaits table texts form_by derivative nullable
 nothing_left s t e = sym (form_is t ∙ ap form_at (sym e) ∙ rw none-accepts refl)
 
 -- letters that no row begins with lead there
-letters_stop : T (all 256 (λ b. implies (begins_no_row b) (same_rows (awaits dead_state) (map (derivative b) all_rows))))
+abbrev stops : ℕ → Bool
+stops b = implies (begins_no_row b) (same_rows (awaits dead_state) (map (derivative b) all_rows))
+
+letters_stop : T (all 256 stops)
 unfolding begins_no_row awaits table texts derivative nullable ℕ_discrete
 letters_stop = tt
 
@@ -214,7 +222,7 @@ unfolding flags
 letter_stops [] b f e h = absurd (cc)
 letter_stops (c ∷ s) b f e h =
     let k : begins_no_row c ≡ true = cc in
-    let t = is_true (implies (begins_no_row c) _) (all_at 256 (λ b. implies (begins_no_row b) (same_rows (awaits dead_state) (map (derivative b) all_rows))) letters_stop c (f 0)) in
+    let t = is_true (stops c) (all_at 256 stops letters_stop c (f 0)) in
     let d = same_rows_is (awaits dead_state) (map (derivative c) all_rows) (implied (begins_no_row c) _ t k) in
     nothing_left s (c ∷ s) (sym (turn all_rows (awaits dead_state) c s d))
 

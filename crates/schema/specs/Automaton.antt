@@ -1,7 +1,7 @@
 -- How the code finds a scalar's form: by an automaton over its bytes. A state stands for what the rows of the table still
 -- await after some bytes; `texts` has one such text for each state. A step over a byte is then the rows' derivatives, which
 -- is what the code's tables are asked to be (`Tables`), and a scalar's form is told by the state in which it ends.
-use Rattle.std.specs.Prelude.{ℕ, ◌-◌, ◌≤◌, ◌<◌, ◌≡◌, Bool, ◌||◌, cond, List, [], ◌∷◌, ◌++◌, map, eqb, length, get_or}
+use Rattle.std.specs.Prelude.{ℕ, ◌-◌, ◌≤◌, ◌<◌, ◌≡◌, Bool, ◌||◌, List, [], ◌∷◌, ◌++◌, map, length, get_or}
 use Prim.Native.String.{String}
 use Rattle.utf8.specs.Class.{inside}
 use Rattle.utf8.specs.Ascii.{bytes}
@@ -11,7 +11,7 @@ use Rattle.schema.specs.Rows.{true_word}
 use Rattle.schema.specs.Standard.{Row, table}
 use Rattle.schema.specs.Form.{form_of}
 use Rattle.schema.specs.declared.form.Form.{Form}
-use Rattle.schema.specs.declared.form.Form.TheVariants.{Null, True, False, Decimal, Octal, Hexadecimal, Float, Other}
+use Rattle.schema.specs.declared.form.Form.TheVariants.{Null}
 
 abbrev pub expressions : List Row → List Regex
 expressions rs = map (λ r. r.expression) rs
@@ -62,20 +62,8 @@ symbol_of symbols b = get_or symbols b 0 - 46
 abbrev pub entry_at : List ℕ → List (List ℕ) → ℕ → ℕ → ℕ
 entry_at symbols next q b = get_or (get_or next q []) (symbol_of symbols b) 0
 
--- the form of a letter of the last table
-abbrev pub letter_form : ℕ → Form
-letter_form x =
-    cond (eqb x 110) Null
-    (cond (eqb x 116) True
-    (cond (eqb x 102) False
-    (cond (eqb x 100) Decimal
-    (cond (eqb x 111) Octal
-    (cond (eqb x 120) Hexadecimal
-    (cond (eqb x 114) Float
-    Other))))))
-
 -- what the code's tables are asked to be
-pub record Tables (symbols : List ℕ) (next : List (List ℕ)) (forms : List ℕ) : Type 0 where
+pub record Tables (symbols : List ℕ) (next : List (List ℕ)) (forms : List Form) : Type 0 where
   pub symbol_count : length symbols ≡ 256
   pub line_count : length next ≡ state_count
   pub form_count : length forms ≡ state_count
@@ -84,7 +72,9 @@ pub record Tables (symbols : List ℕ) (next : List (List ℕ)) (forms : List �
   pub entry_from : (q b : ℕ) → q < state_count → b < 256 → 44 ≤ entry_at symbols next q b
   pub state_low : (q b : ℕ) → q < state_count → b < 256 → entry_at symbols next q b - 44 < state_count
   pub derives : (q b : ℕ) → q < state_count → b < 256 → awaits (entry_at symbols next q b - 44) ≡ map (derivative b) (awaits q)
-  pub letter_tells : (q : ℕ) (s : List ℕ) → q < state_count → accepted (awaits q) [] ≡ flags s → letter_form (get_or forms q 0) ≡ form_of s
+  -- `Null` is what no place of the table would give; each state has a place
+  pub form_tells : (q : ℕ) (s : List ℕ) → q < state_count → accepted (awaits q) [] ≡ flags s
+      → get_or forms q Null ≡ form_of s
 
 -- a letter that no row begins with: any but f, n and t
 unfoldable pub begins_no_row : ℕ → Bool

@@ -1,7 +1,10 @@
 // Which form of the core schema's table a scalar has: one pass of an automaton over its bytes. (P2.)
 ghost use Rattle.std.specs.Prelude.{◌≡◌};
 ghost use Rattle.schema.specs.Form.{form_of};
-ghost use Rattle.schema.specs.Automaton.{Tables, letter_form, begins_no_row};
+ghost use Rattle.schema.specs.Automaton.{Tables, begins_no_row};
+
+// Names so short that `FORMS` has eight to a line.
+use Form::{Decimal, False, Float, Hexadecimal as Hex, Null, Octal, Other, True};
 
 // `Float` is a number with a point or an exponent, an infinity, or not a number.
 #[derive(Clone, Copy, Debug, PartialEq, Eq)]
@@ -94,8 +97,15 @@ const START: usize = 3;
 // The state that awaits nothing, the letter `.`.
 const DEAD: usize = 2;
 
-// The form of a scalar that ends in each state, by a letter.
-const FORMS: [u8; 48] = *b"...ndd.r..r.o.x....r....r......n......t........f";
+// The form of a scalar that ends in each state.
+const FORMS: [Form; 48] = [
+    Other, Other, Other, Null, Decimal, Decimal, Other, Float, // , - . / 0 1 2 3
+    Other, Other, Float, Other, Octal, Other, Hex, Other, // 4 5 6 7 8 9 : ;
+    Other, Other, Other, Float, Other, Other, Other, Other, // < = > ? @ A B C
+    Float, Other, Other, Other, Other, Other, Other, Null, // D E F G H I J K
+    Other, Other, Other, Other, Other, Other, True, Other, // L M N O P Q R S
+    Other, Other, Other, Other, Other, Other, Other, False, // T U V W X Y Z [
+];
 
 // Whether `b` is a letter that no row begins with: any but f, n and t.
 #[tactic(auto, unfolding(crate::specs::Automaton::begins_no_row))]
@@ -126,25 +136,9 @@ pub fn form_of(value: &[u8]) -> Form
     }
 }
 
-// The form that a letter of `FORMS` stands for.
-fn letter_form(letter: u8) -> Form
-    ensures { result ≡ letter_form letter }
-{
-    match letter {
-        b'n' => Form::Null,
-        b't' => Form::True,
-        b'f' => Form::False,
-        b'd' => Form::Decimal,
-        b'o' => Form::Octal,
-        b'x' => Form::Hexadecimal,
-        b'r' => Form::Float,
-        _ => Form::Other,
-    }
-}
-
 // The form of `value` by the automaton whose tables are `symbols`, `next` and `forms`, whatever they are: the proof of a turn needs them as
 // variables.
-fn run_automaton(value: &[u8], symbols: &[u8], next: &[[u8; 32]], forms: &[u8]) -> Form
+fn run_automaton(value: &[u8], symbols: &[u8], next: &[[u8; 32]], forms: &[Form]) -> Form
     requires { Tables symbols.now next.now forms.now }
     ensures { result ≡ form_of value.now }
 {
@@ -156,7 +150,7 @@ fn run_automaton(value: &[u8], symbols: &[u8], next: &[[u8; 32]], forms: &[u8]) 
             return Form::Other;
         }
     }
-    letter_form(forms[state])
+    forms[state]
 }
 
 // The same by the automaton with the tables above; that they are `Tables` is proved here, by one test of each.

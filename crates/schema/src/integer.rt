@@ -20,6 +20,7 @@ fn digit_value(b: u8) -> u8
 }
 
 // The negative of what the digits write in `base`, if 64 signed bits hold it.
+// Why `0 < base` and no type: each call writes 8, 10 or 16, and a `NonZeroU8` would be made there and taken apart here.
 fn gather(digits: &[u8], base: u8) -> Option<i64>
     requires { 0 < base }
     ensures { result ≡ held (neg_ℤ (pos (value_of base digits.now))) }
@@ -33,7 +34,7 @@ fn gather(digits: &[u8], base: u8) -> Option<i64>
     Some(sum)
 }
 
-// What the digits write in `base`, if 64 signed bits hold it.
+// What the digits write in `base`, if 64 signed bits hold it. (`0 < base`: as above.)
 fn positive(digits: &[u8], base: u8) -> Option<i64>
     requires { 0 < base }
     ensures { result ≡ held (pos (value_of base digits.now)) }

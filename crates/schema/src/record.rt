@@ -67,13 +67,13 @@ impl Resolved {
 }
 
 // A record's two payload numbers.
-#[derive(Clone, Copy, Debug, PartialEq, Eq)]
+#[derive(Clone, Copy, Debug, Default, PartialEq, Eq)]
 pub struct Payload {
     pub first: u32,
     pub second: u32,
 }
 
-// The record's kind: 1 null, 2 boolean, 3 integer, 4 real, 5 string, 6 bad value.
+// The number of the record's kind.
 pub fn kind_number(resolved: Resolved) -> u32
     ensures { result ≡ kind_number resolved }
 {
@@ -85,10 +85,7 @@ pub fn payload_of(resolved: Resolved, place: u32, len: u32) -> Payload
     ensures { result ≡ payload_of resolved place len }
 {
     match resolved {
-        Resolved::Null | Resolved::BadValue => Payload {
-            first: 0,
-            second: 0,
-        },
+        Resolved::Null | Resolved::BadValue => Payload::default(),
         Resolved::Boolean(truth) => Payload {
             first: u32::from(truth),
             second: 0,

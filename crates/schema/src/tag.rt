@@ -11,7 +11,8 @@ use style::Style;
 
 const STANDARD_TAG_HANDLE: &[u8] = b"tag:yaml.org,2002:";
 
-// Names of standard tags. They are compared one after another: a match on byte strings would split into single bytes.
+// Names of standard tags. They are compared one after another: a `match` is no plainer, since byte strings in it are told byte by byte in
+// the proof, an answer for each: 22 goals in the place of six.
 const BOOL: &[u8] = b"bool";
 
 const INT: &[u8] = b"int";

@@ -1,5 +1,6 @@
 -- Where spans start and end: at boundaries, within the text. And a scalar's pieces are those of the walk from document 01's first byte.
-use Rattle.std.specs.Prelude.{is_some, ◌≡◌, refl, Bool, true, false, ◌&&◌, not, cond, List, ℕ, ◌+◌, ◌-◌, ◌≤◌, ◌<◌, eqb, ltb, length, get_or, drop, Option, None, Some}
+use Rattle.std.specs.Prelude.{◌≡◌, refl, Bool, true, false, ◌&&◌, not, cond, ℕ, ◌+◌, ◌-◌, ◌≤◌, ◌<◌, eqb, List, length, get_or, drop}
+use Rattle.std.specs.Prelude.{Option, None, Some, IfSome, is_some, unwrap_or}
 use Rattle.std.proofs.Common.{sym, ◌∙◌, subst, arith, lt-ltb, eqb-true, length-drop, length-take, drop-cons, get_or-drop}
 use Rattle.std.proofs.Math.Path.{ap}
 use Rattle.std.proofs.Math.Decide.{dec_lt}
@@ -27,9 +28,13 @@ use Rattle.provenance.specs.Reading.{Piece}
 use Rattle.provenance.specs.Start.{list_from, scalar_list}
 use Rattle.provenance.specs.Alike.{reads_alike, past_span, pieces_end}
 use Rattle.provenance.proofs.Measured.{pieces_list, pieces_end_at}
-use Rattle.spans.specs.Scalar.{Mark, ScalarAt, step_past, colon, scalar_start, start_at, scalar_at, span_measure, span_len, list_at, walk_first, scalar_over, event_node}
-use Rattle.spans.specs.Collection.{open_brace, close_brace, close_bracket, collection_start, collection_end, collection_over, collection_node}
+use Rattle.spans.specs.Scalar.{Mark, ScalarAt, step_past, colon, scalar_start, start_at, scalar_at, span_measure, span_len, list_at, walk_first}
+use Rattle.spans.specs.Scalar.{scalar_over, event_node}
+use Rattle.spans.specs.Collection.{is_mapping, open_brace, close_brace, close_bracket}
+use Rattle.spans.specs.Collection.{collection_start, collection_end, collection_over, collection_node}
 use Rattle.spans.specs.Fits.{TagFits}
+use Rattle.spans.specs.declared.open.Collection.{Collection}
+use Rattle.spans.specs.declared.open.Collection.TheVariants.{Sequence, Mapping}
 use Rattle.spans.specs.declared.open.Open.{Open}
 
 -- ---- a step past a byte
@@ -64,7 +69,8 @@ step_boundary text c i u h l b = go (eqb (get_or text i 0) c) refl
 
 -- ---- starts
 
-pub offset_start : (text : List ℕ) → Utf8 text → (value : List ℕ) (style : ℕ) (awaited : Bool) (i : ℕ) → Boundary text i → Boundary text (scalar_start text i value style awaited)
+pub offset_start : (text : List ℕ) → Utf8 text → (value : List ℕ) (style : ℕ) (awaited : Bool) (i : ℕ) → Boundary text i
+    → Boundary text (scalar_start text i value style awaited)
 unfolding scalar_start
 offset_start text u value style awaited i b = go (awaited && (eqb style plain && eqb (length value) 0))
   where
@@ -72,12 +78,17 @@ offset_start text u value style awaited i b = go (awaited && (eqb style plain &&
     go true = step_boundary text colon i u (omega arith) (omega arith) b
     go false = b
 
-pub collection_start_boundary : (text : List ℕ) (o : Open) → Boundary text o.start → Boundary text o.first → Boundary text (collection_start text o)
+pub collection_start_boundary : (text : List ℕ) (o : Open) → Boundary text o.start → IfSome o.first (Boundary text)
+    → Boundary text (collection_start text o)
 unfolding collection_start
-collection_start_boundary text o a b = go (o.mapping && (ltb 0 o.children && not (eqb (get_or text o.start 0) open_brace)))
+collection_start_boundary text o a b = go (is_mapping o.collection && not (eqb (get_or text o.start 0) open_brace))
   where
-    go : (t : Bool) → Boundary text (cond t o.first o.start)
-    go true = b
+    first : (f : Option ℕ) → IfSome f (Boundary text) → Boundary text (unwrap_or f o.start)
+    first None h = a
+    first (Some i) h = h
+
+    go : (t : Bool) → Boundary text (cond t (unwrap_or o.first o.start) o.start)
+    go true = first o.first b
     go false = a
 
 -- ---- spans
@@ -86,22 +97,25 @@ pub span_within : (text : List ℕ) (x : ScalarAt) → x.start ≤ length text �
 unfolding span_measure scalar_measure
 span_within text x h = go (is_boundary text x.start)
   where
-    go : (t : Bool) → x.start + (cond t (scalar_measure (drop x.start text) x.value x.style x.empty_span x.column) (assumed 0)).len ≤ length text
+    go : (t : Bool)
+        → x.start + (cond t (scalar_measure (drop x.start text) x.value x.style x.empty_span x.column) (assumed 0)).len ≤ length text
     go true = let l : length (drop x.start text) ≡ length text - x.start = length-drop x.start text in omega arith
     go false = omega arith
 
-pub end_within : (text : List ℕ) (mapping : Bool) (i : ℕ) → i ≤ length text → collection_end text mapping i ≤ length text
+pub end_within : (text : List ℕ) (collection : Collection) (i : ℕ) → i ≤ length text → collection_end text collection i ≤ length text
 unfolding collection_end
-end_within text true i h = step_within text close_brace i (omega arith) h
-end_within text false i h = step_within text close_bracket i (omega arith) h
+end_within text Sequence i h = step_within text close_bracket i (omega arith) h
+end_within text Mapping i h = step_within text close_brace i (omega arith) h
 
 -- ---- the starts of records
 
-pub collection_node_boundary : (text : List ℕ) (o : Open) (i n : ℕ) → Boundary text o.start → Boundary text o.first → Boundary text (collection_node text o i n).extent.start
+pub collection_node_boundary : (text : List ℕ) (o : Open) (i n : ℕ) → Boundary text o.start → IfSome o.first (Boundary text)
+    → Boundary text (collection_node text o i n).extent.start
 unfolding collection_node collection_over
 collection_node_boundary text o i n a b = collection_start_boundary text o a b
 
-pub event_node_boundary : (text events : List ℕ) (x : ScalarAt) (tag : Option YamlTag) → Boundary text x.start → Boundary text (event_node text events x tag).extent.start
+pub event_node_boundary : (text events : List ℕ) (x : ScalarAt) (tag : Option YamlTag) → Boundary text x.start
+    → Boundary text (event_node text events x tag).extent.start
 unfolding event_node scalar_over
 event_node_boundary text events x tag on = on
 
@@ -137,7 +151,8 @@ module _ (text : List ℕ) (utf8 : Utf8 text) (awaited : Bool) (m : Mark) (value
   start_boundary = offset_start text utf8 value m.style awaited (byte_offset text m.index) (offset_boundary utf8 m.index)
 
   -- the pieces are those of the walk from document 01's first byte on
-  pub pieces_are : (place : ℕ) → list_at text (scalar_at text awaited m value place) ≡ list_from (rules_of m.style m.column) text (walk_first text awaited m value) value
+  pub pieces_are : (place : ℕ)
+      → list_at text (scalar_at text awaited m value place) ≡ list_from (rules_of m.style m.column) text (walk_first text awaited m value) value
   unfolding scalar_list walk_first
   pieces_are place =
       let x = scalar_at text awaited m value place in
@@ -154,12 +169,14 @@ boundary_later {text} {i} {n} on b =
     let o = on.within in
     record { within = omega arith; edge = ap is_continuation (sym (get_or-drop i text n 0)) ∙ b.edge }
 
-module _ (text : List ℕ) (utf8 : Utf8 text) (x : ScalarAt) (on : Boundary text x.start) (measured : (span_measure text x).measured ≡ true) where
+module _ (text : List ℕ) (utf8 : Utf8 text) (x : ScalarAt) (on : Boundary text x.start)
+    (measured : (span_measure text x).measured ≡ true) where
   -- what is measured ends at a boundary of the text
   pub measured_ends : Boundary text (x.start + span_len text x)
   measured_ends =
       let is = span_from text x on in
-      let b = measured_boundary (boundary_splits utf8 on).back x.value x.style x.empty_span x.column (sym (ap (λ (k : Measure). k.measured) is) ∙ measured) in
+      let k = sym (ap (λ (k : Measure). k.measured) is) ∙ measured in
+      let b = measured_boundary (boundary_splits utf8 on).back x.value x.style x.empty_span x.column k in
       boundary_later on (subst (λ (k : Measure). Boundary (drop x.start text) k.len) (sym is) b)
 
   module _ (value_utf8 : Utf8 x.value) (is_plain : x.style ≡ plain) where
@@ -181,5 +198,6 @@ module _ (text : List ℕ) (utf8 : Utf8 text) (x : ScalarAt) (on : Boundary text
     measured_list = ap is_some list_is ∙ pieces_list x.column (span_len text x) utf8 on value_utf8 reaches_span
 
     -- and its pieces then end so far past its span
-    pub measured_pieces_end : (ps : List Piece) → list_at text x ≡ Some ps → pieces_end x.start ps ≡ x.start + (span_len text x + past_span (codes x.value) (codes rest))
+    pub measured_pieces_end : (ps : List Piece) → list_at text x ≡ Some ps
+        → pieces_end x.start ps ≡ x.start + (span_len text x + past_span (codes x.value) (codes rest))
     measured_pieces_end ps e = pieces_end_at x.column (span_len text x) utf8 on value_utf8 reaches_span ps (sym list_is ∙ e)

@@ -1,10 +1,17 @@
 -- Open collections, and the record of one that ends (E2, N2, S2, S3).
-use Rattle.std.specs.Prelude.{ℕ, ◌+◌, ◌-◌, ◌/◌, ◌%◌, Bool, false, ◌&&◌, not, cond, List, [], ◌∷◌, eqb, ltb, get_or}
+use Rattle.std.specs.Prelude.{ℕ, ◌+◌, ◌-◌, ◌/◌, ◌%◌, Bool, true, false, ◌&&◌, not, cond, List, [], ◌∷◌, eqb, get_or, Some, unwrap_or}
+use Rattle.std.specs.Option.{option_or}
 use Rattle.schema.specs.Record.{two_numbers}
 use Rattle.records.specs.Record.{extent, no_list}
 use Rattle.spans.specs.Scalar.{step_past, tag_info}
 use Rattle.records.specs.declared.record.Node.{Node}
+use Rattle.spans.specs.declared.open.Collection.{Collection}
+use Rattle.spans.specs.declared.open.Collection.TheVariants.{Sequence, Mapping}
 use Rattle.spans.specs.declared.open.Open.{Open}
+
+abbrev pub is_mapping : Collection → Bool
+is_mapping Sequence = false
+is_mapping Mapping = true
 
 -- ---- children
 
@@ -13,11 +20,11 @@ abbrev pub with_child : ℕ → List Open → List Open
 with_child i [] = []
 with_child i (o ∷ os) =
     record {
-      mapping = o.mapping;
+      collection = o.collection;
       start = o.start;
       suffix = o.suffix;
       children = o.children + 1;
-      first = cond (eqb o.children 0) i o.first;
+      first = option_or o.first (Some i);
       before = o.before;
     }
     ∷ os
@@ -25,11 +32,12 @@ with_child i (o ∷ os) =
 -- whether the next node is the value of the innermost mapping's last key
 abbrev pub awaits_value : List Open → Bool
 awaits_value [] = false
-awaits_value (o ∷ os) = o.mapping && eqb (o.children % 2) 1
+awaits_value (o ∷ os) = is_mapping o.collection && eqb (o.children % 2) 1
 
 -- whether an end of this kind ends the collection: it is of that kind, and no key is without its value (R4)
-unfoldable pub closes : Bool → Open → Bool
-closes mapping o = cond mapping (o.mapping && eqb (o.children % 2) 0) (not o.mapping)
+unfoldable pub closes : Collection → Open → Bool
+closes Sequence o = not (is_mapping o.collection)
+closes Mapping o = is_mapping o.collection && eqb (o.children % 2) 0
 
 -- ---- span
 
@@ -43,14 +51,18 @@ close_brace = 0x7d
 abbrev pub close_bracket : ℕ
 close_bracket = 0x5d
 
+abbrev pub closing_mark : Collection → ℕ
+closing_mark Sequence = close_bracket
+closing_mark Mapping = close_brace
+
 -- where the end's marker stands at byte i: plus 1 on the closing bracket (S2)
-unfoldable pub collection_end : List ℕ → Bool → ℕ → ℕ
-collection_end text mapping i = step_past text (cond mapping close_brace close_bracket) i
+unfoldable pub collection_end : List ℕ → Collection → ℕ → ℕ
+collection_end text collection i = step_past text (closing_mark collection) i
 
 -- a mapping not standing on `{` starts at its first key, if it has one (S3)
 unfoldable pub collection_start : List ℕ → Open → ℕ
 collection_start text o =
-    cond (o.mapping && (ltb 0 o.children && not (eqb (get_or text o.start 0) open_brace))) o.first o.start
+    cond (is_mapping o.collection && not (eqb (get_or text o.start 0) open_brace)) (unwrap_or o.first o.start) o.start
 
 -- ---- record
 
@@ -61,15 +73,19 @@ array = 7
 abbrev pub hash : ℕ
 hash = 8
 
+abbrev pub collection_kind : Collection → ℕ
+collection_kind Sequence = array
+collection_kind Mapping = hash
+
 -- children of an array, pairs of a hash
 unfoldable pub members : Open → ℕ
-members o = cond o.mapping (o.children / 2) o.children
+members o = cond (is_mapping o.collection) (o.children / 2) o.children
 
 -- the record of a collection that starts at byte s and ends at byte e, after n nodes; a negative length is 0 (S3)
 unfoldable pub collection_over : List ℕ → Open → ℕ → ℕ → ℕ → Node
 collection_over text o s e n =
     record {
-      kind = cond o.mapping hash array;
+      kind = collection_kind o.collection;
       extent = extent s (s + (e - s));
       tag = tag_info text s o.suffix;
       subtree = n - o.before + 1;
@@ -79,4 +95,4 @@ collection_over text o s e n =
 
 -- of one whose end's marker stands at byte i
 unfoldable pub collection_node : List ℕ → Open → ℕ → ℕ → Node
-collection_node text o i n = collection_over text o (collection_start text o) (collection_end text o.mapping i) n
+collection_node text o i n = collection_over text o (collection_start text o) (collection_end text o.collection i) n

@@ -1,5 +1,5 @@
 -- Worked starts, tags and collections, by computation.
-use Rattle.std.specs.Prelude.{ℕ, ◌≡◌, refl, Bool, true, false, [], ◌∷◌, Some, None}
+use Rattle.std.specs.Prelude.{ℕ, ◌≡◌, refl, true, false, [], ◌∷◌, Option, Some, None}
 use Rattle.text.specs.Offset.{byte_offset}
 use Rattle.utf8.specs.Utf8.{encode, encode_all}
 use Rattle.utf8.specs.Characters.{codes, chars_after, first_char, char_of, multi_byte, two_bytes}
@@ -13,31 +13,36 @@ use Rattle.records.specs.Record.{extent, no_tag, no_list}
 use Rattle.records.specs.declared.record.Node.{Node}
 use Rattle.spans.specs.Scalar.{mark, step_past, scalar_start, start_at, tag_info}
 use Rattle.spans.specs.Collection.{closes, array, hash, collection_end, collection_start, members, collection_over, collection_node}
+use Rattle.spans.specs.declared.open.Collection.{Collection}
+use Rattle.spans.specs.declared.open.Collection.TheVariants.{Sequence, Mapping}
 use Rattle.spans.specs.declared.open.Open.{Open}
 
--- a collection with its start's marker at byte i, after n children, of which the first starts at byte f
-abbrev opened : Bool → ℕ → ℕ → ℕ → Open
-opened mapping i n f = record { mapping = mapping; start = i; suffix = None; children = n; first = f; before = 0 }
+-- a collection with its start's marker at byte i, after n children, of which the first, if there is one, starts at byte f
+abbrev opened : Collection → ℕ → ℕ → Option ℕ → Open
+opened collection i n f = record { collection = collection; start = i; suffix = None; children = n; first = f; before = 0 }
 
 -- the record of one that ends after two children
 abbrev of_two : ℕ → ℕ → ℕ → ℕ → Node
-of_two kind a e members = record { kind = kind; extent = extent a e; tag = no_tag; subtree = 3; list = no_list; payload = two_numbers members 0 }
+of_two kind a e members =
+    record { kind = kind; extent = extent a e; tag = no_tag; subtree = 3; list = no_list; payload = two_numbers members 0 }
 
 pub record Collections : Type 0 where
   -- a mapping on its brace starts there, and ends past the closing one; a sequence likewise
-  pub braces : collection_node (bytes "{a}") (opened true 0 2 1) 2 2 ≡ of_two hash 0 3 1
-  pub brackets : collection_node (bytes "[a]") (opened false 0 2 1) 2 2 ≡ of_two array 0 3 2
+  pub braces : collection_node (bytes "{a}") (opened Mapping 0 2 (Some 1)) 2 2 ≡ of_two hash 0 3 1
+  pub brackets : collection_node (bytes "[a]") (opened Sequence 0 2 (Some 1)) 2 2 ≡ of_two array 0 3 2
   -- each on the other's mark: the end stays where its marker is
-  pub other_marks : collection_node (bytes "a]") (opened true 0 2 0) 1 2 ≡ of_two hash 0 1 1
+  pub other_marks : collection_node (bytes "a]") (opened Mapping 0 2 (Some 0)) 1 2 ≡ of_two hash 0 1 1
   -- on no brace it starts at its first key, wherever its marker is; a sequence starts at its marker
-  pub first_key : collection_node (bytes "abc") (opened true 2 2 0) 3 2 ≡ of_two hash 0 3 1
-  pub first_item : collection_node (bytes "abc") (opened false 2 2 0) 3 2 ≡ of_two array 2 3 2
+  pub first_key : collection_node (bytes "abc") (opened Mapping 2 2 (Some 0)) 3 2 ≡ of_two hash 0 3 1
+  pub first_item : collection_node (bytes "abc") (opened Sequence 2 2 (Some 0)) 3 2 ≡ of_two array 2 3 2
+  -- with no key it starts at its marker too
+  pub no_key : collection_start (bytes "abc") (opened Mapping 2 0 None) ≡ 2
   -- an end before the start: a length of 0
-  pub ends_before : collection_node (bytes "abc") (opened false 2 2 0) 1 2 ≡ of_two array 2 2 2
+  pub ends_before : collection_node (bytes "abc") (opened Sequence 2 2 (Some 0)) 1 2 ≡ of_two array 2 2 2
   -- a mapping's end needs a value to each key; neither end ends the other's
-  pub pair : closes true (opened true 0 2 0) ≡ true
-  pub key : closes true (opened true 0 1 0) ≡ false
-  pub kinds : (closes true (opened false 0 0 0) ≡ false) × (closes false (opened true 0 0 0) ≡ false)
+  pub pair : closes Mapping (opened Mapping 0 2 (Some 0)) ≡ true
+  pub key : closes Mapping (opened Mapping 0 1 (Some 0)) ≡ false
+  pub kinds : (closes Mapping (opened Sequence 0 0 None) ≡ false) × (closes Sequence (opened Mapping 0 0 None) ≡ false)
 
 pub collections : Collections
 unfolding collection_node collection_over collection_start collection_end members closes step_past tag_info
@@ -48,6 +53,7 @@ collections =
       other_marks = refl;
       first_key = refl;
       first_item = refl;
+      no_key = refl;
       ends_before = refl;
       pair = refl;
       key = refl;
@@ -68,5 +74,6 @@ pub record Starts : Type 0 where
 
 pub starts : Starts
 unfolding scalar_start step_past tag_info byte_offset codes chars_after first_char char_of multi_byte two_bytes encode encode_all
-    byte_length chars_before with_word tokens tokens_before openings property span_of decide first_tag tag_before guess tag_span is_white_space is_in white_space
+    byte_length chars_before with_word tokens tokens_before openings property span_of decide first_tag tag_before guess tag_span
+    is_white_space is_in white_space
 starts = record { value = refl; key = refl; quoted = refl; comma = refl; marker = refl; found = refl; guessed = refl }

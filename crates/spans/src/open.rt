@@ -7,17 +7,24 @@ pub struct Suffix {
     pub len: u32,
 }
 
+// What kind of collection it is.
+#[derive(Clone, Copy, Debug, PartialEq, Eq)]
+pub enum Collection {
+    Sequence,
+    Mapping,
+}
+
 // An open collection.
 #[derive(Clone, Copy, Debug, PartialEq, Eq)]
 pub struct Open {
-    pub mapping: bool,
+    pub collection: Collection,
     // The offset of its start's marker.
     pub start: u32,
     pub suffix: Option<Suffix>,
     // Nodes completed directly under it.
     pub children: u32,
-    // Where the first of them starts.
-    pub first: u32,
+    // Where the first of them starts; none until there is one.
+    pub first: Option<u32>,
     // Nodes completed before it was opened.
     pub before: u32,
 }

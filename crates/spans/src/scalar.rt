@@ -1,4 +1,7 @@
-// Scalars: their start, span, tag and pieces, what they are, and their record without pieces. (01: Reading rules, Start; S1, N1, E2. 02: (b).)
+// Scalars: their start, span, tag and pieces, what they are, and their record without pieces.
+// (01: Reading rules, Start; S1, N1, E2. 02: (b).)
+// Bounds in contracts are an index's (`at ≤ length text`) or a 32-bit number's (`≤ text_limit`): a type for each would be made and taken
+// apart at one call.
 ghost use Rattle.std.specs.Prelude.{◌≡◌, ◌≤◌, length};
 ghost use Rattle.style.specs.Style.{style_number};
 ghost use Rattle.text.specs.Admission.{text_limit};
@@ -23,7 +26,8 @@ use tag::property::make_tag_info;
 use text::admission::{Admitted, AdmittedPlace};
 use utf8::utf8::byte_at;
 
-// What an event gives of a scalar beside its tag and value: its marker's index and column, its style, and whether its span is empty.
+// What an event gives of a scalar beside its tag and value: its marker's index and column, its style, and whether its span is empty. It
+// stands apart from `Event::Scalar` since the call on one scalar has a mark too, and neither tag nor event bytes.
 #[derive(Clone, Copy, Debug, PartialEq, Eq)]
 pub struct ScalarMark {
     pub index: u32,
@@ -42,7 +46,7 @@ pub struct ScalarEvent {
 
 // A scalar's record, with no list yet, whether its span was measured, and what its walk answered.
 #[derive(Clone, Copy, Debug, PartialEq, Eq)]
-pub struct Entry {
+pub struct ScalarEntry {
     pub node: Node,
     pub measured: bool,
     pub walked: Walked,
@@ -150,7 +154,8 @@ fn scalar_node(
     }
 }
 
-// A scalar that starts at `start`: its record, whether its span was measured, and its walk, which leaves its pieces in a buffer that is lent zero.
+// A scalar that starts at `start`: its record, whether its span was measured, and its walk, which leaves its pieces in a buffer that is
+// lent zero.
 pub fn walk_scalar(
     start: AdmittedPlace<'_>,
     m: ScalarMark,
@@ -159,17 +164,18 @@ pub fn walk_scalar(
     tag: TagInfo,
     resolved: Resolved,
     pieces: &mut [u32],
-) -> Entry
+) -> ScalarEntry
     requires pieces_zero { pieces.old ≡ zeros (length pieces.old) }
     ensures value { result ≡ scalar_entry (room (length pieces.old)) start.entry.text.bytes.now (scalar_from start.entry.at (mark_of m) value.entry.bytes.now place) tag resolved }
     ensures pieces_after { pieces.new ≡ buffer_of (length pieces.old) (list_at start.entry.text.bytes.now (scalar_from start.entry.at (mark_of m) value.entry.bytes.now place)) }
 {
     let (text, at, column) = (start.text, start.at, m.column as usize);
-    let span = scalar_len(text.utf8().from(at), value.utf8(), m.style, m.empty, column);
+    let rest = text.utf8().rest_from(at);
+    let span = scalar_len(rest, value.utf8(), m.style, m.empty, column);
     let (text, value) = (text.bytes, value.bytes);
     let node = scalar_node(at, at + span.len, place, value.len(), tag, resolved);
     let walked = scalar_provenance(text, at, span.len, value, m.style, column, pieces);
-    Entry {
+    ScalarEntry {
         node,
         measured: span.measured,
         walked,
@@ -183,7 +189,7 @@ pub fn event_scalar(
     awaited: bool,
     e: ScalarEvent,
     pieces: &mut [u32],
-) -> Entry
+) -> ScalarEntry
     requires event_fits { EventFits events.now e }
     requires pieces_zero { pieces.old ≡ zeros (length pieces.old) }
     ensures value { result ≡ event_entry (room (length pieces.old)) at.entry.text.bytes.now events.now at.entry.at awaited e }

@@ -41,7 +41,7 @@ fn find_property(node: Place<'_>) -> Option<TagSpan>
     }
 }
 
-// The tag property before a node, as a part of the text; an empty part where there is none.
+// The tag property before a node, as a part of the text; where there is none an empty part and no `Option`, as 01 has it (F1).
 pub fn find_tag_span(node: Place<'_>) -> &[u8]
     ensures { result.now ≡ tag_property node.entry.text.bytes.now node.entry.at }
 {
@@ -61,8 +61,8 @@ pub fn find_tag_offset(node: Place<'_>) -> usize
 }
 
 // The span of a node's tag, its suffix being `suffix` bytes long: the property before the node, as long as the part handed back, or else a
-// guess, 1 plus the suffix's bytes from the node's start, cut to the text left. Only a property that was found is searched for again, for
-// its offset.
+// guess, 1 plus the suffix's bytes from the node's start, cut to the text left. 01 has the part and its offset as two functions (F1), so
+// the offset is a second search; only a property that was found is searched for again.
 pub fn make_tag_info(node: Place<'_>, suffix: usize) -> TagSpan
     ensures { result ≡ tag_span node.entry.text.bytes.now node.entry.at suffix }
 {

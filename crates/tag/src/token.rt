@@ -5,8 +5,8 @@ ghost use Rattle.tag.specs.Back.{Tells, back_over};
 
 use utf8::utf8::Place;
 
-// Moved back over the characters before the place that are of a kind: over white space to where the last token before it ends, over all else
-// to where the token that ends at it starts; to the text's start where nothing else is left.
+// Moved back over the characters before the place that are of a kind: over white space to where the last token before it ends, over all
+// else to where the token that ends at it starts; to the text's start where nothing else is left.
 pub fn back_over<'a, F: Fn(u32) -> bool>(place: Place<'a>, kind: F) -> Place<'a>
     requires callable { F.IsAlwaysCallable kind }
     ensures same_text { result.text.bytes.now ≡ place.entry.text.bytes.now }

@@ -19,7 +19,8 @@ pub enum TextError {
     NotUtf8,
 }
 
-// Bytes that are admitted: within the limit, and UTF-8.
+// Bytes that are admitted: within the limit, and UTF-8. No wrapper of `Utf8Bytes`: nested, each contract above would name the bytes through
+// a field more.
 #[derive(Clone, Copy)]
 pub struct Admitted<'a> {
     pub bytes: &'a [u8],
@@ -27,7 +28,7 @@ pub struct Admitted<'a> {
     ghost utf8: { is_utf8 bytes.now ≡ true },
 }
 
-// A place between two characters of such bytes.
+// A place between two characters of such bytes. No wrapper of `Place`, for the same reason.
 #[derive(Clone, Copy)]
 pub struct AdmittedPlace<'a> {
     pub text: Admitted<'a>,
@@ -65,6 +66,7 @@ pub struct Text<'a> {
 }
 
 // The text of these bytes, if they are admitted.
+#[tactic(auto, unfolding(crate::specs::Admission::admission), using(crate::proofs::OffsetLaws::ascii_utf8))]
 pub fn admit_text(bytes: &[u8]) -> Result<Text<'_>, TextError>
     ensures admitted { IfOk result (λ t. (admission bytes.now ≡ Ok t.ascii) × (t.content.bytes.now ≡ bytes.now)) }
     ensures refused { IfErr result (λ e. admission bytes.now ≡ Err e) }
@@ -72,16 +74,11 @@ pub fn admit_text(bytes: &[u8]) -> Result<Text<'_>, TextError>
     if TEXT_LIMIT < bytes.len() {
         return Err(TextError::TooLong);
     }
-    if is_ascii(bytes) {
+    let ascii = is_ascii(bytes);
+    if ascii || is_utf8(bytes) {
         return Ok(Text {
             content: Admitted { bytes },
-            ascii: true,
-        });
-    }
-    if is_utf8(bytes) {
-        return Ok(Text {
-            content: Admitted { bytes },
-            ascii: false,
+            ascii,
         });
     }
     Err(TextError::NotUtf8)

@@ -11,7 +11,7 @@ use utf8::class::is_continuation;
 use utf8::utf8::{Place, Utf8Bytes};
 
 // How many characters lie before a place of the text, and the place's byte offset.
-#[derive(Clone, Copy)]
+#[derive(Clone, Copy, Debug, PartialEq, Eq)]
 pub struct Cursor {
     pub chars: usize,
     pub offset: usize,
@@ -33,8 +33,9 @@ fn begun(b: u8) -> u8
     u8::from(!is_continuation(b))
 }
 
-// How many characters begin among the bytes. No byte ends the loop, so that the compiler takes many at once.
-fn starts(s: &[u8]) -> u8
+// How many characters begin among the bytes, in a byte, so that the compiler adds many at once: by `filter` and `count` it takes nearly
+// twice as long.
+fn char_starts(s: &[u8]) -> u8
     requires { length s.now ≤ 255 }
     ensures { result ≡ Starts.starts s.now }
 {
@@ -45,7 +46,7 @@ fn starts(s: &[u8]) -> u8
     n
 }
 
-// The next place between two characters, from `i` on.
+// The next place between two characters, from `i` on. Its bound is that of an index into a slice, as slices ask for it.
 fn next_boundary(s: &[u8], i: usize) -> usize
     requires { i ≤ length s.now }
     ensures { Boundary s.now result × (Starts.starts (take result s.now) ≡ Starts.starts (take i s.now)) }
@@ -56,7 +57,8 @@ fn next_boundary(s: &[u8], i: usize) -> usize
     }
 }
 
-// A cursor that stands in its text, of which is known whether it is ASCII.
+// A cursor that stands in its text, of which is known whether it is ASCII. It holds the parts and no `Text`, since the text may be of any
+// length: see `byte_offset_of_char` below.
 #[derive(Clone, Copy)]
 struct Standing<'a> {
     text: Utf8Bytes<'a>,
@@ -76,14 +78,12 @@ impl Standing<'_> {
         let text = self.text.bytes;
         let mut chars = self.cursor.chars;
         let mut offset = self.cursor.offset;
-        let mut rest = &text[offset..];
-        while let Some((chunk, after)) = rest.split_at_checked(CHUNK) {
+        for chunk in text[offset..].chunks_exact(CHUNK) {
             if target - chars < CHUNK {
                 break;
             }
-            chars += starts(chunk) as usize;
+            chars += char_starts(chunk) as usize;
             offset += CHUNK;
-            rest = after;
         }
         Cursor {
             chars,
@@ -157,7 +157,8 @@ impl Standing<'_> {
 }
 
 // The cursor at the character index `target`, or at the text's end where that comes first, from wherever it stood: it is lent to
-// `move_to` and handed back.
+// `move_to` and handed back. It takes UTF-8 of any length, where a `Text` is within the limit: a narrower type would ask more of its
+// callers.
 pub fn byte_offset_of_char(
     text: Utf8Bytes<'_>,
     ascii: bool,

@@ -11,11 +11,14 @@ const HEX_DIGIT: u8 = 4;
 
 const CONTINUATION: u8 = 8;
 
-const TAB: u8 = 9;
+// The layers above take these four from here.
+pub const TAB: u8 = 9;
 
-const CARRIAGE_RETURN: u8 = 13;
+pub const NEWLINE: u8 = 10;
 
-const BLANK: u8 = 32;
+pub const CARRIAGE_RETURN: u8 = 13;
+
+pub const BLANK: u8 = 32;
 
 const NEXT_LINE: u8 = 133;
 

@@ -1,5 +1,7 @@
 // UTF-8 by windows: each byte is looked at with the three before it. No byte ends a loop here, so that the compiler takes many at once.
 // What passes is UTF-8; what does not pass is left to the reading of characters in `utf8`. (01: R2, R3.)
+//
+// `p`, `q` and `r` are the three bytes before, one by one as the standard's table speaks of them: an array of them would be made anew.
 ghost use Rattle.std.specs.Prelude.{◌≡◌, true, ◌≤◌, length};
 ghost use Rattle.utf8.specs.Characters.{is_utf8};
 ghost use Rattle.utf8.specs.Window.{BeginsCharacter, Follows, awaits, Fits, FirstFit};

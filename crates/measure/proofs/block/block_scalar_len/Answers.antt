@@ -23,7 +23,7 @@ module _ (c : After-first_line-line) where
   rest_utf8 = utf8_sound _ c.args.rest.utf8
 
   line_here : c.first_line-line.result ≡ line_of (codes (drop at_now rest_now))
-  line_here = rw c.from.ensures at c.first_line-line.ensures
+  line_here = rw c.rest_from.ensures at c.first_line-line.ensures
 
   fits_here : Fitting rest_now at_now c.first_line-line.result
   fits_here = line_fits rest_utf8 (c.loop-at.invariant.place c.loop-at-test.true) line_here

@@ -16,7 +16,7 @@ char_here c = some_read (utf8_sound _ c.args.value.utf8) c.characters.invariant.
 
 -- the run of the rest that was read
 run_here : (c : After-white_space_run-run) → c.white_space_run-run.result ≡ run_of (codes (drop c.characters.at c.args.rest.bytes.now))
-run_here c = rw c.from.ensures at c.white_space_run-run.ensures
+run_here c = rw c.rest_from.ensures at c.white_space_run-run.ensures
 
 run_room : (c : After-white_space_run-run) → c.characters.at + c.white_space_run-run.result.len ≤ length c.args.rest.bytes.now
 run_room c = run_fits (utf8_sound _ c.args.rest.utf8) c.characters.invariant.rest_place (run_here c)
@@ -28,7 +28,7 @@ comparing c =
     let r = c.characters.invariant in
     elim c.if-known-at.branch [
       | then-known-at+then-is_fold+else-run w ↦
-          rw w.known-is (compare_looked r (rw w.from.ensures at w.white_space_run-run.ensures) w.if-run.false)
+          rw w.known-is (compare_looked r (rw w.rest_from.ensures at w.white_space_run-run.ensures) w.if-run.false)
       | else-known-at w ↦
           rw w.known-is (elim w.else-known-at.branch [
             | else-known-at-via-then-known-at+else-is_fold x ↦ compare_other r (sym x.is_fold.ensures ∙ x.if-is_fold.false)

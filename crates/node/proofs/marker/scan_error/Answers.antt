@@ -1,8 +1,7 @@
 -- `node::marker::scan_error` meets its contract: the offsets of two indices in turn, of a text that is admitted.
-use Rattle.std.proofs.Common.{◌≡◌, sym, ap, ◌∙◌, arith}
+use Rattle.std.proofs.Common.{arith}
 use Rattle.text.proofs.OffsetLaws.{stands_start, cursor_stands}
-use Rattle.node.specs.Marker.{scan_error, scan_error_of}
-use Rattle.node.proofs.Offsets.{cursor_offset, offset_few}
+use Rattle.node.proofs.Offsets.{offset_few}
 use Rattle.node.proofs.marker.scan_error.Goals as goal
 
 pub byte_offset_of_char-from-requires : goal.byte_offset_of_char-from-requires

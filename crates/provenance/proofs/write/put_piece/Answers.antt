@@ -17,4 +17,4 @@ unfolding put_piece
 returns-then-n-room c =
     let a = c.args in
     let h : a.n < room (length a.pieces.now) = omega arith in
-    rw (lt-ltb _ _ h) (four_stores a.pieces.now (4 * a.n) a.kind a.start a.end a.content)
+    rw (lt-ltb _ _ h) (four_stores a.pieces.now (4 * a.n) a.piece.kind a.piece.start a.piece.end a.piece.content)

@@ -23,4 +23,4 @@ pub returns-in-Err : goal.returns-in-Err
 unfolding node_numbers
 returns-in-Err c =
     let told = c.in-Err.ensures in
-    record { answer = rw c.into.ensures (ap three told.answer); one_record = ap node_numbers told.one_record; all_pieces = told.all_pieces }
+    record { answer = rw c.into-in-Err.ensures (ap three told.answer); one_record = ap node_numbers told.one_record; all_pieces = told.all_pieces }

@@ -19,13 +19,17 @@ module _ (c : After-from-state) where
   entry = cc
 
   follows : accepted (awaits c.from-state.result) (drop (c.loop-b.b-index + 1) c.args.value.now) ≡ flags c.args.value.now
-  follows = turned _ _ _ _ c.loop-b-test.true c.loop-b.invariant.1 (ap awaits entry ∙ c.requires.derives c.loop-b.state b c.loop-b.invariant.0 low)
+  follows =
+      let d = c.requires.derives c.loop-b.state b c.loop-b.invariant.0 low in
+      turned _ _ _ _ c.loop-b-test.true c.loop-b.invariant.1 (ap awaits entry ∙ d)
 
   state_low : c.from-state.result < state_count
   state_low = let h = c.requires.state_low c.loop-b.state b c.loop-b.invariant.0 low in omega (arith, entry)
 
 pub returns-then-state-eq-DEAD : goal.returns-then-state-eq-DEAD
-returns-then-state-eq-DEAD c = nothing_left _ _ (rw c.if-state-eq-DEAD.true at (follows (goal.at.returns-then-state-eq-DEAD c).After-from-state))
+returns-then-state-eq-DEAD c =
+    let left = follows (goal.at.returns-then-state-eq-DEAD c).After-from-state in
+    nothing_left _ _ (rw c.if-state-eq-DEAD.true at left)
 
 pub loop-b-preserved : goal.loop-b-preserved
 loop-b-preserved c =

@@ -4,8 +4,9 @@ use Rattle.spans.proofs.collection.collection_node.Goals as goal
 
 pub invariant_of-start : goal.invariant_of-start
 invariant_of-start c =
-    record { boundary = rw c.collection_start.ensures (collection_start_boundary c.args.text.bytes.now c.args.o c.requires.boundary.0 c.requires.boundary.1) }
+    let on = c.requires.boundary in
+    record { boundary = rw c.collection_start.ensures (collection_start_boundary c.args.text.bytes.now c.args.o on.0 on.1) }
 
 pub collection_over-requires-clause-end_in_bounds : goal.collection_over-requires-clause-end_in_bounds
 collection_over-requires-clause-end_in_bounds c =
-    rw c.collection_end-end.ensures (end_within c.args.text.bytes.now c.args.o.mapping c.args.at c.requires.at_in_bounds)
+    rw c.collection_end-end.ensures (end_within c.args.text.bytes.now c.args.o.collection c.args.at c.requires.at_in_bounds)

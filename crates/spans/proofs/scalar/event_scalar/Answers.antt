@@ -17,4 +17,6 @@ invariant_of-value c =
 pub returns-clause-value : goal.returns-clause-value
 unfolding event_node
 returns-clause-value c =
-    c.walk_scalar.ensures.value ∙ rw (c.resolve-resolved.ensures, c.tag_info-tag.ensures, c.suffix_of.ensures, c.scalar_start-start.ensures.same_text, c.scalar_start-start.ensures.value, c.bytes_in.ensures) refl
+    let start = c.scalar_start-start.ensures in
+    c.walk_scalar.ensures.value
+    ∙ rw (c.resolve-resolved.ensures, c.tag_info-tag.ensures, c.suffix_of.ensures, start.same_text, start.value, c.bytes_in.ensures) refl

@@ -10,6 +10,8 @@ pub invariant_of-at : goal.invariant_of-at
 invariant_of-at c =
     let a = c.args.at in
     elim c.if-awaited.branch [
-      | then-awaited+then-eq+then-is_empty w ↦ rw w.result-is (record { boundary = rw w.step_past.ensures (step_boundary a.text.bytes.now colon a.at (utf8_sound _ a.text.utf8) (omega arith) (omega arith) a.boundary) })
+      | then-awaited+then-eq+then-is_empty w ↦
+          let on = step_boundary a.text.bytes.now colon a.at (utf8_sound _ a.text.utf8) (omega arith) (omega arith) a.boundary in
+          rw w.result-is (record { boundary = rw w.step_past.ensures on })
       | else-awaited w ↦ rw w.result-is (record { boundary = a.boundary })
     ]

@@ -23,7 +23,7 @@ module _ (c : After-scalar_len-span) where
 
   measure_is : c.scalar_len-span.result ≡ span_measure text_now scalar_now
   measure_is =
-      rw (c.from.ensures, c.utf8-2.ensures, c.utf8-2-2.ensures) at c.scalar_len-span.ensures
+      rw (c.rest_from-rest.ensures, c.utf8-2.ensures, c.utf8-2-2.ensures) at c.scalar_len-span.ensures
       ∙ sym (span_from text_now scalar_now c.args.start.boundary)
 
   ends_within : scalar_now.start + c.scalar_len-span.result.len ≤ length text_now
@@ -31,10 +31,13 @@ module _ (c : After-scalar_len-span) where
       let w = span_within text_now scalar_now c.args.start.boundary.within in
       subst (λ (k : Measure). scalar_now.start + k.len ≤ length text_now) (sym measure_is) w
 
-  list_is : list_at text_now scalar_now ≡ scalar_list text_now scalar_now.start c.scalar_len-span.result.len scalar_now.value scalar_now.style scalar_now.column
+  list_is :
+      list_at text_now scalar_now
+      ≡ scalar_list text_now scalar_now.start c.scalar_len-span.result.len scalar_now.value scalar_now.style scalar_now.column
   list_is =
       list_from_lem text_now scalar_now c.args.start.boundary
-      ∙ ap (λ (k : Measure). scalar_list text_now scalar_now.start k.len scalar_now.value scalar_now.style scalar_now.column) (sym measure_is)
+      ∙ ap (λ (k : Measure). scalar_list text_now scalar_now.start k.len scalar_now.value scalar_now.style scalar_now.column)
+      (sym measure_is)
 
 pub overflow_add-at : goal.overflow_add-at
 overflow_add-at c = omega (arith, ends_within (goal.at.overflow_add-at c).After-scalar_len-span, c.args.start.text.within)
@@ -46,11 +49,13 @@ scalar_node-node-requires c =
     (omega arith, omega arith, c.args.value.within)
 
 pub scalar_provenance-walked-requires-clause-inside : goal.scalar_provenance-walked-requires-clause-inside
-scalar_provenance-walked-requires-clause-inside c = ends_within (goal.at.scalar_provenance-walked-requires-clause-inside c).After-scalar_len-span
+scalar_provenance-walked-requires-clause-inside c =
+    ends_within (goal.at.scalar_provenance-walked-requires-clause-inside c).After-scalar_len-span
 
 -- record, flag and walk are those of the definitions
 entry_is : (most : ℕ) (text : List ℕ) (x : ScalarAt) (tag : TagInfo) (r : Resolved) (k : Measure) (y : Node) (w : Walked)
-    → k ≡ span_measure text x → y ≡ scalar_over x.start (x.start + k.len) x.place (length x.value) tag r → w ≡ answer_of most (list_at text x)
+    → k ≡ span_measure text x → y ≡ scalar_over x.start (x.start + k.len) x.place (length x.value) tag r
+    → w ≡ answer_of most (list_at text x)
     → record { node = y; measured = k.measured; walked = w } ≡ scalar_entry most text x tag r
 entry_is most text x tag r k y w ek ey ew = rw (ey, ew, ek) refl
 
@@ -63,4 +68,5 @@ returns-clause-value c =
     c.scalar_node-node.ensures (w.ensures.value ∙ ap (answer_of _) (sym (list_is at)))
 
 pub returns-clause-pieces_after : goal.returns-clause-pieces_after
-returns-clause-pieces_after c = rw (list_is (goal.at.returns-clause-pieces_after c).After-scalar_len-span) c.scalar_provenance-walked.ensures.pieces_after
+returns-clause-pieces_after c =
+    rw (list_is (goal.at.returns-clause-pieces_after c).After-scalar_len-span) c.scalar_provenance-walked.ensures.pieces_after

@@ -1,7 +1,10 @@
 -- `on_alias` meets its contract: rows 5 and 7 by the counts; then its record is complete.
-use mathlib.Core.Path.{sym, ◌∙◌}
+use mathlib.Core.Path.{◌≡◌, sym, ◌∙◌}
+use Prim.Native.Nat.{ℕ}
 use native.Mathlib.Omega.{arith}
 use Rattle.utf8.proofs.Utf8Laws.{utf8_sound}
+use Rattle.schema.specs.Record.{two_numbers}
+use Rattle.schema.specs.declared.record.Payload.{Payload}
 use Rattle.text.proofs.OffsetLaws.{cursor_stands}
 use Rattle.parser.proofs.Turns.{root_refused, past_root, room_refused, in_room, moved_cursor, moved_on}
 use Rattle.parser.proofs.Starts.{cursor_offset, cursor_boundary, cursor_within}
@@ -23,6 +26,9 @@ overflow_cast-at c =
     let text = c.args.text.content in
     omega (arith, (cursor_within text.bytes.now c.args.index _ (utf8_sound _ text.utf8) text.within c.byte_offset_of_char-self.ensures).1)
 
+same_numbers : (x : Payload) (m n : ℕ) → x.first ≡ m → x.second ≡ n → x ≡ two_numbers m n
+same_numbers x m n h k = rw (← h, ← k)
+
 pub returns : goal.returns
 unfolding on_alias
 returns c = λ pieces size pieces_size st h.
@@ -32,6 +38,7 @@ returns c = λ pieces size pieces_size st h.
     let free = sym c.within_room.ensures ∙ c.in_ok-within_room.was in
     let cur = c.byte_offset_of_char-self in
     let e = cursor_offset text a.index cur.result cur.ensures in
+    let nothing = same_numbers c.default.result 0 0 c.default.ensures.0 c.default.ensures.1 in
     let moved = moved_cursor h cur.result (rw cur.ensures (cursor_stands text a.index)) in
     rw (past_root h _ _ on, in_room h _ _ free, ← e)
-    (moved_on h _ _ _ _ (rw c.into.ensures at (c.push_complete.ensures text size pieces_size st pieces (cursor_boundary (utf8_sound _ a.text.content.utf8) a.index _ cur.ensures) moved)))
+    (moved_on h _ _ _ _ (rw (c.into.ensures, nothing) at (c.push_complete.ensures text size pieces_size st pieces (cursor_boundary (utf8_sound _ a.text.content.utf8) a.index _ cur.ensures) moved)))

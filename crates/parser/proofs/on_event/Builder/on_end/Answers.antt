@@ -10,7 +10,7 @@ use Rattle.parser.proofs.on_event.Builder.on_end.Goals as goal
 pub returns-in_err-within_room : goal.returns-in_err-within_room
 returns-in_err-within_room c = λ pieces size pieces_size st h.
     let a = c.args in
-    rw (matched h c.in-Some.open _ c.in-Some.ensures _ a.index a.mapping (sym c.closes_open.ensures ∙ c.if-not-closes_open.false))
+    rw (matched h c.in-Some.open _ c.in-Some.ensures _ a.index a.collection (sym c.closes_open.ensures ∙ c.if-not-closes_open.false))
     (room_refused h _ _ _ (sym c.within_room.ensures ∙ c.in_err-within_room.was) c.from_residual.ensures.1 _ _ _)
 
 pub collection_node-x-requires-clause-at_in_bounds :
@@ -31,5 +31,5 @@ returns c = λ pieces size pieces_size st h.
     let on = inner_on h o _ is in
     let off = popped h o _ is cur.result (rw cur.ensures (cursor_stands text a.index)) in
     let x = c.collection_node-x.ensures in
-    rw (matched h o _ is _ a.index a.mapping (sym c.closes_open.ensures ∙ c.if-not-closes_open.false), in_room h _ _ free, ← e, ← x)
+    rw (matched h o _ is _ a.index a.collection (sym c.closes_open.ensures ∙ c.if-not-closes_open.false), in_room h _ _ free, ← e, ← x)
     (moved_on off _ _ _ _ (c.push_complete.ensures text size pieces_size _ pieces (rw x (collection_node_boundary text o cur.result.offset a.self.now.nodes on.0 on.1)) off))

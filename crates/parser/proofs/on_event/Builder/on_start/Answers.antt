@@ -31,4 +31,4 @@ returns c = λ records pieces size pieces_size st h.
     let on = sym c.before_root.ensures ∙ c.in_ok-before_root.was in
     let free : length a.self.now.stack < depth_limit = rw (← c.depth.ensures) c.if-depth-ge-DEPTH_LIMIT.false in
     rw (c.push.ensures, c.suffix_of.ensures)
-    (opened h a.mapping a.index a.tag c.byte_offset_of_char-self.result _ (utf8_sound _ a.text.content.utf8) c.byte_offset_of_char-self.ensures on free)
+    (opened h a.collection a.index a.tag c.byte_offset_of_char-self.result _ (utf8_sound _ a.text.content.utf8) c.byte_offset_of_char-self.ensures on free)

@@ -16,9 +16,9 @@ use Rattle.provenance.specs.EscapeLaws.{style_fair}
 use Rattle.provenance.specs.StepLaws.{Fair, grammar_fair}
 use Rattle.provenance.proofs.Steps.{Clear, tells, run_small, clear_after, clear_on}
 use Rattle.provenance.proofs.Turn.{Going, begins, on_verbatim, on_letters, on_replacement}
-use Rattle.provenance.proofs.Walks.{ends_stuck, ends_listed, ends_full}
+use Rattle.provenance.proofs.Walks.{Ended, ends_stuck, ended}
 use Rattle.provenance.proofs.step.Walk.walk_scalar_provenance.Goals as goal
-use Rattle.provenance.proofs.step.Walk.walk_scalar_provenance.Goals.{After-known_after-known, After-put_replacement-written, In-Replacement, In-Verbatim}
+use Rattle.provenance.proofs.step.Walk.walk_scalar_provenance.Goals.{After-known_after-known, After-put_open-n, After-put_replacement-written, In-Replacement, In-Verbatim}
 
 -- ---- what is known in a turn
 -- the steps of the grammar are fair
@@ -58,6 +58,15 @@ replaced c =
     let p = c.put_replacement-written in
     rw p.ensures.value
     (on_replacement _ _ _ _ _ _ (fair_here (style_number a.self.style) a.self.column a.self.src.now a.self.value.now) _ w.s w.v w.written.from w.written.count w.invariant.going c.loop-v-test.true _ _ (sym c.step_at.ensures ∙ c.in-Some.is ∙ ap (λ (t : Step). Some t) c.in-Replacement.is) _ p.new.pieces refl (rw w.invariant.same_base at p.ensures.pieces_after))
+
+-- the value's end, with the last verbatim bytes written
+ended_here : (c : After-put_open-n)
+    → Ended (rules_of (style_number c.args.self.style) c.args.self.column) (style_fair (style_number c.args.self.style)) c.args.self.src.now c.args.self.value.now c.args.base
+    (length c.args.pieces.now) _ c.loop-v.s c.loop-v.v c.loop-v.written.from c.loop-v.written.count c.loop-v.invariant.going c.loop-v-test.false c.put_open-n.result c.put_open-n.new.pieces
+ended_here c =
+    let w = c.loop-v in
+    let o = c.put_open-n in
+    ended _ _ _ _ _ _ _ _ _ _ _ w.invariant.going c.loop-v-test.false _ w.invariant.same_base _ _ o.ensures.value o.ensures.pieces_after o.auto.pieces
 
 -- ---- the goals
 pub loop-v-init : goal.loop-v-init
@@ -147,29 +156,14 @@ returns-in_default c =
 
 pub returns-then-room-n : goal.returns-then-room-n
 returns-then-room-n c =
-    let a = c.args in
-    let style = style_number a.self.style in
-    let w = c.loop-v in
-    let g = w.invariant.going in
-    let o = c.put_open-n in
-    let size : length o.new.pieces ≡ length a.pieces.now = o.auto.pieces ∙ g.held.size in
     let most = c.room.ensures in
     let over = c.if-room-n.true in
-    let e = ends_full (rules_of style a.self.column) (style_fair style) a.self.src.now a.self.value.now a.base (length a.pieces.now) _ w.s w.v w.written.from w.written.count g
-    c.loop-v-test.false o.result o.new.pieces o.ensures.value (rw w.invariant.same_base at o.ensures.pieces_after)
-    (omega arith) _ _ (ap (λ (j : ℕ). written_len o.result j) size) c.clear_pieces-then-room-n.ensures in
+    let e = (ended_here (goal.at.returns-then-room-n c).After-put_open-n).full (omega arith) _ c.clear_pieces-then-room-n.ensures in
     record { value = e.0; pieces_after = e.1 }
 
 pub returns : goal.returns
 returns c =
-    let a = c.args in
-    let style = style_number a.self.style in
-    let w = c.loop-v in
-    let g = w.invariant.going in
-    let o = c.put_open-n in
-    let size : length o.new.pieces ≡ length a.pieces.now = o.auto.pieces ∙ g.held.size in
     let most = c.room.ensures in
     let in_room = c.if-room-n.false in
-    let e = ends_listed (rules_of style a.self.column) (style_fair style) a.self.src.now a.self.value.now a.base (length a.pieces.now) _ w.s w.v w.written.from w.written.count g
-    c.loop-v-test.false o.result o.new.pieces o.ensures.value (rw w.invariant.same_base at o.ensures.pieces_after) (omega arith) in
+    let e = (ended_here (goal.at.returns c).After-put_open-n).listed (omega arith) in
     record { value = e.0; pieces_after = e.1 }

@@ -7,7 +7,7 @@ use Rattle.std.proofs.lemmas.List.Folds.{length-prefix_len}
 use Rattle.std.specs.List.{prefix_len}
 use Rattle.measure.specs.Plain.{is_fold}
 use Rattle.provenance.proofs.Runs.{blank_run_is}
-use Rattle.provenance.proofs.run.blanks.Goals as goal
+use Rattle.provenance.proofs.run.folds.Goals as goal
 
 pub returns : goal.returns
 returns c =

@@ -1,7 +1,7 @@
 use Rattle.std.proofs.Common.{refl, ◌+◌, arith, take, length-take}
 use Rattle.text.specs.Starts.{starts}
 use Rattle.text.proofs.Starts.{starts_next, starts_most}
-use Rattle.text.proofs.offset.starts.Goals as goal
+use Rattle.text.proofs.offset.char_starts.Goals as goal
 
 pub loop-b-init : goal.loop-b-init
 unfolding starts
