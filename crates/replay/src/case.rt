@@ -9,7 +9,7 @@ pub struct Rooms {
     pub pieces: usize,
 }
 
-// What is returned: 0, nodes and pieces; or a row's number, its place and 0.
+// What is returned: 0, nodes and pieces; or a row's number, its place and 0. Numbers, as the lists have them.
 #[derive(Clone, Copy, Debug, PartialEq, Eq)]
 pub struct Returned {
     pub code: u32,
@@ -148,7 +148,7 @@ pub fn numbers() -> [u32; ROOM]
 // What is answered over a buffer of so many numbers; none where there is no room for so many.
 pub fn in_room<F: FnOnce(&mut [u32]) -> bool>(size: usize, answer: F) -> Option<bool>
     requires { F.IsAlwaysCallable answer }
-    ensures { MatchOption result (4096 < size) (λ r. (lent : _) × (left : _) × (length lent.now ≡ size) × F.post answer lent r left) }
+    ensures { MatchOption result (4096 < size) (λ r. (lent : _) × (left : _) × (size ≤ 4096) × (length lent.now ≡ size) × F.post answer lent r left) }
 {
     let mut numbers = numbers();
     let lent = numbers.get_mut(..size)?;
@@ -159,8 +159,8 @@ pub fn in_room<F: FnOnce(&mut [u32]) -> bool>(size: usize, answer: F) -> Option<
 pub fn in_rooms<F: FnOnce(&mut [u32], &mut [u32]) -> bool>(rooms: Rooms, answer: F) -> Option<bool>
     requires { F.IsAlwaysCallable answer }
     ensures { MatchOption result ((4096 < rooms.records) ⊎ (4096 < rooms.pieces))
-        (λ r. (records : _) × (pieces : _) × (left : _) × (pieces_left : _) × (length records.now ≡ rooms.records)
-        × (length pieces.now ≡ rooms.pieces) × F.post answer records pieces r left pieces_left) }
+        (λ r. (records : _) × (pieces : _) × (left : _) × (pieces_left : _) × (rooms.records ≤ 4096) × (rooms.pieces ≤ 4096)
+        × (length records.now ≡ rooms.records) × (length pieces.now ≡ rooms.pieces) × F.post answer records pieces r left pieces_left) }
 {
     let mut records = numbers();
     let mut pieces = numbers();

@@ -21,6 +21,7 @@ impl<'a> Model for Matcher<'a> {
     ghost view = { λ m. option_copied m.rest };
 }
 
+// The numbers that the lists have for an answer.
 const NONE: u32 = 0;
 
 const SOME: u32 = 1;

@@ -4,7 +4,7 @@
 #![tactic(auto)]
 
 use parser::one::scalar;
-use replay::case::{Case, NUMBER_BYTES, case_of, in_room, number_at};
+use replay::case::{Case, NUMBER_BYTES, case_of, in_rooms, number_at};
 use replay::tally::{Verdict, verdict_of};
 use std::io;
 
@@ -42,7 +42,7 @@ fn read_the_same(case: Case<'_>, pieces: &mut [u32]) -> bool {
 
 fn verdict(bytes: &[u8]) -> Verdict {
     let case = case_of(bytes);
-    let same = in_room(case.rooms.pieces, |pieces| read_the_same(case, pieces));
+    let same = in_rooms(case.rooms, |_, pieces| read_the_same(case, pieces));
     verdict_of(case, same)
 }
 

@@ -5,7 +5,7 @@
 use event::read::{Event, read_event};
 use parser::one::scalar;
 use records::record::{Extent, Node, PieceList};
-use replay::case::{Case, bytes_at, case_of, in_room, number_at, same_numbers};
+use replay::case::{Case, bytes_at, case_of, in_rooms, number_at, same_numbers};
 use replay::record::{END_AT, FIRST_PIECE_AT, KIND_AT, PIECE_COUNT_AT, START_AT};
 use replay::tally::{Verdict, verdict_of};
 use std::io;
@@ -60,7 +60,7 @@ fn read_the_same(case: Case<'_>, pieces: &mut [u32]) -> bool {
 
 fn verdict(bytes: &[u8]) -> Verdict {
     let case = case_of(bytes);
-    let same = in_room(case.rooms.pieces, |pieces| read_the_same(case, pieces));
+    let same = in_rooms(case.rooms, |_, pieces| read_the_same(case, pieces));
     verdict_of(case, same)
 }
 

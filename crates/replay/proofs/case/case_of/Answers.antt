@@ -2,7 +2,7 @@
 use Rattle.std.proofs.Common.{◌≡◌, ℕ, ◌+◌, ◌*◌, Bool, true, false, not, List, drop, refl}
 use native.Mathlib.Omega.{arith}
 use Rattle.replay.specs.Case.{number, rooms_at, pieces_count_at, returned_if}
-use Rattle.core.specs.Bool.{then_some}
+use Rattle.std.specs.Bool.{then_some}
 use Rattle.replay.specs.declared.case.Returned.{Returned}
 use Rattle.replay.proofs.Framing.{Left, number_there, part_there, behind_number, behind_part, same_place}
 use Rattle.replay.proofs.case.case_of.Goals as goal
