@@ -5,11 +5,9 @@
 pub mod Scalar
 -- open collections, and the record of one that ends
 pub mod Collection
--- Statements: worked cases, and a law. Proved; nothing here is to be believed.
+-- Statements: worked cases. Proved; nothing here is to be believed.
 -- worked scalars, tags and collections
 pub mod Examples
--- a scalar by any number for its style
-pub mod NumberLaws
 -- Arguments: what inner calls ask and promise; cited by their contracts only.
 -- tags and values that fit, a scalar's record with its walk
 pub mod Fits
