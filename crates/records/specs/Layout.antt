@@ -1,7 +1,7 @@
 -- Where nodes and pieces stand in the two buffers (E2, E3, E4): one after the other from the front, and zeros past them.
-use Rattle.std.specs.Prelude.{ℕ, ◌*◌, ◌/◌, min, List}
+use Rattle.std.specs.Prelude.{ℕ, ◌+◌, ◌*◌, ◌/◌, min, List, set, drop}
 use Rattle.std.proofs.lemmas.List.Edits.{sets}
-use Rattle.records.specs.Record.{record_width, node_numbers}
+use Rattle.records.specs.Record.{record_width, node_numbers, node_of, at_parent}
 use Rattle.provenance.specs.Layout.{laid_by, piece_width}
 use Rattle.records.specs.declared.record.Node.{Node}
 
@@ -11,6 +11,14 @@ laid_nodes = laid_by record_width node_numbers
 -- a buffer after the record of x, number n, was put in it
 unfoldable pub stored : List ℕ → ℕ → Node → List ℕ
 stored b n x = sets b (record_width * n) (node_numbers x)
+
+-- a buffer after p was put in it as the parent of record n
+unfoldable pub parent_stored : List ℕ → ℕ → ℕ → List ℕ
+parent_stored b n p = set b (record_width * n + at_parent) p
+
+-- the node whose record is number n
+abbrev pub node_at : List ℕ → ℕ → Node
+node_at b n = node_of (drop (record_width * n) b)
 
 -- ---- what fits
 

@@ -7,7 +7,7 @@ use native.Mathlib.Nat.{mul-suc, mul-zero, mul-add}
 use native.Mathlib.Omega.{arith}
 use Rattle.std.proofs.Math.ListN.{length, replicate, length-replicate}
 use lib.Seq.{sets, sets-eq, take_at, drop_at}
-use Rattle.records.specs.Record.{node_numbers}
+use Rattle.records.specs.Record.{record_width, node_numbers}
 use Rattle.records.specs.RecordLaws.{node_wide}
 use Rattle.records.specs.Layout.{laid_nodes, stored}
 use Rattle.provenance.specs.Layout.{flat, laid_by}
@@ -90,9 +90,9 @@ module _ {A : Type 0} (w : ℕ) (f : A → List ℕ) (wide : (x : A) → length 
 -- ---- records
 
 pub nodes_none : (size : ℕ) → laid_nodes size [] ≡ replicate size 0
-nodes_none size = laid_none 12 node_numbers node_wide size
+nodes_none size = laid_none record_width node_numbers node_wide size
 
 -- the record of the next node, stored
-pub nodes_more : (size : ℕ) (xs : List Node) (n : ℕ) (x : Node) → n ≡ length xs → 12 * n + 12 ≤ size → stored (laid_nodes size xs) n x ≡ laid_nodes size (xs ++ (x ∷ []))
+pub nodes_more : (size : ℕ) (xs : List Node) (n : ℕ) (x : Node) → n ≡ length xs → record_width * n + record_width ≤ size → stored (laid_nodes size xs) n x ≡ laid_nodes size (xs ++ (x ∷ []))
 unfolding stored
-nodes_more size xs n x e h = laid_more 12 node_numbers node_wide size xs (12 * n) (ap (λ (m : ℕ). 12 * m) e) x h
+nodes_more size xs n x e h = laid_more record_width node_numbers node_wide size xs (record_width * n) (ap (λ (m : ℕ). record_width * m) e) x h

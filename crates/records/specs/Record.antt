@@ -1,5 +1,6 @@
--- A node's record: twelve numbers (E2). Of all definitions only those of this file know in which order they stand: `node_numbers`, and `node_of`,
--- its inverse (`read_laid`). Everything else goes by the names of the fields and by the laws of `RecordLaws`.
+-- A node's record: fourteen numbers (E2; the last two 02, (c)). Of all definitions only those of this file know in which order they stand:
+-- `node_numbers`, `node_of`, its inverse (`read_laid`), and `at_parent`; of the laws `RecordLaws`, `parent_laid` and `parent_counts`. Everything
+-- else goes by the names of the fields and by these laws.
 use Rattle.std.specs.Prelude.{ℕ, List, [], ◌∷◌, get_or}
 use Rattle.schema.specs.Record.{two_numbers}
 use Rattle.records.specs.declared.record.Extent.{Extent}
@@ -7,13 +8,13 @@ use Rattle.records.specs.declared.record.TagInfo.{TagInfo}
 use Rattle.records.specs.declared.record.PieceList.{PieceList}
 use Rattle.records.specs.declared.record.Node.{Node}
 
--- what stands where there is none: of a tag in all four of its numbers, of a piece list in its first
+-- what stands where there is none: of a tag in all four of its numbers, of a piece list in its first, of a parent in its one
 abbrev pub absent : ℕ
 absent = 0xffff_ffff
 
 -- how many numbers a record has
 abbrev pub record_width : ℕ
-record_width = 12
+record_width = 14
 
 unfoldable pub node_numbers : Node → List ℕ
 node_numbers x =
@@ -23,6 +24,8 @@ node_numbers x =
     ∷ x.subtree
     ∷ x.list.first ∷ x.list.count
     ∷ x.payload.first ∷ x.payload.second
+    ∷ x.parent
+    ∷ x.measured
     ∷ []
 
 abbrev pub extent : ℕ → ℕ → Extent
@@ -38,7 +41,13 @@ node_of l =
       subtree = get_or l 7 0;
       list = record { first = get_or l 8 0; count = get_or l 9 0 };
       payload = two_numbers (get_or l 10 0) (get_or l 11 0);
+      parent = get_or l 12 0;
+      measured = get_or l 13 0;
     }
+
+-- where the parent stands, the one number that is written after its record
+abbrev pub at_parent : ℕ
+at_parent = 12
 
 abbrev pub no_tag : TagInfo
 no_tag = record { start = absent; end = absent; suffix = absent; len = absent }
@@ -51,11 +60,44 @@ abbrev pub piece_list : ℕ → ℕ → PieceList
 piece_list i n = record { first = i; count = n }
 
 abbrev pub with_list : Node → ℕ → ℕ → Node
-with_list x i n = record { kind = x.kind; extent = x.extent; tag = x.tag; subtree = x.subtree; list = piece_list i n; payload = x.payload }
+with_list x i n =
+    record {
+      kind = x.kind;
+      extent = x.extent;
+      tag = x.tag;
+      subtree = x.subtree;
+      list = piece_list i n;
+      payload = x.payload;
+      parent = x.parent;
+      measured = x.measured;
+    }
 
--- an alias at byte i: a null of length 0 with no list (N1)
+abbrev pub with_parent : Node → ℕ → Node
+with_parent x p =
+    record {
+      kind = x.kind;
+      extent = x.extent;
+      tag = x.tag;
+      subtree = x.subtree;
+      list = x.list;
+      payload = x.payload;
+      parent = p;
+      measured = x.measured;
+    }
+
+-- an alias at byte i: a null of length 0 with no list (N1), its span counted as measured (02, (c)); no parent yet
 abbrev pub alias_node : ℕ → Node
-alias_node i = record { kind = 1; extent = extent i i; tag = no_tag; subtree = 1; list = no_list; payload = two_numbers 0 0 }
+alias_node i =
+    record {
+      kind = 1;
+      extent = extent i i;
+      tag = no_tag;
+      subtree = 1;
+      list = no_list;
+      payload = two_numbers 0 0;
+      parent = absent;
+      measured = 1;
+    }
 
 -- what a refused call on one scalar hands back (RS, RZ)
 abbrev pub zero_node : Node
@@ -67,4 +109,6 @@ zero_node =
       subtree = 0;
       list = piece_list 0 0;
       payload = two_numbers 0 0;
+      parent = 0;
+      measured = 0;
     }

@@ -1,20 +1,23 @@
-// A node's record: twelve numbers. Of the library's code only `Node::read` and the array's `from` know where each stands. (01: Events,
-// records, pieces; E2.)
+// A node's record: fourteen numbers. Of the library's code only `Node::read` and the array's `from` know where each stands, and
+// `put_parent` the place of one. (01: Events, records, pieces; E2. 02: (c).)
 ghost use Rattle.std.specs.Prelude.{◌≡◌, ◌/◌, ◌≤◌, ◌<◌, eqb, ltb, length};
 ghost use Rattle.schema.specs.Record.{number_of};
 ghost use Rattle.schema.specs.declared.record.Kind.TheVariants as kind;
 ghost use Rattle.records.specs.Record.{record_width, node_numbers, node_of, with_list};
-ghost use Rattle.records.specs.Layout.{stored};
+ghost use Rattle.records.specs.Layout.{stored, parent_stored, node_at};
 
 use crate::buffer::put;
 use schema::record::{Kind, Payload};
 
-// What stands where there is none: no tag, no piece list. A number, as in the layout: a lent buffer may hold any numbers, and `Node::read`
-// hands them back as they are.
+// What stands where there is none: no tag, no piece list, no parent. A number, as in the layout: a lent buffer may hold any numbers, and
+// `Node::read` hands them back as they are.
 pub const ABSENT: u32 = 0xffff_ffff;
 
 // How many numbers a record has.
-pub const RECORD_WIDTH: usize = 12;
+pub const RECORD_WIDTH: usize = 14;
+
+// Where the parent stands, the one number that is written after its record.
+const AT_PARENT: usize = 12;
 
 // The bytes from `start` to `end`, `end` not counted in.
 #[derive(Clone, Copy, Debug, PartialEq, Eq)]
@@ -49,6 +52,10 @@ pub struct Node {
     pub subtree: u32,
     pub list: PieceList,
     pub payload: Payload,
+    // The record of the collection whose child it is; ABSENT where there is none, and until that is complete.
+    pub parent: u32,
+    // 1 where the span was measured, 0 where it was assumed; 1 for collections and aliases. A number, as the kind is.
+    pub measured: u32,
 }
 
 // As `ABSENT`: the layout's numbers for none.
@@ -92,6 +99,8 @@ impl Node {
                 first: numbers[10],
                 second: numbers[11],
             },
+            parent: numbers[12],
+            measured: numbers[13],
         }
     }
 
@@ -139,6 +148,8 @@ impl From<Node> for [u32; RECORD_WIDTH] {
             x.list.count,
             x.payload.first,
             x.payload.second,
+            x.parent,
+            x.measured,
         ]
     }
 }
@@ -151,4 +162,21 @@ pub fn put_record(records: &mut [u32], n: usize, x: Node)
 {
     let numbers: [u32; RECORD_WIDTH] = x.into();
     put(records, RECORD_WIDTH * n, &numbers);
+}
+
+// The record that is written as number `n`.
+pub fn read_record(records: &[u32], n: usize) -> Node
+    requires { n < length records.now / record_width }
+    ensures { result ≡ node_at records.now n }
+{
+    Node::read(&records[RECORD_WIDTH * n..])
+}
+
+// The parent of record `n` is written.
+#[tactic(auto, unfolding(crate::specs::Layout::parent_stored))]
+pub fn put_parent(records: &mut [u32], n: usize, parent: u32)
+    requires { n < length records.old / record_width }
+    ensures { records.new ≡ parent_stored records.old n parent }
+{
+    records[RECORD_WIDTH * n + AT_PARENT] = parent;
 }
