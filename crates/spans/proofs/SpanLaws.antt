@@ -14,6 +14,8 @@ use Rattle.text.specs.Offset.{byte_offset}
 use Rattle.text.proofs.OffsetLaws.{offset_boundary}
 use Rattle.text.specs.Admission.{text_limit}
 use Rattle.text.specs.Admitted.{AdmittedText}
+use Rattle.schema.specs.Record.{truth}
+use Rattle.schema.specs.declared.plain.Resolved.{Resolved}
 use Rattle.measure.specs.Length.{assumed}
 use Rattle.measure.specs.Scalar.{plain, scalar_measure}
 use Rattle.measure.specs.Plain.{reaches, plain_reach}
@@ -29,10 +31,11 @@ use Rattle.provenance.specs.Start.{list_from, scalar_list}
 use Rattle.provenance.specs.Alike.{reads_alike, past_span, pieces_end}
 use Rattle.provenance.proofs.Measured.{pieces_list, pieces_end_at}
 use Rattle.spans.specs.Scalar.{Mark, ScalarAt, step_past, colon, scalar_start, start_at, scalar_at, span_measure, span_len, list_at, walk_first}
-use Rattle.spans.specs.Scalar.{scalar_over, event_node}
+use Rattle.spans.specs.Scalar.{scalar_over, scalar_node, event_node}
 use Rattle.spans.specs.Collection.{is_mapping, open_brace, close_brace, close_bracket}
 use Rattle.spans.specs.Collection.{collection_start, collection_end, collection_over, collection_node}
 use Rattle.spans.specs.Fits.{TagFits}
+use Rattle.records.specs.declared.record.TagInfo.{TagInfo}
 use Rattle.spans.specs.declared.open.Collection.{Collection}
 use Rattle.spans.specs.declared.open.Collection.TheVariants.{Sequence, Mapping}
 use Rattle.spans.specs.declared.open.Open.{Open}
@@ -159,7 +162,13 @@ module _ (text : List ℕ) (utf8 : Utf8 text) (awaited : Bool) (m : Mark) (value
       list_from_lem text x start_boundary
       ∙ ap (λ (k : Measure). scalar_list text x.start k.len x.value x.style x.column) (span_from text x start_boundary)
 
--- ---- measured (02, (b))
+-- ---- measured (02, (b), (c))
+
+-- whether a scalar's span was measured, as its record says, is what its measure says from its start on
+pub node_measured : (text : List ℕ) (x : ScalarAt) (tag : TagInfo) (r : Resolved) → Boundary text x.start
+    → (scalar_node text x tag r).measured ≡ truth (scalar_measure (drop x.start text) x.value x.style x.empty_span x.column).measured
+unfolding scalar_over
+node_measured text x tag r on = ap (λ (k : Measure). truth k.measured) (span_from text x on)
 
 -- a boundary of what is left of a text is one of the text
 boundary_later : {text : List ℕ} {i n : ℕ} → Boundary text i → Boundary (drop i text) n → Boundary text (i + n)

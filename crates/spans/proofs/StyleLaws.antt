@@ -1,5 +1,5 @@
 -- A scalar by any number for its style: a number that no style has goes as the style by which `style_of` takes it.
-use Rattle.std.specs.Prelude.{◌≡◌, refl, ℕ, ◌+◌, Bool, cond, List, drop, length, Option, None}
+use Rattle.std.specs.Prelude.{◌≡◌, refl, ℕ, Bool, cond, List, drop, length, Option, None}
 use Rattle.std.proofs.Common.{ap, ◌∙◌, arith}
 use Rattle.std.proofs.lemmas.Bool.{ne_eqb}
 use Rattle.style.specs.Style.{style_number, style_of}
@@ -65,16 +65,12 @@ any_number_lists text x =
     ∙ ap (λ (l : Option (List Piece)). cond (is_boundary text x.start) l None)
     (listed text x.start (span_measure text (as_read x)).len x.value x.style x.column)
 
-abbrev entry : Node → Bool → Walked → ScalarEntry
-entry node measured walked = record { node = node; measured = measured; walked = walked }
+abbrev entry : Node → Walked → ScalarEntry
+entry node walked = record { node = node; walked = walked }
 
--- its record, whether its span was measured, and what its walk answers
+-- its record and what its walk answers
 pub any_number : (most : ℕ) (text : List ℕ) (x : ScalarAt) (tag : TagInfo) (r : Resolved)
     → scalar_entry most text x tag r ≡ scalar_entry most text (as_read x) tag r
 any_number most text x tag r =
-    ap
-    (λ (m : Measure). entry (scalar_over x.start (x.start + m.len) x.place (length x.value) tag r) m.measured (answer_of most (list_at text x)))
-    (any_number_spans text x)
-    ∙ ap
-    (λ (l : Option (List Piece)). entry (scalar_node text (as_read x) tag r) (span_measure text (as_read x)).measured (answer_of most l))
-    (any_number_lists text x)
+    ap (λ (m : Measure). entry (scalar_over x.start m x.place (length x.value) tag r) (answer_of most (list_at text x))) (any_number_spans text x)
+    ∙ ap (λ (l : Option (List Piece)). entry (scalar_node text (as_read x) tag r) (answer_of most l)) (any_number_lists text x)

@@ -2,7 +2,7 @@
 use Rattle.std.specs.Prelude.{ℕ, ◌+◌, ◌-◌, ◌/◌, ◌%◌, Bool, true, false, ◌&&◌, not, cond, List, [], ◌∷◌, eqb, get_or, Some, unwrap_or}
 use Rattle.std.specs.Option.{option_or}
 use Rattle.schema.specs.Record.{two_numbers}
-use Rattle.records.specs.Record.{extent, no_list}
+use Rattle.records.specs.Record.{absent, extent, no_list}
 use Rattle.spans.specs.Scalar.{step_past, tag_info}
 use Rattle.records.specs.declared.record.Node.{Node}
 use Rattle.spans.specs.declared.open.Collection.{Collection}
@@ -81,7 +81,8 @@ collection_kind Mapping = hash
 unfoldable pub members : Open → ℕ
 members o = cond (is_mapping o.collection) (o.children / 2) o.children
 
--- the record of a collection that starts at byte s and ends at byte e, after n nodes; a negative length is 0 (S3)
+-- the record of a collection that starts at byte s and ends at byte e, after n nodes; a negative length is 0 (S3), and its span counts as
+-- measured (02, (c)); no parent yet
 unfoldable pub collection_over : List ℕ → Open → ℕ → ℕ → ℕ → Node
 collection_over text o s e n =
     record {
@@ -91,6 +92,8 @@ collection_over text o s e n =
       subtree = n - o.before + 1;
       list = no_list;
       payload = two_numbers (members o) 0;
+      parent = absent;
+      measured = 1;
     }
 
 -- of one whose end's marker stands at byte i

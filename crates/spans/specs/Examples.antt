@@ -9,7 +9,7 @@ use Rattle.schema.specs.Record.{two_numbers}
 use Rattle.measure.specs.Scalar.{plain, single_quoted}
 use Rattle.tag.specs.Tokens.{byte_length, chars_before, with_word, tokens, tokens_before}
 use Rattle.tag.specs.Tag.{openings, property, span_of, decide, first_tag, tag_before, guess, tag_span}
-use Rattle.records.specs.Record.{extent, no_tag, no_list}
+use Rattle.records.specs.Record.{absent, extent, no_tag, no_list}
 use Rattle.records.specs.declared.record.Node.{Node}
 use Rattle.spans.specs.Scalar.{mark, step_past, scalar_start, start_at, tag_info}
 use Rattle.spans.specs.Collection.{closes, array, hash, collection_end, collection_start, members, collection_over, collection_node}
@@ -24,7 +24,16 @@ opened collection i n f = record { collection = collection; start = i; suffix = 
 -- the record of one that ends after two children
 abbrev of_two : ℕ → ℕ → ℕ → ℕ → Node
 of_two kind a e members =
-    record { kind = kind; extent = extent a e; tag = no_tag; subtree = 3; list = no_list; payload = two_numbers members 0 }
+    record {
+      kind = kind;
+      extent = extent a e;
+      tag = no_tag;
+      subtree = 3;
+      list = no_list;
+      payload = two_numbers members 0;
+      parent = absent;
+      measured = 1;
+    }
 
 pub record Collections : Type 0 where
   -- a mapping on its brace starts there, and ends past the closing one; a sequence likewise

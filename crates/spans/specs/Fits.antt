@@ -8,7 +8,7 @@ use Rattle.schema.specs.declared.plain.Resolved.{Resolved}
 use Rattle.provenance.specs.Layout.{answer_of}
 use Rattle.records.specs.Record.{absent}
 use Rattle.records.specs.declared.record.TagInfo.{TagInfo}
-use Rattle.spans.specs.Scalar.{ScalarAt, span_measure, scalar_node, list_at, event_scalar, event_node}
+use Rattle.spans.specs.Scalar.{ScalarAt, scalar_node, list_at, event_scalar, event_node}
 use Rattle.spans.specs.declared.scalar.ScalarEntry.{ScalarEntry}
 use Rattle.spans.specs.declared.scalar.ScalarEvent.{ScalarEvent}
 
@@ -24,12 +24,11 @@ pub record EventFits (events : List ℕ) (e : ScalarEvent) : Type 0 where
   pub few : e.value.len ≤ text_limit
   pub short : length events ≤ events_limit
 
--- a scalar's record, whether its span was measured, and the answer of its walk, where so many pieces are let in
+-- a scalar's record and the answer of its walk, where so many pieces are let in
 abbrev pub scalar_entry : ℕ → List ℕ → ScalarAt → TagInfo → Resolved → ScalarEntry
-scalar_entry most text x tag r =
-    record { node = scalar_node text x tag r; measured = (span_measure text x).measured; walked = answer_of most (list_at text x) }
+scalar_entry most text x tag r = record { node = scalar_node text x tag r; walked = answer_of most (list_at text x) }
 
 abbrev pub event_entry : ℕ → List ℕ → List ℕ → ℕ → Bool → ScalarEvent → ScalarEntry
 event_entry most text events i awaited e =
     let x = event_scalar text events i awaited e in
-    record { node = event_node text events x e.tag; measured = (span_measure text x).measured; walked = answer_of most (list_at text x) }
+    record { node = event_node text events x e.tag; walked = answer_of most (list_at text x) }

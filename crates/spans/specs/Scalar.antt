@@ -5,7 +5,7 @@ use Rattle.utf8.specs.Boundary.{is_boundary}
 use Rattle.style.specs.Style.{style_number}
 use Rattle.text.specs.Offset.{byte_offset}
 use Rattle.schema.specs.Tag.{resolve_scalar}
-use Rattle.schema.specs.Record.{kind_number, payload_of}
+use Rattle.schema.specs.Record.{truth, kind_number, payload_of}
 use Rattle.schema.specs.declared.plain.Resolved.{Resolved}
 use Rattle.measure.specs.Length.{assumed}
 use Rattle.measure.specs.Scalar.{plain, scalar_measure, scalar_len}
@@ -17,7 +17,7 @@ use Rattle.provenance.specs.Start.{walk_start, scalar_list}
 use Rattle.event.specs.Read.{part_of}
 use Rattle.event.specs.declared.string.Part.{Part}
 use Rattle.event.specs.declared.tag.YamlTag.{YamlTag}
-use Rattle.records.specs.Record.{extent, no_tag, no_list}
+use Rattle.records.specs.Record.{absent, extent, no_tag, no_list}
 use Rattle.records.specs.declared.record.TagInfo.{TagInfo}
 use Rattle.records.specs.declared.record.Node.{Node}
 use Rattle.spans.specs.declared.open.Suffix.{Suffix}
@@ -114,13 +114,23 @@ tag_info text i (Some x) = with_span (tag_span text i x.len) x.place x.len
 unfoldable pub resolved_by : List ℕ → List ℕ → ℕ → Option YamlTag → Resolved
 resolved_by events value style tag = resolve_scalar value style (option_map (λ t. (part_of events t.handle, part_of events t.suffix)) tag)
 
--- the record of a scalar with no list: its bytes go from `start` to `end`, and its value, at `place`, has `len`
-unfoldable pub scalar_over : ℕ → ℕ → ℕ → ℕ → TagInfo → Resolved → Node
-scalar_over start end place len tag r =
-    record { kind = kind_number r; extent = extent start end; tag = tag; subtree = 1; list = no_list; payload = payload_of r place len }
+-- the record of a scalar: its span goes from `start` as far as `span` says, which also says whether it was measured; its value, at `place`, has
+-- `len` bytes; no list and no parent yet
+unfoldable pub scalar_over : ℕ → Measure → ℕ → ℕ → TagInfo → Resolved → Node
+scalar_over start span place len tag r =
+    record {
+      kind = kind_number r;
+      extent = extent start (start + span.len);
+      tag = tag;
+      subtree = 1;
+      list = no_list;
+      payload = payload_of r place len;
+      parent = absent;
+      measured = truth span.measured;
+    }
 
 abbrev pub scalar_node : List ℕ → ScalarAt → TagInfo → Resolved → Node
-scalar_node text x tag r = scalar_over x.start (x.start + span_len text x) x.place (length x.value) tag r
+scalar_node text x tag r = scalar_over x.start (span_measure text x) x.place (length x.value) tag r
 
 -- an event's scalar whose marker stands at byte i
 abbrev pub event_scalar : List ℕ → List ℕ → ℕ → Bool → ScalarEvent → ScalarAt

@@ -11,7 +11,7 @@ ghost use Rattle.spans.specs.Collection.{closes, collection_kind, members, colle
 
 use crate::open::{Collection, Open};
 use crate::scalar::{step_past, tag_info};
-use records::record::{Extent, NO_LIST, Node};
+use records::record::{ABSENT, Extent, NO_LIST, Node};
 use schema::record::{Kind, Payload};
 use text::admission::{Admitted, AdmittedPlace};
 use utf8::utf8::byte_at;
@@ -104,6 +104,8 @@ fn collection_over(start: AdmittedPlace<'_>, o: Open, end: usize, nodes: usize) 
             first: member_count(o),
             second: 0,
         },
+        parent: ABSENT,
+        measured: 1,
     }
 }
 

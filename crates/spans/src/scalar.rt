@@ -1,8 +1,8 @@
 // Scalars: their start, span, tag and pieces, what they are, and their record without pieces.
-// (01: Reading rules, Start; S1, N1, E2. 02: (b).)
+// (01: Reading rules, Start; S1, N1, E2. 02: (b), (c).)
 // Bounds in contracts are an index's (`at ≤ length text`) or a 32-bit number's (`≤ text_limit`): a type for each would be made and taken
 // apart at one call.
-ghost use Rattle.std.specs.Prelude.{◌≡◌, ◌≤◌, length};
+ghost use Rattle.std.specs.Prelude.{◌≡◌, ◌+◌, ◌≤◌, length};
 ghost use Rattle.style.specs.Style.{style_number};
 ghost use Rattle.text.specs.Admission.{text_limit};
 ghost use Rattle.event.specs.Proved.{TextParts};
@@ -14,10 +14,11 @@ ghost use Rattle.spans.specs.Fits.{TagFits, EventFits, scalar_entry, event_entry
 use crate::open::Suffix;
 use event::string::Part;
 use event::tag::YamlTag;
+use measure::length::Measure;
 use measure::scalar::scalar_len;
 use provenance::scalar::scalar_provenance;
 use provenance::walk::Walked;
-use records::record::{Extent, NO_LIST, NO_TAG, Node, TagInfo};
+use records::record::{ABSENT, Extent, NO_LIST, NO_TAG, Node, TagInfo};
 use schema::plain::Resolved;
 use schema::record::{kind_number, payload_of};
 use schema::tag::{Tag, resolve_scalar};
@@ -44,11 +45,10 @@ pub struct ScalarEvent {
     pub value: Part,
 }
 
-// A scalar's record, with no list yet, whether its span was measured, and what its walk answered.
+// A scalar's record, with no list yet, and what its walk answered.
 #[derive(Clone, Copy, Debug, PartialEq, Eq)]
 pub struct ScalarEntry {
     pub node: Node,
-    pub measured: bool,
     pub walked: Walked,
 }
 
@@ -128,34 +128,36 @@ fn resolve(events: &[u8], value: &[u8], style: Style, tag: Option<YamlTag>) -> R
     resolve_scalar(value, style, tag)
 }
 
-// The record of a scalar whose bytes go from `start` to `end`, its value of `len` bytes at `place`, with no list.
+// The record of a scalar: its span goes from `start` as far as `span` says, which also says whether it was measured; its value of `len`
+// bytes stands at `place`; no list and no parent yet.
 #[tactic(auto, unfolding(crate::specs::Scalar::scalar_over))]
 fn scalar_node(
     start: usize,
-    end: usize,
+    span: Measure,
     place: u32,
     len: usize,
     tag: TagInfo,
     resolved: Resolved,
 ) -> Node
-    requires { (start ≤ text_limit) × (end ≤ text_limit) × (len ≤ text_limit) }
-    ensures { result ≡ scalar_over start end place len tag resolved }
+    requires { (start + span.len ≤ text_limit) × (len ≤ text_limit) }
+    ensures { result ≡ scalar_over start span place len tag resolved }
 {
     Node {
         kind: kind_number(resolved),
         extent: Extent {
             start: start as u32,
-            end: end as u32,
+            end: (start + span.len) as u32,
         },
         tag,
         subtree: 1,
         list: NO_LIST,
         payload: payload_of(resolved, place, len as u32),
+        parent: ABSENT,
+        measured: span.measured.into(),
     }
 }
 
-// A scalar that starts at `start`: its record, whether its span was measured, and its walk, which leaves its pieces in a buffer that is
-// lent zero.
+// A scalar that starts at `start`: its record and its walk, which leaves its pieces in a buffer that is lent zero.
 pub fn walk_scalar(
     start: AdmittedPlace<'_>,
     m: ScalarMark,
@@ -173,13 +175,9 @@ pub fn walk_scalar(
     let rest = text.utf8().rest_from(at);
     let span = scalar_len(rest, value.utf8(), m.style, m.empty, column);
     let (text, value) = (text.bytes, value.bytes);
-    let node = scalar_node(at, at + span.len, place, value.len(), tag, resolved);
+    let node = scalar_node(at, span, place, value.len(), tag, resolved);
     let walked = scalar_provenance(text, at, span.len, value, m.style, column, pieces);
-    ScalarEntry {
-        node,
-        measured: span.measured,
-        walked,
-    }
+    ScalarEntry { node, walked }
 }
 
 // The scalar of an event whose marker stands at `at`, awaited as a mapping's value or not.

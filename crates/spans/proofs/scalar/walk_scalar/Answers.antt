@@ -39,24 +39,21 @@ module _ (c : After-scalar_len-span) where
       ∙ ap (λ (k : Measure). scalar_list text_now scalar_now.start k.len scalar_now.value scalar_now.style scalar_now.column)
       (sym measure_is)
 
-pub overflow_add-at : goal.overflow_add-at
-overflow_add-at c = omega (arith, ends_within (goal.at.overflow_add-at c).After-scalar_len-span, c.args.start.text.within)
-
 pub scalar_node-node-requires : goal.scalar_node-node-requires
 scalar_node-node-requires c =
     let w = ends_within (goal.at.scalar_node-node-requires c).After-scalar_len-span in
     let l = c.args.start.text.within in
-    (omega arith, omega arith, c.args.value.within)
+    (omega arith, c.args.value.within)
 
 pub scalar_provenance-walked-requires-clause-inside : goal.scalar_provenance-walked-requires-clause-inside
 scalar_provenance-walked-requires-clause-inside c =
     ends_within (goal.at.scalar_provenance-walked-requires-clause-inside c).After-scalar_len-span
 
--- record, flag and walk are those of the definitions
+-- record and walk are those of the definitions
 entry_is : (most : ℕ) (text : List ℕ) (x : ScalarAt) (tag : TagInfo) (r : Resolved) (k : Measure) (y : Node) (w : Walked)
-    → k ≡ span_measure text x → y ≡ scalar_over x.start (x.start + k.len) x.place (length x.value) tag r
+    → k ≡ span_measure text x → y ≡ scalar_over x.start k x.place (length x.value) tag r
     → w ≡ answer_of most (list_at text x)
-    → record { node = y; measured = k.measured; walked = w } ≡ scalar_entry most text x tag r
+    → record { node = y; walked = w } ≡ scalar_entry most text x tag r
 entry_is most text x tag r k y w ek ey ew = rw (ey, ew, ek) refl
 
 pub returns-clause-value : goal.returns-clause-value
