@@ -20,6 +20,7 @@ use Rattle.text.specs.Admission.{admission, admission_of_both}
 use Rattle.text.specs.declared.admission.TextError.{TextError}
 use Rattle.text.specs.declared.admission.TextError.TheVariants.{TooLong, NotUtf8}
 use Rattle.style.specs.Style.{folded}
+use Rattle.records.proofs.ParentLaws.{parented-length}
 use Rattle.records.specs.Record.{with_list}
 use Rattle.spans.specs.Scalar.{Mark, ScalarAt, scalar_at}
 use Rattle.spans.specs.Collection.{closes}
@@ -29,7 +30,7 @@ use Rattle.parser.specs.Machine.{on_read, next_place, ending, follow, run, run_a
 use Rattle.parser.proofs.RunLaws.{onward, stop_not_go}
 use Rattle.parser.specs.Bounds.{last_number, Bounded}
 use Rattle.records.specs.Layout.{record_room, piece_room, piece_limit}
-use Rattle.parser.specs.Call.{admitted, building, one_scalar, scalar_call}
+use Rattle.parser.specs.Call.{admitted, with_parents, building, one_scalar, scalar_call}
 use Rattle.records.specs.declared.record.Node.{Node}
 use Rattle.spans.specs.declared.open.Collection.{Collection}
 use Rattle.spans.specs.declared.open.Collection.TheVariants.{Sequence, Mapping}
@@ -154,6 +155,10 @@ admitted_bounded n r (Ok ascii) o h = h
 admitted_bounded n r (Err TooLong) o h = (omega arith, omega arith)
 admitted_bounded n r (Err NotUtf8) o h = (omega arith, omega arith)
 
+parents_bounded : (n r : ℕ) (o : Outcome) → Bounded n r o → Bounded n r (with_parents o)
+parents_bounded n r (built xs ps) h = (let e = parented-length xs 0 in let l = h.0 in omega arith, h.1)
+parents_bounded n r (refused number place) h = h
+
 room_limited : (size : ℕ) → piece_room size ≤ piece_limit
 room_limited size = omega arith
 
@@ -165,12 +170,13 @@ building_bounded text events size pieces_size bytes = by (ltb events_limit (leng
     all : Outcome
     all = run text events (record_room size) (piece_room pieces_size) (length events) 0 0 empty
 
-    by : (t : Bool) → ltb events_limit (length events) ≡ t → Bounded events_limit piece_limit (cond t (refused 1 0) (admitted (admission text) all))
+    by : (t : Bool) → ltb events_limit (length events) ≡ t → Bounded events_limit piece_limit (cond t (refused 1 0) (admitted (admission text) (with_parents all)))
     by true e = (omega arith, omega arith)
     by false e =
-        admitted_bounded events_limit piece_limit (admission text) all
+        admitted_bounded events_limit piece_limit (admission text) (with_parents all)
+        (parents_bounded events_limit piece_limit all
         (bounded_wider (length events) events_limit (piece_room pieces_size) piece_limit all (ltb-false events_limit (length events) e) (room_limited pieces_size)
-        (run_bounded text events bytes (record_room size) (piece_room pieces_size) (length events) 0 0 empty (omega arith, omega arith) (omega arith) (omega arith)))
+        (run_bounded text events bytes (record_room size) (piece_room pieces_size) (length events) 0 0 empty (omega arith, omega arith) (omega arith) (omega arith))))
 
 one_bounded : (r : ℕ) (t : Bool) (n : Next) → Stepped 1 r n → Bounded 1 r (cond t (refused 3 0) (follow n (λ (st : State). built st.nodes st.pieces) 0))
 one_bounded r true n g = (omega arith, omega arith)

@@ -5,7 +5,7 @@ use mathlib.Core.Bool.{Bool, true, false, cond}
 use mathlib.Core.Logic.{◌⊎◌, inl, inr}
 use mathlib.Core.List.{List, [], ◌∷◌, ◌++◌, append-nil, append_assoc}
 use Rattle.std.specs.Prelude.{is_some, Some, None, Option, Result, Ok, Err}
-use Prim.Native.Nat.{ℕ, ◌+◌, ◌-◌, ◌*◌, ◌≤◌, ◌<◌}
+use Prim.Native.Nat.{ℕ, zero, suc, ◌+◌, ◌-◌, ◌*◌, ◌≤◌, ◌<◌}
 use native.Mathlib.Omega.{arith}
 use borrow.Author.Tests.{lt-ltb, le-ltb, lt-leb, le-leb, ltb-true, ltb-false, leb-false, ne_eqb}
 use lib.Dec.{ltb, leb, eqb}
@@ -23,9 +23,9 @@ use Rattle.utf8.proofs.Utf8Laws.{utf8_complete}
 use Rattle.style.specs.Style.{plain, folded, style_number, style_of}
 use Rattle.style.specs.StyleLaws.{known_back}
 use Rattle.schema.specs.Tag.{resolve_scalar}
+use Rattle.schema.specs.Record.{truth}
 use Rattle.schema.specs.declared.plain.Resolved.{Resolved}
 use Rattle.measure.specs.Scalar.{scalar_measure}
-use Rattle.measure.specs.Measured.{SaysMeasured}
 use Rattle.measure.proofs.MeasuredLaws.{scalar_says}
 use Rattle.measure.specs.declared.length.Measure.{Measure}
 use Rattle.utf8.specs.Ascii.{Bytes}
@@ -51,17 +51,18 @@ use Rattle.provenance.proofs.DemandLaws.{listed_only, listed_if, demand3}
 use Rattle.provenance.specs.declared.step.Step.{Step}
 use Rattle.provenance.specs.declared.walk.Walked.{Walked}
 use Rattle.provenance.specs.declared.walk.Walked.TheVariants.{Listed, NoRoom, NoList}
-use Rattle.records.specs.Record.{absent, extent, no_tag, no_list, piece_list, with_list}
-use Rattle.spans.specs.Scalar.{Mark, mark, start_at, scalar_at, walk_first, suffix_of, tag_info, resolved_by, scalar_over, scalar_node, event_node}
+use Rattle.records.specs.Record.{absent, extent, no_tag, no_list, piece_list, with_list, with_parent}
+use Rattle.records.specs.Parent.{holder, or_absent, parented}
+use Rattle.spans.specs.Scalar.{Mark, mark, start_at, scalar_at, walk_first, suffix_of, tag_info, resolved_by, span_measure, scalar_over, scalar_node, event_node}
 use Rattle.spans.specs.Collection.{awaits_value, closes}
 use Rattle.parser.specs.Machine.{State, empty, Next, go, stop, Outcome, built, refused, depth_limit, root_done, before_root, within_depth, within_room, completed, on_start, ended, on_end, on_alias, keeping}
 use Rattle.parser.specs.Machine.{scalar_kept, on_scalar, on_read, follow, ending, run, run_all}
-use Rattle.parser.proofs.RunLaws.{stop_not_go, run_stopped, run_enough}
+use Rattle.parser.proofs.RunLaws.{stop_not_go, run_stopped, run_enough, parents_built, parents_refused}
 use Rattle.parser.specs.EventRun.{reached, run_events, malformed, EventsAsList}
 use Rattle.records.specs.Layout.{record_room, piece_room}
 use Rattle.parser.specs.Call as call
-use Rattle.parser.specs.Call.{record_of, measured_after, admitted, building, one_scalar, scalar_measured, scalar_call}
-use Rattle.parser.specs.Demand.{resolved_as, scalar_of, EntrySays, TagSays, walked_by, read_pieces, list_in, number_of, walked_in, ScalarDemand3, ScalarRecord, ScalarFlag, has_list, MeasuredPlain, Consecutive, ScalarListed, ListsBuilt, NoRoomAt, BuildDemand3}
+use Rattle.parser.specs.Call.{record_of, admitted, with_parents, building, one_scalar, scalar_call}
+use Rattle.parser.specs.Demand.{resolved_as, scalar_of, EntrySays, TagSays, walked_by, read_pieces, list_in, number_of, walked_in, ScalarDemand3, ScalarRecord, has_list, MeasuredPlain, Consecutive, ScalarListed, ListsBuilt, NoRoomAt, BuildDemand3}
 use Rattle.records.specs.declared.record.Extent.{Extent}
 use Rattle.records.specs.declared.record.TagInfo.{TagInfo}
 use Rattle.records.specs.declared.record.Node.{Node}
@@ -69,7 +70,7 @@ use Rattle.records.specs.declared.record.PieceList.{PieceList}
 use Rattle.spans.specs.declared.open.Collection.{Collection}
 use Rattle.spans.specs.declared.open.Collection.TheVariants.{Sequence, Mapping}
 use Rattle.spans.specs.declared.open.Open.{Open}
-use Rattle.spans.proofs.SpanLaws.{start_boundary, span_from, pieces_are, measured_list, measured_pieces_end}
+use Rattle.spans.proofs.SpanLaws.{start_boundary, span_from, node_measured, pieces_are, measured_list, measured_pieces_end}
 use Rattle.parser.proofs.Pieces.{filled_none}
 use Rattle.parser.proofs.EventRun.{go_is, stop_is, refused_not_built, in_order_lem, events_as_list, over_through, passing, StoppedAt, stopped_at}
 use Rattle.parser.proofs.Growths.{gate, past_root, past_room, Grown, run_grown}
@@ -98,6 +99,11 @@ module _ (text : List ℕ) (sound : AdmittedText text) (awaited : Bool) (m : Mar
         tag = ap (λ (y : Node). y.tag) e;
         subtree = ap (λ (y : Node). y.subtree) e;
         payload = ap (λ (y : Node). y.payload) e;
+        measured = (
+          (scalar_measure (drop (start_at text awaited m value) text) value m.style m.empty m.column).measured,
+          ap (λ (y : Node). y.measured) e ∙ node_measured text (scalar_at text awaited m value place) t r (start_boundary text sound.utf8 awaited m value),
+          scalar_says (drop (start_at text awaited m value) text) value m.style m.empty m.column,
+        );
       }
 
 -- ---- what a record's list finds in the buffer
@@ -246,6 +252,10 @@ answered l most (Some ps) e = by (eqb l.first absent) refl (leb (length ps) most
     by false f true g e = record { list = rw f refl; found = λ h. rw g refl }
     by false f false g e = absurd (let z : ◌≡◌ {A = ℕ} 1 2 = ap told e in omega arith)
 
+truth_one : (t : Bool) → truth t ≡ 1 → t ≡ true
+truth_one true e = refl
+truth_one false e = absurd (omega arith)
+
 both_admitted : (text value : List ℕ) → AdmittedText text → AdmittedText value → admission_of_both text value ≡ Ok (is_ascii text)
 unfolding admission_of_both
 both_admitted text value s v =
@@ -291,39 +301,29 @@ module _ (text : List ℕ) (sound : AdmittedText text) (m : Mark) (value : List 
       by true f = absurd (refused_not_built 8 0 xs ps f)
       by false f = refl
 
+  record_is : (xs : List Node) (ps : List Piece) → scalar_call text m value size ≡ built xs ps → with_list (record_of (scalar_call text m value size)) absent 0 ≡ with_list alone_node absent 0
+  record_is xs ps e = ap (λ (o : Outcome). with_list (record_of o) absent 0) scalar_is ∙ alone_same _ xs ps (sym scalar_is ∙ e)
+
   -- and its record, or zeros
   pub scalar_record : ScalarRecord text m value (scalar_call text m value size)
+  unfolding scalar_over
   scalar_record =
       record {
-        entry = λ xs ps e. entry_says text sound false m value 0 no_tag (resolve_scalar value m.style None) _
-            (ap (λ (o : Outcome). with_list (record_of o) absent 0) scalar_is ∙ alone_same _ xs ps (sym scalar_is ∙ e));
+        entry = λ xs ps e. entry_says text sound false m value 0 no_tag (resolve_scalar value m.style None) _ (record_is xs ps e);
+        parent = λ xs ps e. ap (λ (y : Node). y.parent) (record_is xs ps e);
         zero = λ number place e. ap record_of e;
       }
 
   kept_alone_lem : KeptAlone size (found text sound false m value) (scalar_call text m value size)
   kept_alone_lem = subst (λ (out : Outcome). KeptAlone size (found text sound false m value) out) (sym scalar_is) (alone size alone_node alone_no_list _)
 
-  -- and its flag
-  pub scalar_flag : ScalarFlag text m value (scalar_call text m value size) (measured_after (scalar_call text m value size) (scalar_measured text m value))
-  unfolding scalar_measured
-  scalar_flag =
-      record {
-        says = λ xs ps e.
-            let rest = drop (start_at text false m value) text in
-            let is : scalar_measured text m value ≡ (scalar_measure rest value m.style m.empty m.column).measured =
-            ap (λ (k : Measure). k.measured) (span_from text (scalar_at text false m value 0) (start_boundary text sound.utf8 false m value)) in
-            subst (λ (t : Bool). SaysMeasured rest value m.style t)
-            (sym (ap (λ (o : Outcome). measured_after o (scalar_measured text m value)) e ∙ is))
-            (scalar_says rest value m.style m.empty m.column);
-        no = λ number place e. ap (λ (o : Outcome). measured_after o (scalar_measured text m value)) e;
-      }
-
   -- what the flag says of a plain scalar's list
-  pub measured_plain : m.style ≡ plain → (xs : List Node) (ps : List Piece) → scalar_call text m value size ≡ built xs ps → scalar_measured text m value ≡ true
+  pub measured_plain : m.style ≡ plain → (xs : List Node) (ps : List Piece) → scalar_call text m value size ≡ built xs ps → (record_of (scalar_call text m value size)).measured ≡ 1
       → MeasuredPlain text m value size (scalar_call text m value size)
-  unfolding scalar_measured
-  measured_plain is_plain xs ps e flag =
+  unfolding scalar_over
+  measured_plain is_plain xs ps e one =
       let x = scalar_at text false m value 0 in
+      let flag : (span_measure text x).measured ≡ true = truth_one (span_measure text x).measured (sym (ap (λ (y : Node). y.measured) (record_is xs ps e)) ∙ one) in
       let on = start_boundary text sound.utf8 false m value in
       let are = pieces_are text sound.utf8 false m value 0 in
       let walked : walked_by (record_of (scalar_call text m value size)).list ≡ answer_of (piece_room size) (found text sound false m value) =
@@ -339,6 +339,42 @@ module _ (text : List ℕ) (sound : AdmittedText text) (m : Mark) (value : List 
             ∙ (omega arith);
       }
 
+-- ---- nodes with their parents
+
+-- the nodes from number k on
+drop-parented : (k n : ℕ) (xs : List Node) → drop k (parented n xs) ≡ parented (n + k) (drop k xs)
+unfolding parented
+drop-parented zero n xs = let e : n + 0 ≡ n = omega arith in rw e
+drop-parented (suc k) n [] = refl
+drop-parented (suc k) n (x ∷ xs) = let e : n + 1 + k ≡ n + suc k = omega arith in drop-parented k (n + 1) xs ∙ ap (λ (m : ℕ). parented m (drop k xs)) e
+
+consecutive_parented : (n a e : ℕ) (xs : List Node) → Consecutive a xs e → Consecutive a (parented n xs) e
+unfolding parented Consecutive
+consecutive_parented n a e [] c = c
+consecutive_parented n a e (x ∷ xs) (inl c) = inl (c.0, consecutive_parented (n + 1) a e xs c.1)
+consecutive_parented n a e (x ∷ xs) (inr c) = inr (c.0, c.1, consecutive_parented (n + 1) (a + x.list.count) e xs c.2)
+
+-- a parent changes nothing of what a scalar's record says
+listed_parented : (text events : List ℕ) (room most : ℕ) (before : List YamlEvent) (m : Mark) (tag : Tag) (value : List ℕ) (xs : List Node) (p : List ℕ)
+    → ScalarListed text events room most before m tag value xs p → ScalarListed text events room most before m tag value (parented 0 xs) p
+unfolding parented
+listed_parented text events room most before m tag value xs p l =
+    let n = 0 + length l.st.nodes in
+    let x = l.entry in
+    record {
+      st = l.st;
+      let_through = l.let_through;
+      node = with_parent l.node (or_absent (holder (n + 1) 1 l.later));
+      later = parented (n + 1) l.later;
+      place = drop-parented (length l.st.nodes) 0 xs ∙ ap (parented n) l.place;
+      value_place_is = l.value_place_is;
+      value_there = l.value_there;
+      tag_info_is = l.tag_info_is;
+      tag_there = l.tag_there;
+      entry = record { kind = x.kind; span = x.span; tag = x.tag; subtree = x.subtree; payload = x.payload; measured = x.measured };
+      demand3 = l.demand3;
+    }
+
 -- ---- a document: the calls' first rows
 
 module _ (text events : List ℕ) (size pieces_size : ℕ) where
@@ -349,19 +385,20 @@ module _ (text events : List ℕ) (size pieces_size : ℕ) where
   pub record Passed (o : Outcome) : Type 0 where
     pub events_short : length events ≤ events_limit
     pub text_sound : AdmittedText text
-    pub runs : all ≡ o
+    pub runs : with_parents all ≡ o
 
   admitted_or : (o : Outcome) → building text events size pieces_size ≡ o → (o ≡ refused 1 0) ⊎ (o ≡ refused 2 0) ⊎ Passed o
   unfolding building
   admitted_or o e = by (ltb events_limit (length events)) refl (admission text) refl e
     where
-      by : (t : Bool) → ltb events_limit (length events) ≡ t → (a : Result Bool TextError) → admission text ≡ a → cond t (refused 1 0) (admitted a all) ≡ o → (o ≡ refused 1 0) ⊎ (o ≡ refused 2 0) ⊎ Passed o
+      by : (t : Bool) → ltb events_limit (length events) ≡ t → (a : Result Bool TextError) → admission text ≡ a
+          → cond t (refused 1 0) (admitted a (with_parents all)) ≡ o → (o ≡ refused 1 0) ⊎ (o ≡ refused 2 0) ⊎ Passed o
       by true l a ad f = inl (sym f)
       by false l (Err TooLong) ad f = inl (sym f)
       by false l (Err NotUtf8) ad f = inr (inl (sym f))
       by false l (Ok x) ad f = inr (inr (record { events_short = ltb-false events_limit (length events) l; text_sound = admitted_text text x ad; runs = f }))
 
-  building_runs : length events ≤ events_limit → AdmittedText text → building text events size pieces_size ≡ all
+  building_runs : length events ≤ events_limit → AdmittedText text → building text events size pieces_size ≡ with_parents all
   unfolding building admission
   building_runs l s = rw (le-ltb events_limit (length events) l, le-ltb text_limit (length text) s.within, utf8_complete s.utf8) refl
 
@@ -638,20 +675,26 @@ module _ (text events : List ℕ) (size pieces_size : ℕ) where
     as_list = events_as_list text events records_in most bytes front.events front.rest front.sound front.bytes
 
     lists_built : (xs : List Node) (ps : List Piece) → Passed text events size pieces_size (built xs ps) → ListsBuilt text events size pieces_size xs ps
-    lists_built xs ps p = by front.ends
+    lists_built xs ps p = by front.ends (parents_built (all text events size pieces_size) xs ps p.runs)
       where
-        by : (front.rest ≡ []) ⊎ ((0 < length front.rest) × ((e : YamlEvent) → StandsAt events (length (encode_events front.events)) e → ⊥)) → ListsBuilt text events size pieces_size xs ps
-        by (inl none_left) =
-            let runs : run_events text events records_in most ending 0 0 front.events empty ≡ built xs ps = sym (as_list.whole none_left) ∙ p.runs in
+        by : (front.rest ≡ []) ⊎ ((0 < length front.rest) × ((e : YamlEvent) → StandsAt events (length (encode_events front.events)) e → ⊥))
+            → (ys : List Node) × (all text events size pieces_size ≡ built ys ps) × (parented 0 ys ≡ xs) → ListsBuilt text events size pieces_size xs ps
+        by (inl none_left) (ys, all-is, are) =
+            let runs : run_events text events records_in most ending 0 0 front.events empty ≡ built ys ps = sym (as_list.whole none_left) ∙ all-is in
             let is : events ≡ encode_events front.events = front.bytes ∙ ap (λ (l : List ℕ). encode_events front.events ++ l) none_left ∙ append-nil (encode_events front.events) in
             record {
               list = front.events;
               sound = front.sound;
               bytes = is;
-              each = each_scalar p.text_sound front.events front.sound is xs ps runs;
-              all_pieces = lists_all p.text_sound front.events front.sound is xs ps runs;
+              each = λ before after m tag value split.
+                  subst (λ (l : List Node). ScalarListed text events records_in most before m tag value l (laid_pieces pieces_size ps)) are
+                  (listed_parented text events records_in most before m tag value ys (laid_pieces pieces_size ps)
+                  (each_scalar p.text_sound front.events front.sound is ys ps runs before after m tag value split));
+              all_pieces =
+                  subst (λ (l : List Node). Consecutive 0 l (length ps)) are
+                  (consecutive_parented 0 0 (length ps) ys (lists_all p.text_sound front.events front.sound is ys ps runs));
             }
-        by (inr faulty) = absurd (never_built 0 0 front.events empty xs ps (sym (as_list.faulty faulty.0 faulty.1) ∙ p.runs))
+        by (inr faulty) (ys, all-is, are) = absurd (never_built 0 0 front.events empty ys ps (sym (as_list.faulty faulty.0 faulty.1) ∙ all-is))
 
     -- ---- row 8
 
@@ -710,8 +753,8 @@ module _ (text events : List ℕ) (size pieces_size : ℕ) where
     no_room_found k p = by front.ends
       where
         by : (front.rest ≡ []) ⊎ ((0 < length front.rest) × ((e : YamlEvent) → StandsAt events (length (encode_events front.events)) e → ⊥)) → NoRoomAt text events size pieces_size k
-        by (inl none_left) = no_room_here k p (stopped_at text events records_in most ending 8 ending_no_8 0 0 front.events empty k (sym (as_list.whole none_left) ∙ p.runs))
-        by (inr faulty) = no_room_here k p (stopped_at text events records_in most malformed 8 malformed_no_8 0 0 front.events empty k (sym (as_list.faulty faulty.0 faulty.1) ∙ p.runs))
+        by (inl none_left) = no_room_here k p (stopped_at text events records_in most ending 8 ending_no_8 0 0 front.events empty k (sym (as_list.whole none_left) ∙ parents_refused (all text events size pieces_size) 8 k p.runs))
+        by (inr faulty) = no_room_here k p (stopped_at text events records_in most malformed 8 malformed_no_8 0 0 front.events empty k (sym (as_list.faulty faulty.0 faulty.1) ∙ parents_refused (all text events size pieces_size) 8 k p.runs))
 
     no_room_refused : (k : ℕ) → NoRoomAt text events size pieces_size k → building text events size pieces_size ≡ refused 8 k
     unfolding run_all
@@ -737,10 +780,11 @@ module _ (text events : List ℕ) (size pieces_size : ℕ) where
         let num = n.number in
         let numbered : 0 + length n.before ≡ k = omega arith in
         building_runs text events size pieces_size n.events_short n.text_sound
-        ∙ in_order_lem text events records_in most last i (λ f m st h. run_enough text events bytes records_in most f (length events) i m st h (omega arith)) (length events) 0 0 n.before empty stand (omega arith)
+        ∙ ap with_parents (
+        in_order_lem text events records_in most last i (λ f m st h. run_enough text events bytes records_in most f (length events) i m st h (omega arith)) (length events) 0 0 n.before empty stand (omega arith)
         ∙ over_through text events records_in most last 0 0 n.before empty n.st n.let_through
         ∙ run_stopped text events records_in most (length events) i (0 + length n.before) 8 n.st (omega arith) (omega arith) (ap (λ (e : Result (Event × ℕ) Malformed). on_read text events records_in most e n.st) read ∙ stops)
-        ∙ ap (refused 8) numbered
+        ∙ ap (refused 8) numbered)
 
     -- demand 3 of every scalar event of a document
     pub build_demand3 : BuildDemand3 text events size pieces_size

@@ -31,7 +31,7 @@ use Rattle.records.specs.declared.record.Node.{Node}
 use Rattle.parser.proofs.Room.{next_placed}
 use Rattle.parser.specs.EventRun.{go_on, reached, run_events, malformed, EventsAsList, FaultyBytes}
 use Rattle.records.specs.Layout.{record_room, piece_room}
-use Rattle.parser.specs.Call.{building}
+use Rattle.parser.specs.Call.{with_parents, building}
 
 pub go_is : (a b : State) → go a ≡ go b → a ≡ b
 go_is a b e = cc
@@ -225,6 +225,6 @@ faulty_bytes text events size pieces_size bytes es rest ok is some bad = by (ltb
         record {
           number = r.0;
           place = r.1;
-          refuses = rw (l, ad) (runs ∙ r.2);
+          refuses = rw (l, ad) (ap with_parents (runs ∙ r.2));
           rows = ⊎_elim (λ w. inr (inr (inl (w.0, omega arith)))) (λ w. inr (inr (inr (omega arith)))) r.3;
         }

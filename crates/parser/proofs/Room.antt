@@ -29,7 +29,7 @@ use Rattle.spans.specs.Collection.{closes}
 use Rattle.parser.specs.Machine.{State, empty, Next, go, stop, Outcome, built, refused, depth_limit, root_done, before_root, within_depth, within_room}
 use Rattle.parser.specs.Machine.{on_start, ended, on_end, on_alias, keeping, scalar_kept, on_scalar, on_read, next_place, ending, follow, run, run_all}
 use Rattle.records.specs.Layout.{record_room, piece_room}
-use Rattle.parser.specs.Call.{admitted, building}
+use Rattle.parser.specs.Call.{admitted, with_parents, building}
 use Rattle.parser.proofs.BoundLaws.{Holding, Stepped, stepped}
 use Rattle.records.specs.declared.record.Node.{Node}
 use Rattle.spans.specs.declared.open.Collection.{Collection}
@@ -143,6 +143,10 @@ admitted_fits (Ok ascii) o h = h
 admitted_fits (Err TooLong) o h = λ e. omega arith
 admitted_fits (Err NotUtf8) o h = λ e. omega arith
 
+parents_fit : (o : Outcome) → Fits o → Fits (with_parents o)
+parents_fit (built xs ps) h = tt
+parents_fit (refused number place) h = h
+
 -- ---- the call
 
 -- with room for a record to each seven event bytes row 7 never refuses, whatever the text and the room for pieces
@@ -154,8 +158,8 @@ room_enough text events size pieces_size bytes enough k e = (rw e at (by (ltb ev
     all : Outcome
     all = run text events (record_room size) (piece_room pieces_size) (length events) 0 0 empty
 
-    by : (t : Bool) → Fits (cond t (refused 1 0) (admitted (admission text) all))
+    by : (t : Bool) → Fits (cond t (refused 1 0) (admitted (admission text) (with_parents all)))
     by true = λ e. omega arith
     by false =
-        admitted_fits (admission text) all
-        (run_fits text events bytes (record_room size) (piece_room pieces_size) enough (length events) 0 0 empty (omega arith, omega arith) (omega arith))
+        admitted_fits (admission text) (with_parents all)
+        (parents_fit all (run_fits text events bytes (record_room size) (piece_room pieces_size) enough (length events) 0 0 empty (omega arith, omega arith) (omega arith)))

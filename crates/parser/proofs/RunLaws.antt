@@ -1,5 +1,5 @@
--- The equations of the run, by what its step says, and that the number it counts down does not matter where it is enough. Nothing else
--- looks at that number. From `leads_on` on it is assumed that the events are bytes.
+-- The equations of the run, by what its step says, that the number it counts down does not matter where it is enough (nothing else looks at
+-- that number), and what the parents change. From `leads_on` to `run_enough` it is assumed that the events are bytes.
 use Rattle.std.specs.Prelude.{◌≡◌, List, length, Result, Ok, Err}
 use Rattle.std.proofs.Math.Path.{refl}
 use Rattle.std.proofs.Common.{sym, ap, ◌∙◌, lt-ltb, le-ltb}
@@ -14,7 +14,11 @@ use Rattle.event.specs.declared.read.Event.{Event}
 use Rattle.event.specs.declared.malformed.Malformed.{Malformed}
 use Rattle.event.specs.Read as read
 use Rattle.event.specs.declared.read.Event.TheVariants.{SequenceStart, SequenceEnd, MappingStart, MappingEnd, Scalar, Alias}
-use Rattle.parser.specs.Machine.{State, Next, go, stop, refused, on_read, next_place, ending, run}
+use Rattle.parser.specs.Machine.{State, Next, go, stop, Outcome, built, refused, on_read, next_place, ending, run}
+use Rattle.parser.specs.Call.{with_parents}
+use Rattle.provenance.specs.Reading.{Piece}
+use Rattle.records.specs.Parent.{parented}
+use Rattle.records.specs.declared.record.Node.{Node}
 
 module _ (text events : List ℕ) (room piece_room : ℕ) where
   -- no event is left
@@ -80,3 +84,14 @@ module _ (text events : List ℕ) (bytes : Bytes events) (room piece_room : ℕ)
       by : Dec (i < length events) → Same f g (k + 1) → run text events room piece_room (suc f) i k st ≡ run text events room piece_room (suc g) i k st
       by (yes l) rest = more rest l (on_read text events room piece_room (read_event events i) st) refl
       by (no l) rest = run_ended text events room piece_room (suc f) i k st (omega arith) ∙ sym (run_ended text events room piece_room (suc g) i k st (omega arith))
+
+-- ---- nodes with their parents
+
+-- what is built was built before the parents were known, and what is refused was refused
+pub parents_built : (o : Outcome) (xs : List Node) (ps : List Piece) → with_parents o ≡ built xs ps → (ys : List Node) × (o ≡ built ys ps) × (parented 0 ys ≡ xs)
+parents_built (built ys qs) xs ps e = let a : qs ≡ ps = cc in let b : parented 0 ys ≡ xs = cc in (ys, ap (built ys) a, b)
+parents_built (refused m k) xs ps e = absurd (let z : ◌≡◌ {A = ℕ} 0 1 = cc in omega arith)
+
+pub parents_refused : (o : Outcome) (m k : ℕ) → with_parents o ≡ refused m k → o ≡ refused m k
+parents_refused (built ys qs) m k e = absurd (let z : ◌≡◌ {A = ℕ} 0 1 = cc in omega arith)
+parents_refused (refused j l) m k e = e

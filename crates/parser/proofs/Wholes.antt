@@ -25,11 +25,11 @@ use Rattle.records.specs.Record.{no_tag}
 use Rattle.records.specs.Layout.{pieces_limit, record_room, piece_room}
 use Rattle.records.specs.LayoutLaws.{take-replicate}
 use Rattle.records.specs.declared.record.Node.{Node}
-use Rattle.spans.specs.Scalar.{Mark, scalar_from, scalar_start, span_measure, list_at, tag_info, resolved_by, event_node}
+use Rattle.spans.specs.Scalar.{Mark, scalar_from, scalar_start, list_at, tag_info, resolved_by, event_node}
 use Rattle.spans.specs.Fits.{scalar_entry}
 use Rattle.spans.specs.declared.scalar.ScalarEntry.{ScalarEntry}
 use Rattle.parser.specs.Machine.{State, empty, Outcome, built, refused, completed, keeping, scalar_kept, follow, run_all}
-use Rattle.parser.specs.Call.{row_number, building, one_scalar, scalar_measured, scalar_call, Delivered, DeliveredScalar}
+use Rattle.parser.specs.Call.{row_number, with_parents, building, one_scalar, scalar_call, Delivered, DeliveredScalar}
 use Rattle.parser.specs.Held.{Filled, Refuses, Counted, alone_answer}
 use Rattle.parser.specs.declared.answer.Refusal.{Refusal}
 use Rattle.parser.specs.declared.answer.Refusal.TheVariants.{Malformed}
@@ -71,7 +71,7 @@ module _ (text events : List ℕ) where
 
   module _ (size pieces_size : ℕ) (b p : List ℕ) where
     pub let_in : length events ≤ events_limit → (ascii : Bool) (r : Result Built Refused) → admission text ≡ Ok ascii
-        → Delivered size pieces_size (run_all text events (record_room size) (piece_room pieces_size)) r b p → Delivered size pieces_size (building text events size pieces_size) r b p
+        → Delivered size pieces_size (with_parents (run_all text events (record_room size) (piece_room pieces_size))) r b p → Delivered size pieces_size (building text events size pieces_size) r b p
     unfolding building
     let_in l ascii r e h = rw (le-ltb events_limit (length events) l, e) h
 
@@ -98,56 +98,52 @@ module _ (size : ℕ) (small : size ≤ pieces_limit) (q : List ℕ) (len : leng
   alone_counted o NoList e f = tt
   alone_counted o (Listed n) e f = listed_few o n (walks_of size o (Listed n) q e f)
 
-  alone_kept : (y : Node) (t : Bool) (o : Option (List Piece)) (w : Walked) → Walks size o w q
-      → DeliveredScalar size (follow (keeping (piece_room size) y o empty) outcome 0) t (alone_answer (record { node = y; measured = t; walked = w })) q
+  alone_kept : (y : Node) (o : Option (List Piece)) (w : Walked) → Walks size o w q
+      → DeliveredScalar size (follow (keeping (piece_room size) y o empty) outcome 0) (alone_answer (record { node = y; walked = w })) q
   unfolding keeping completed
-  alone_kept y t None NoRoom w = absurd w
-  alone_kept y t (Some ps) NoRoom w =
+  alone_kept y None NoRoom w = absurd w
+  alone_kept y (Some ps) NoRoom w =
       let a = w.0 in
-      rw (lt-ltb (piece_room size) (0 + length ps) (omega arith)) (record { answer = refl; one_record = refl; flag = refl; all_pieces = w.1 })
-  alone_kept y t None NoList w = record { answer = refl; one_record = refl; flag = refl; all_pieces = w ∙ sym (filled_none size) }
-  alone_kept y t (Some ps) NoList w = absurd w
-  alone_kept y t None (Listed n) w = absurd w
-  alone_kept y t (Some ps) (Listed n) w =
+      rw (lt-ltb (piece_room size) (0 + length ps) (omega arith)) (record { answer = refl; one_record = refl; all_pieces = w.1 })
+  alone_kept y None NoList w = record { answer = refl; one_record = refl; all_pieces = w ∙ sym (filled_none size) }
+  alone_kept y (Some ps) NoList w = absurd w
+  alone_kept y None (Listed n) w = absurd w
+  alone_kept y (Some ps) (Listed n) w =
       let a = w.0 in
       let f = filled_fits size ps q w.1 len in
-      rw (le-ltb (piece_room size) (0 + length ps) (omega arith), a) (record { answer = refl; one_record = refl; flag = refl; all_pieces = w.1 })
-
-  flag_is : (text : List ℕ) (m : Mark) (value : List ℕ) (i : ℕ) → i ≡ byte_offset text m.index → (span_measure text (scalar_from i m value 0)).measured ≡ scalar_measured text m value
-  unfolding scalar_measured scalar_start
-  flag_is text m value i e = ap (λ (k : ℕ). (span_measure text (scalar_from k m value 0)).measured) e
+      rw (le-ltb (piece_room size) (0 + length ps) (omega arith), a) (record { answer = refl; one_record = refl; all_pieces = w.1 })
 
   -- the scalar's outcome goes by its record and its walk
   pub one_told : (text : List ℕ) (m : Mark) (value : List ℕ) (i : ℕ) (r : Resolved) (x : ScalarEntry)
       → m.style ≤ folded → i ≡ byte_offset text m.index → r ≡ resolve_scalar value m.style None
       → x ≡ scalar_entry (room size) text (scalar_from i m value 0) no_tag r → q ≡ buffer_of size (list_at text (scalar_from i m value 0))
-      → DeliveredScalar size (one_scalar text m value size) (scalar_measured text m value) (alone_answer x) q
+      → DeliveredScalar size (one_scalar text m value size) (alone_answer x) q
   unfolding one_scalar scalar_kept event_node scalar_start tag_info resolved_by
   one_told text m value i r x l ei er ex eq =
-      rw (le-ltb folded m.style l, ← flag_is text m value i ei, ← ei, ← er, ex)
-      (alone_kept _ _ _ _ (walks_of size (list_at text (scalar_from i m value 0)) _ q refl eq))
+      rw (le-ltb folded m.style l, ← ei, ← er, ex)
+      (alone_kept _ _ _ (walks_of size (list_at text (scalar_from i m value 0)) _ q refl eq))
 
 module _ (text : List ℕ) (m : Mark) (value : List ℕ) (size : ℕ) where
   pub style_unknown : (ascii : Bool) → admission_of_both text value ≡ Ok ascii → folded < m.style → (q : List ℕ) → q ≡ zeros size
-      → DeliveredScalar size (scalar_call text m value size) (scalar_measured text m value) (Err Malformed) q
+      → DeliveredScalar size (scalar_call text m value size) (Err Malformed) q
   unfolding scalar_call one_scalar
-  style_unknown ascii e l q z = rw (e, lt-ltb folded m.style l) (record { answer = refl; one_record = refl; flag = refl; all_pieces = z })
+  style_unknown ascii e l q z = rw (e, lt-ltb folded m.style l) (record { answer = refl; one_record = refl; all_pieces = z })
 
   pub scalar_refused : (x : TextError) (e : Refusal) (q : List ℕ) → admission_of_both text value ≡ Err x → row_number e ≡ error_number x → q ≡ zeros size
-      → DeliveredScalar size (scalar_call text m value size) (scalar_measured text m value) (Err e) q
+      → DeliveredScalar size (scalar_call text m value size) (Err e) q
   unfolding scalar_call
-  scalar_refused x e q told is z = rw (told, ← is) (record { answer = refl; one_record = refl; flag = refl; all_pieces = z })
+  scalar_refused x e q told is z = rw (told, ← is) (record { answer = refl; one_record = refl; all_pieces = z })
 
   -- the buffer's front was lent
-  longer : (n : ℕ) (o : Outcome) (t : Bool) (r : Result Scalar Refusal) (q p : List ℕ) → length q ≡ n → n ≤ size → p ≡ zeros size → DeliveredScalar n o t r q → DeliveredScalar size o t r (q ++ drop n p)
-  longer n (built xs ps) t r q p l h z w = record { answer = w.answer; one_record = w.one_record; flag = w.flag; all_pieces = filled_longer n size ps q p w.all_pieces l h z }
-  longer n (refused j k) t r q p l h z w =
-      record { answer = w.answer; one_record = w.one_record; flag = w.flag; all_pieces = filled_longer n size [] q p (w.all_pieces ∙ sym (filled_none n)) l h z ∙ filled_none size }
+  longer : (n : ℕ) (o : Outcome) (r : Result Scalar Refusal) (q p : List ℕ) → length q ≡ n → n ≤ size → p ≡ zeros size → DeliveredScalar n o r q → DeliveredScalar size o r (q ++ drop n p)
+  longer n (built xs ps) r q p l h z w = record { answer = w.answer; one_record = w.one_record; all_pieces = filled_longer n size ps q p w.all_pieces l h z }
+  longer n (refused j k) r q p l h z w =
+      record { answer = w.answer; one_record = w.one_record; all_pieces = filled_longer n size [] q p (w.all_pieces ∙ sym (filled_none n)) l h z ∙ filled_none size }
 
   pub scalar_read : (ascii : Bool) → admission_of_both text value ≡ Ok ascii → (n : ℕ) → n ≡ min size pieces_limit → (r : Result Scalar Refusal) (q p : List ℕ) → length q ≡ n → p ≡ zeros size
-      → DeliveredScalar n (one_scalar text m value n) (scalar_measured text m value) r q
-      → DeliveredScalar size (scalar_call text m value size) (scalar_measured text m value) r (q ++ drop n p)
+      → DeliveredScalar n (one_scalar text m value n) r q
+      → DeliveredScalar size (scalar_call text m value size) r (q ++ drop n p)
   unfolding scalar_call one_scalar
   scalar_read ascii e n is-n r q p l z w =
       let same : piece_room n ≡ piece_room size = omega arith in
-      rw (e, ← same) (longer n (one_scalar text m value n) (scalar_measured text m value) r q p l (omega arith) z w)
+      rw (e, ← same) (longer n (one_scalar text m value n) r q p l (omega arith) z w)

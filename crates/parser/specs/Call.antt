@@ -1,13 +1,14 @@
 -- The two public calls, whole: what each comes to, and what it promises of its answer and of every lent number (R0 to R2, RZ, RS, B1;
--- 02, (b)).
+-- 02, (b), (c)).
 use Rattle.std.specs.Prelude.{◌≡◌, ℕ, Bool, false, cond, List, [], ◌∷◌, ltb, length, replicate, None, Result, Ok, Err}
 use Rattle.text.specs.Admission.{admission, admission_of_both, error_number}
 use Rattle.text.specs.declared.admission.TextError.{TextError}
 use Rattle.style.specs.Style.{folded}
 use Rattle.event.specs.Read.{events_limit}
 use Rattle.records.specs.Record.{zero_node}
+use Rattle.records.specs.Parent.{parented}
 use Rattle.parser.specs.Machine.{State, empty, Outcome, built, refused, scalar_kept, follow, run_all}
-use Rattle.spans.specs.Scalar.{Mark, scalar_at, span_measure}
+use Rattle.spans.specs.Scalar.{Mark, scalar_at}
 use Rattle.records.specs.Layout.{laid_nodes, record_room, piece_room}
 use Rattle.provenance.specs.Layout.{laid_pieces}
 use Rattle.records.specs.declared.record.Node.{Node}
@@ -36,7 +37,7 @@ abbrev pub returned : Result Built Refused → List ℕ
 returned (Ok b) = 0 ∷ b.nodes ∷ b.pieces ∷ []
 returned (Err e) = row_number e.refusal ∷ e.place ∷ []
 
--- and of an answer of the call on one scalar: its numbers, the record that it hands back, and its flag
+-- and of an answer of the call on one scalar: its numbers, and the record that it hands back
 abbrev pub returned_scalar : Result Scalar Refusal → List ℕ
 returned_scalar (Ok x) = 0 ∷ 1 ∷ x.pieces ∷ []
 returned_scalar (Err e) = row_number e ∷ 0 ∷ []
@@ -44,10 +45,6 @@ returned_scalar (Err e) = row_number e ∷ 0 ∷ []
 abbrev pub returned_record : Result Scalar Refusal → Node
 returned_record (Ok x) = x.node
 returned_record (Err e) = zero_node
-
-abbrev pub returned_flag : Result Scalar Refusal → Bool
-returned_flag (Ok x) = x.measured
-returned_flag (Err e) = false
 
 -- and for each case of what a call comes to
 abbrev pub table_row : Outcome → List ℕ
@@ -70,11 +67,6 @@ record_of (built [] ps) = zero_node
 record_of (built (x ∷ xs) ps) = x
 record_of (refused number place) = zero_node
 
--- whether the span of that scalar was measured, t where it is built (02, (b))
-abbrev pub measured_after : Outcome → Bool → Bool
-measured_after (built xs ps) t = t
-measured_after (refused number place) t = false
-
 -- ---- what the calls come to
 
 -- a text that is refused, or what comes of it
@@ -82,11 +74,16 @@ abbrev pub admitted : Result Bool TextError → Outcome → Outcome
 admitted (Ok ascii) o = o
 admitted (Err e) o = refused (error_number e) 0
 
+-- each node gets its parent, which is complete after it (02, (c))
+abbrev pub with_parents : Outcome → Outcome
+with_parents (built xs ps) = built (parented 0 xs) ps
+with_parents (refused number place) = refused number place
+
 -- `build`, with buffers of so many numbers
 unfoldable pub building : List ℕ → List ℕ → ℕ → ℕ → Outcome
 building text events size pieces_size =
     cond (ltb events_limit (length events)) (refused 1 0)
-    (admitted (admission text) (run_all text events (record_room size) (piece_room pieces_size)))
+    (admitted (admission text) (with_parents (run_all text events (record_room size) (piece_room pieces_size))))
 
 -- one scalar, its text and value admitted: it awaits nothing, has no tag, and its value's place is 0
 unfoldable pub one_scalar : List ℕ → Mark → List ℕ → ℕ → Outcome
@@ -98,10 +95,6 @@ one_scalar text m value pieces_size =
 unfoldable pub scalar_call : List ℕ → Mark → List ℕ → ℕ → Outcome
 scalar_call text m value pieces_size = admitted (admission_of_both text value) (one_scalar text m value pieces_size)
 
--- whether the span of the one scalar is measured (02, (b))
-unfoldable pub scalar_measured : List ℕ → Mark → List ℕ → Bool
-scalar_measured text m value = (span_measure text (scalar_at text false m value 0)).measured
-
 -- ---- what the calls promise: the answer, and each buffer afterwards
 
 -- with buffers of so many numbers, of a call that comes to o
@@ -110,11 +103,10 @@ pub record Delivered (size pieces_size : ℕ) (o : Outcome) (r : Result Built Re
   pub all_records : records ≡ records_after size o
   pub all_pieces : pieces ≡ pieces_after pieces_size o
 
--- and whose scalar's span is measured if t says so
-pub record DeliveredScalar (pieces_size : ℕ) (o : Outcome) (t : Bool) (r : Result Scalar Refusal) (pieces : List ℕ) : Type 0 where
+-- and of one on one scalar
+pub record DeliveredScalar (pieces_size : ℕ) (o : Outcome) (r : Result Scalar Refusal) (pieces : List ℕ) : Type 0 where
   pub answer : returned_scalar r ≡ table_row o
   pub one_record : returned_record r ≡ record_of o
-  pub flag : returned_flag r ≡ measured_after o t
   pub all_pieces : pieces ≡ pieces_after pieces_size o
 
 -- the buffers before are b and p
@@ -122,4 +114,4 @@ abbrev pub Promised : List ℕ → List ℕ → List ℕ → List ℕ → Result
 Promised text events b p r b' p' = Delivered (length b) (length p) (building text events (length b) (length p)) r b' p'
 
 abbrev pub PromisedScalar : List ℕ → Mark → List ℕ → List ℕ → Result Scalar Refusal → List ℕ → Type 0
-PromisedScalar text m value p r p' = DeliveredScalar (length p) (scalar_call text m value (length p)) (scalar_measured text m value) r p'
+PromisedScalar text m value p r p' = DeliveredScalar (length p) (scalar_call text m value (length p)) r p'

@@ -33,7 +33,8 @@ use Rattle.event.specs.Number.{high_first, number_at}
 use Rattle.event.specs.Encode as event
 use Rattle.event.specs.Encode.{encode_string, encode_tag, encode_rest, encode_body, encode_event}
 use Rattle.event.specs.Read.{read_string, read_tag, read_start_tag, read_scalar, read_body, read_event}
-use Rattle.records.specs.Record.{extent, no_tag, no_list, piece_list}
+use Rattle.records.specs.Record.{absent, extent, no_tag, no_list, piece_list}
+use Rattle.records.specs.Parent.{holder, parented}
 use Rattle.spans.specs.Scalar.{step_past, scalar_start, span_measure, list_at, tag_info, resolved_by, scalar_over, event_node, mark}
 use Rattle.spans.specs.Collection.{closes, collection_end, collection_start, members, collection_over, collection_node}
 use Rattle.parser.specs.Machine.{Outcome, built, root_done, before_root, within_depth, within_room, completed, on_start, ended, keeping, scalar_kept, on_scalar, ending, run, run_all}
@@ -54,21 +55,41 @@ word w = one (bytes w) 0 0 plain (bytes w)
 
 -- ---- records
 
--- a scalar: kind, span, tag, pieces, payload
-abbrev leaf : ℕ → ℕ → ℕ → TagInfo → PieceList → Payload → Node
-leaf kind a e tag list payload = record { kind = kind; extent = extent a e; tag = tag; subtree = 1; list = list; payload = payload }
+-- a scalar: kind, span, tag, pieces, payload, parent, and 1 for a measured span
+abbrev leaf : ℕ → ℕ → ℕ → TagInfo → PieceList → Payload → ℕ → ℕ → Node
+leaf kind a e tag list payload parent measured =
+    record {
+      kind = kind;
+      extent = extent a e;
+      tag = tag;
+      subtree = 1;
+      list = list;
+      payload = payload;
+      parent = parent;
+      measured = measured;
+    }
 
--- one without a tag that has the first n pieces
+-- one without a tag that has the first n pieces and no parent; its span is measured
 abbrev scalar : ℕ → ℕ → ℕ → ℕ → Payload → Node
-scalar kind a e n payload = leaf kind a e no_tag (piece_list 0 n) payload
+scalar kind a e n payload = leaf kind a e no_tag (piece_list 0 n) payload absent 1
 
 -- a word of n bytes: all of it one piece
 abbrev whole : ℕ → ℕ → Payload → Outcome
 whole kind n payload = built (scalar kind 0 n 1 payload ∷ []) (piece verbatim 0 n n ∷ [])
 
--- an array with so many records in its subtree and so many children
+-- an array with so many records in its subtree and so many children, the root
 abbrev array : ℕ → ℕ → ℕ → ℕ → Node
-array a e n children = record { kind = 7; extent = extent a e; tag = no_tag; subtree = n; list = no_list; payload = two_numbers children 0 }
+array a e n children =
+    record {
+      kind = 7;
+      extent = extent a e;
+      tag = no_tag;
+      subtree = n;
+      list = no_list;
+      payload = two_numbers children 0;
+      parent = absent;
+      measured = 1;
+    }
 
 -- ---- the text of K1, and the events of K12
 
@@ -103,9 +124,9 @@ pub record WorkedCases : Type 0 where
   -- a fold
   pub k7 : one (bytes "a \n  b") 0 0 plain (bytes "a b")
       ≡ built (scalar 5 0 6 3 (two_numbers 0 3) ∷ []) (piece verbatim 0 1 1 ∷ piece replacement 1 5 1 ∷ piece verbatim 5 6 1 ∷ [])
-  -- the pieces reach 5
+  -- the pieces reach 5; the span is assumed
   pub k8 : one (bytes "a\n\n\nb") 0 0 plain (bytes "a\n\nb")
-      ≡ built (scalar 5 0 4 3 (two_numbers 0 4) ∷ []) (piece verbatim 0 1 1 ∷ piece replacement 1 4 2 ∷ piece verbatim 4 5 1 ∷ [])
+      ≡ built (leaf 5 0 4 no_tag (piece_list 0 3) (two_numbers 0 4) absent 0 ∷ []) (piece verbatim 0 1 1 ∷ piece replacement 1 4 2 ∷ piece verbatim 4 5 1 ∷ [])
   pub k9 : one (bytes "'it''s'") 0 0 single_quoted (bytes "it's")
       ≡ built (scalar 5 0 7 3 (two_numbers 0 4) ∷ []) (piece verbatim 1 3 2 ∷ piece replacement 3 5 1 ∷ piece verbatim 5 6 1 ∷ [])
   -- `"\u20AC"`: two past the value
@@ -114,22 +135,22 @@ pub record WorkedCases : Type 0 where
   pub k11 : one (bytes "a: |\n  b") 7 2 literal (bytes "b\n")
       ≡ built (scalar 5 7 8 2 (two_numbers 0 2) ∷ []) (piece verbatim 7 8 1 ∷ piece replacement 8 8 1 ∷ [])
   -- no tag is found, and its span is guessed as 6..8
-  pub k12 : building (bytes "[a,!t b]") (opening ++ encode_event (event.scalar 1 1 plain false event.untagged (bytes "a")) ++ tagged_scalar 6 "t" "b" ++ closing 7) 36 8
+  pub k12 : building (bytes "[a,!t b]") (opening ++ encode_event (event.scalar 1 1 plain false event.untagged (bytes "a")) ++ tagged_scalar 6 "t" "b" ++ closing 7) 42 8
       ≡ built
-      (leaf 5 1 2 no_tag (piece_list 0 1) (two_numbers 22 1)
-      ∷ leaf 5 6 7 (record { start = 6; end = 8; suffix = 42; len = 1 }) (piece_list 1 1) (two_numbers 43 1)
+      (leaf 5 1 2 no_tag (piece_list 0 1) (two_numbers 22 1) 2 1
+      ∷ leaf 5 6 7 (record { start = 6; end = 8; suffix = 42; len = 1 }) (piece_list 1 1) (two_numbers 43 1) 2 1
       ∷ array 0 8 3 2
       ∷ [])
       (piece verbatim 1 2 1 ∷ piece verbatim 6 7 1 ∷ [])
   -- it is found at 1..5
-  pub k12_found : building (bytes "[!tag a]") (opening ++ tagged_scalar 6 "tag" "a" ++ closing 7) 24 4
+  pub k12_found : building (bytes "[!tag a]") (opening ++ tagged_scalar 6 "tag" "a" ++ closing 7) 28 4
       ≡ built
-      (leaf 5 6 7 (record { start = 1; end = 5; suffix = 27; len = 3 }) (piece_list 0 1) (two_numbers 30 1) ∷ array 0 8 2 1 ∷ [])
+      (leaf 5 6 7 (record { start = 1; end = 5; suffix = 27; len = 3 }) (piece_list 0 1) (two_numbers 30 1) 1 1 ∷ array 0 8 2 1 ∷ [])
       (piece verbatim 6 7 1 ∷ [])
 
 pub k1_to_k12 : WorkedCases
 unfolding scalar_call one_scalar admission_of_both admission is_ascii is_utf8 all_some byte_offset codes chars_after first_char char_of multi_byte two_bytes
-    encode encode_all building run_all run ending root_done before_root within_depth within_room completed on_start ended keeping scalar_kept on_scalar
+    encode encode_all building parented holder run_all run ending root_done before_root within_depth within_room completed on_start ended keeping scalar_kept on_scalar
     step_past scalar_start tag_info resolved_by scalar_over event_node closes collection_end collection_start members collection_over collection_node high_first
     number_at encode_string encode_tag encode_rest encode_body encode_event read_string read_tag read_start_tag read_scalar read_body read_event
     standard_tag_suffix resolve_scalar untagged core_schema table first_match accepts derivative nullable held in_range signed_value positional

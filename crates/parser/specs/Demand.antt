@@ -5,7 +5,7 @@ use Rattle.text.specs.Admitted.{AdmittedText}
 use Rattle.utf8.specs.Boundary.{Boundary}
 use Rattle.utf8.specs.Characters.{codes}
 use Rattle.schema.specs.Tag.{resolve_scalar}
-use Rattle.schema.specs.Record.{kind_number, payload_of}
+use Rattle.schema.specs.Record.{truth, kind_number, payload_of}
 use Rattle.schema.specs.declared.plain.Resolved.{Resolved}
 use Rattle.measure.specs.Scalar.{scalar_len}
 use Rattle.measure.specs.Measured.{SaysMeasured}
@@ -35,7 +35,7 @@ use Rattle.records.specs.declared.record.TagInfo.{TagInfo}
 use Rattle.records.specs.declared.record.Node.{Node}
 use Rattle.records.specs.declared.record.PieceList.{PieceList}
 
--- ---- what the record of a scalar says beside its list (E2, S4, S9, S10)
+-- ---- what the record of a scalar says beside its list (E2, S4, S9, S10; 02, (b), (c))
 
 -- what a scalar is, by its event's tag, its value and its style
 abbrev pub resolved_as : Tag → List ℕ → ℕ → Resolved
@@ -46,7 +46,12 @@ resolved_as (tagged handle suffix) value style = resolve_scalar value style (Som
 abbrev pub scalar_of : Mark → Tag → List ℕ → YamlEvent
 scalar_of m tag value = scalar m.index m.column m.style m.empty tag value
 
--- the scalar starts at its marker, spans what is measured from there, and is of this kind; its value stands at `place` of the event bytes
+-- n tells whether the scalar's span was measured: document 02's sentence, from the start on
+abbrev pub FlagSays : List ℕ → Bool → Mark → List ℕ → ℕ → Type 0
+FlagSays text awaited m value n = (t : Bool) × (n ≡ truth t) × SaysMeasured (drop (start_at text awaited m value) text) value m.style t
+
+-- the scalar starts at its marker, is as long as its measure says, and is of this kind; its value stands at `place` of the event bytes, and its
+-- record tells whether its span was measured
 pub record EntrySays (text : List ℕ) (awaited : Bool) (m : Mark) (value : List ℕ)
     (r : Resolved) (place : ℕ) (t : TagInfo) (x : Node) : Type 0 where
   pub kind : x.kind ≡ kind_number r
@@ -57,6 +62,7 @@ pub record EntrySays (text : List ℕ) (awaited : Bool) (m : Mark) (value : List
   pub tag : x.tag ≡ t
   pub subtree : x.subtree ≡ 1
   pub payload : x.payload ≡ payload_of r place (length value)
+  pub measured : FlagSays text awaited m value x.measured
 
 -- the tag's numbers: its span, searched from the node's start on, and where its suffix stands in the event bytes
 abbrev pub TagSays : List ℕ → List ℕ → ℕ → Tag → TagInfo → Type 0
@@ -99,16 +105,12 @@ pub record ScalarDemand3 (text : List ℕ) (m : Mark) (value : List ℕ) (size :
   -- and every other number is zero
   pub all_numbers : call.pieces_after size o ≡ laid_pieces size (list_in (call.pieces_after size o) (record_of o).list)
 
--- and the record that is handed back: no tag, and its value's place is 0
+-- and the record that is handed back: no tag, its value's place is 0, and no parent
 pub record ScalarRecord (text : List ℕ) (m : Mark) (value : List ℕ) (o : Outcome) : Type 0 where
   pub entry : (xs : List Node) (ps : List Piece) → o ≡ built xs ps
       → EntrySays text false m value (resolved_as untagged value m.style) 0 no_tag (record_of o)
+  pub parent : (xs : List Node) (ps : List Piece) → o ≡ built xs ps → (record_of o).parent ≡ absent
   pub zero : (number place : ℕ) → o ≡ refused number place → record_of o ≡ zero_node
-
--- and the flag: document 02's sentence where the scalar starts, and no on a refusal (02, (b))
-pub record ScalarFlag (text : List ℕ) (m : Mark) (value : List ℕ) (o : Outcome) (t : Bool) : Type 0 where
-  pub says : (xs : List Node) (ps : List Piece) → o ≡ built xs ps → SaysMeasured (drop (start_at text false m value) text) value m.style t
-  pub no : (number place : ℕ) → o ≡ refused number place → t ≡ false
 
 -- whether there is a list
 abbrev pub has_list : PieceList → Bool

@@ -25,15 +25,16 @@ use Rattle.schema.specs.CoreSchema.{table, first_match}
 use Rattle.schema.specs.Integer.{digit_value, positional, signed_value, in_range, held}
 use Rattle.schema.specs.Matcher.{nullable, derivative, accepts}
 use Rattle.schema.specs.Tag.{untagged, resolve_scalar}
-use Rattle.schema.specs.Record.{two_numbers}
+use Rattle.schema.specs.Record.{truth, two_numbers}
 use Rattle.event.specs.Number.{number_at}
 use Rattle.event.specs.Read.{events_limit, read_string, read_tag, read_start_tag, read_scalar, read_body, read_event}
-use Rattle.records.specs.Record.{extent, no_tag, no_list, piece_list, alias_node}
+use Rattle.records.specs.Record.{absent, extent, no_tag, no_list, piece_list, with_parent, alias_node}
+use Rattle.records.specs.Parent.{holder, parented}
 use Rattle.spans.specs.Scalar.{Mark, step_past, scalar_start, span_measure, list_at, tag_info, resolved_by, scalar_over, event_node, mark}
 use Rattle.spans.specs.Collection.{closes, collection_end, collection_start, members, collection_over, collection_node}
 use Rattle.parser.specs.Machine.{Outcome, built, refused, root_done, before_root, within_depth, within_room, completed, on_start, ended, on_alias, keeping, scalar_kept, on_scalar, ending, run, run_all}
 use Rattle.records.specs.Layout.{piece_room}
-use Rattle.parser.specs.Call.{record_of, building, one_scalar, scalar_measured, scalar_call}
+use Rattle.parser.specs.Call.{record_of, building, one_scalar, scalar_call}
 use Rattle.records.specs.declared.record.Node.{Node}
 use Rattle.records.specs.declared.record.PieceList.{PieceList}
 
@@ -89,33 +90,47 @@ row_1_events text events n m h = rw (lt-ltb events_limit (length events) h) refl
 
 -- ---- the other rows
 
+-- a node without a tag: kind, span, records in its subtree, pieces, payload, parent, and 1 for a measured span
+abbrev node : ℕ → ℕ → ℕ → ℕ → PieceList → ℕ → ℕ → ℕ → ℕ → Node
+node kind a e n list p q parent measured =
+    record {
+      kind = kind;
+      extent = extent a e;
+      tag = no_tag;
+      subtree = n;
+      list = list;
+      payload = two_numbers p q;
+      parent = parent;
+      measured = measured;
+    }
+
 -- a string of one byte, its value at this place of the event bytes
-abbrev letter : ℕ → ℕ → ℕ → Node
-letter i first place = record { kind = 5; extent = extent i (i + 1); tag = no_tag; subtree = 1; list = piece_list first 1; payload = two_numbers place 1 }
+abbrev letter : ℕ → ℕ → ℕ → ℕ → Node
+letter i first place parent = node 5 i (i + 1) 1 (piece_list first 1) place 1 parent 1
 
 pub record Rows : Type 0 where
-  pub row_0 : building [] (alias 0) 12 0 ≡ built (alias_node 0 ∷ []) []
+  pub row_0 : building [] (alias 0) 14 0 ≡ built (alias_node 0 ∷ []) []
   pub row_2 : building (0x80 ∷ []) [] 0 0 ≡ refused 2 0
   pub row_3 : building [] (0 ∷ []) 0 0 ≡ refused 3 0
   pub row_4 : building [] (sequence_end 0) 0 0 ≡ refused 4 0
   pub row_4_kinds : building [] (sequence 0 ++ mapping_end 0) 0 0 ≡ refused 4 1
-  pub row_4_key : building [] (mapping 0 ++ alias 0 ++ mapping_end 0) 24 0 ≡ refused 4 2
+  pub row_4_key : building [] (mapping 0 ++ alias 0 ++ mapping_end 0) 28 0 ≡ refused 4 2
   -- an end after the root is a 4, a node a 5
-  pub row_4_after_root : building [] (alias 0 ++ sequence_end 0) 24 0 ≡ refused 4 1
-  pub row_5 : building [] (alias 0 ++ alias 0) 24 0 ≡ refused 5 1
-  pub row_7 : building [] (alias 0) 11 0 ≡ refused 7 0
-  pub row_8 : building (bytes "a") (scalar 0 97) 12 3 ≡ refused 8 0
-  pub row_8_fits : building (bytes "a") (scalar 0 97) 12 4 ≡ built (letter 0 0 14 ∷ []) (piece verbatim 0 1 1 ∷ [])
+  pub row_4_after_root : building [] (alias 0 ++ sequence_end 0) 28 0 ≡ refused 4 1
+  pub row_5 : building [] (alias 0 ++ alias 0) 28 0 ≡ refused 5 1
+  pub row_7 : building [] (alias 0) 13 0 ≡ refused 7 0
+  pub row_8 : building (bytes "a") (scalar 0 97) 14 3 ≡ refused 8 0
+  pub row_8_fits : building (bytes "a") (scalar 0 97) 14 4 ≡ built (letter 0 0 14 absent ∷ []) (piece verbatim 0 1 1 ∷ [])
   pub row_9 : building [] [] 0 0 ≡ refused 9 0
   pub row_9_open : building [] (sequence 0) 0 0 ≡ refused 9 1
   -- 4 comes before 7 (a key without value, and no record left), 5 before 7, 7 before 8, and 3 before all
-  pub order_4_7 : building [] (mapping 0 ++ alias 0 ++ mapping_end 0) 12 0 ≡ refused 4 2
-  pub order_5_7 : building [] (alias 0 ++ alias 0) 12 0 ≡ refused 5 1
+  pub order_4_7 : building [] (mapping 0 ++ alias 0 ++ mapping_end 0) 14 0 ≡ refused 4 2
+  pub order_5_7 : building [] (alias 0 ++ alias 0) 14 0 ≡ refused 5 1
   pub order_7_8 : building (bytes "a") (scalar 0 97) 0 0 ≡ refused 7 0
-  pub order_3_5 : building [] (alias 0 ++ (0 ∷ [])) 12 0 ≡ refused 3 1
+  pub order_3_5 : building [] (alias 0 ++ (0 ∷ [])) 14 0 ≡ refused 3 1
 
 pub rows : Rows
-unfolding building run_all run ending root_done before_root within_depth within_room completed on_start ended on_alias keeping scalar_kept on_scalar step_past
+unfolding building parented holder run_all run ending root_done before_root within_depth within_room completed on_start ended on_alias keeping scalar_kept on_scalar step_past
     scalar_start tag_info resolved_by scalar_over event_node closes collection_end collection_start members collection_over collection_node admission is_ascii
     is_utf8 all_some byte_offset number_at read_string read_tag read_start_tag read_scalar read_body read_event resolve_scalar untagged core_schema table
     first_match accepts derivative nullable held in_range signed_value positional digit_value span_measure list_at is_boundary scalar_measure style_measure plain_measure
@@ -157,10 +172,10 @@ piece_room_lem = (refl, refl)
 
 -- ---- measured or assumed (02, (b)), and whether there is a list: the inputs of docs/DIFFERENCES.md
 
--- the flag of the call on one scalar, its span and its list
+-- whether the span of the one scalar is measured, that span and its list
 abbrev Flagged : List ℕ → Mark → List ℕ → Bool → ℕ → ℕ → PieceList → Type 0
 Flagged text m value flag start end list =
-    (scalar_measured text m value ≡ flag)
+    ((record_of (scalar_call text m value 12)).measured ≡ truth flag)
     × ((record_of (scalar_call text m value 12)).extent ≡ extent start end)
     × ((record_of (scalar_call text m value 12)).list ≡ list)
 
@@ -187,37 +202,30 @@ pub record Flags : Type 0 where
 
 pub record Lists : Type 0 where
   -- the text `ab` with the value `ac`: the walk fails after a piece that would not fit, and that is no 8
-  pub failed_walk : building (bytes "ab") (scalar2 0 97 99) 12 0
-      ≡ built (record { kind = 5; extent = extent 0 2; tag = no_tag; subtree = 1; list = no_list; payload = two_numbers 14 2 } ∷ []) []
+  pub failed_walk : building (bytes "ab") (scalar2 0 97 99) 14 0
+      ≡ built (node 5 0 2 1 no_list 14 2 absent 0 ∷ []) []
   -- the text `a`, and a sequence of `a` and an empty value behind it: the list of that has no pieces, and starts at the next free entry
-  pub next_free : building (bytes "a") (sequence 0 ++ scalar 0 97 ++ empty 1 ++ sequence_end 1) 36 4
-      ≡ built
-      (letter 0 0 22
-      ∷ record { kind = 1; extent = extent 1 1; tag = no_tag; subtree = 1; list = piece_list 1 0; payload = two_numbers 0 0 }
-      ∷ record { kind = 7; extent = extent 0 1; tag = no_tag; subtree = 3; list = no_list; payload = two_numbers 2 0 }
-      ∷ [])
-      (piece verbatim 0 1 1 ∷ [])
+  pub next_free : building (bytes "a") (sequence 0 ++ scalar 0 97 ++ empty 1 ++ sequence_end 1) 42 4
+      ≡ built (letter 0 0 22 2 ∷ node 1 1 1 1 (piece_list 1 0) 0 0 2 1 ∷ node 7 0 1 3 no_list 2 0 absent 1 ∷ []) (piece verbatim 0 1 1 ∷ [])
   -- `:` as a key and a value: the value steps past the colon, the key does not; the mapping starts at its key
-  pub past_colon : building (bytes ":") (mapping 0 ++ empty 0 ++ empty 0 ++ mapping_end 1) 36 0
+  pub past_colon : building (bytes ":") (mapping 0 ++ empty 0 ++ empty 0 ++ mapping_end 1) 42 0
+      ≡ built (node 1 0 0 1 (piece_list 0 0) 0 0 2 1 ∷ node 1 1 1 1 (piece_list 0 0) 0 0 2 1 ∷ node 8 0 1 3 no_list 1 0 absent 1 ∷ []) []
+  -- a sequence of a sequence, which has an alias, and an alias: the parent of each is the collection it stands in; the root has none
+  pub parents : building [] (sequence 0 ++ sequence 0 ++ alias 0 ++ sequence_end 0 ++ alias 0 ++ sequence_end 0) 56 0
       ≡ built
-      (record { kind = 1; extent = extent 0 0; tag = no_tag; subtree = 1; list = piece_list 0 0; payload = two_numbers 0 0 }
-      ∷ record { kind = 1; extent = extent 1 1; tag = no_tag; subtree = 1; list = piece_list 0 0; payload = two_numbers 0 0 }
-      ∷ record { kind = 8; extent = extent 0 1; tag = no_tag; subtree = 3; list = no_list; payload = two_numbers 1 0 }
-      ∷ [])
+      (with_parent (alias_node 0) 1 ∷ node 7 0 0 2 no_list 1 0 3 1 ∷ with_parent (alias_node 0) 3 ∷ node 7 0 0 4 no_list 2 0 absent 1 ∷ [])
       []
   -- the call on one scalar: its value has the place 0, and its first piece the number 0
-  pub one : scalar_call (bytes "a") (mark 0 0 0 false) (bytes "a") 4 ≡ built (letter 0 0 0 ∷ []) (piece verbatim 0 1 1 ∷ [])
+  pub one : scalar_call (bytes "a") (mark 0 0 0 false) (bytes "a") 4 ≡ built (letter 0 0 0 absent ∷ []) (piece verbatim 0 1 1 ∷ [])
   -- newline and two blanks, the value a newline and a blank, literal in column 1: the column cuts what the newline takes to 0..2
   pub column_cuts : scalar_call (bytes "\n  ") (mark 0 1 3 false) (bytes "\n ") 8
-      ≡ built
-      (record { kind = 5; extent = extent 0 0; tag = no_tag; subtree = 1; list = piece_list 0 2; payload = two_numbers 0 2 } ∷ [])
-      (piece replacement 0 2 1 ∷ piece verbatim 2 3 1 ∷ [])
+      ≡ built (node 5 0 0 1 (piece_list 0 2) 0 2 absent 1 ∷ []) (piece replacement 0 2 1 ∷ piece verbatim 2 3 1 ∷ [])
   pub one_style : scalar_call [] (mark 0 0 5 false) [] 0 ≡ refused 3 0
   pub one_room : scalar_call (bytes "a") (mark 0 0 0 false) (bytes "a") 3 ≡ refused 8 0
   pub flags : Flags
 
 pub lists : Lists
-unfolding scalar_measured scalar_call one_scalar admission_of_both building run_all run ending root_done before_root within_depth within_room completed on_start ended
+unfolding scalar_call one_scalar admission_of_both building parented holder run_all run ending root_done before_root within_depth within_room completed on_start ended
     on_alias keeping scalar_kept on_scalar step_past scalar_start tag_info resolved_by scalar_over event_node closes collection_end collection_start members
     collection_over collection_node admission is_ascii is_utf8 all_some byte_offset number_at read_string read_tag read_start_tag read_scalar read_body
     read_event resolve_scalar untagged core_schema table first_match accepts derivative nullable held in_range signed_value positional digit_value
@@ -232,6 +240,7 @@ lists =
       failed_walk = refl;
       next_free = refl;
       past_colon = refl;
+      parents = refl;
       one = refl;
       column_cuts = refl;
       one_style = refl;

@@ -1,5 +1,5 @@
 -- What the code's values hold of the machine's state. Cited by the inner calls' contracts only.
-use Rattle.std.specs.Prelude.{◌≡◌, ℕ, ◌+◌, ◌-◌, ◌*◌, ◌/◌, ◌≤◌, ◌<◌, Bool, true, false, List, ◌++◌, ◌&&◌, eqb, ltb, length, take, Result, Ok, Err, Option}
+use Rattle.std.specs.Prelude.{◌≡◌, ℕ, ◌+◌, ◌-◌, ◌*◌, ◌/◌, ◌≤◌, ◌<◌, Bool, true, false, List, [], ◌∷◌, ◌++◌, ◌&&◌, eqb, ltb, length, take, Result, Ok, Err, Option}
 use Rattle.utf8.specs.Boundary.{Boundary}
 use Rattle.text.specs.Offset.{Stands}
 use Rattle.text.specs.Admission.{text_limit}
@@ -7,14 +7,17 @@ use Rattle.event.specs.Read.{events_limit}
 use Rattle.event.specs.Proved.{EventWithin}
 use Rattle.event.specs.declared.read.Event.{Event}
 use Rattle.event.specs.declared.read.Event.TheVariants.{SequenceStart, SequenceEnd, MappingStart, MappingEnd, Scalar, Alias}
-use Rattle.records.specs.Record.{record_width, with_list}
+use Rattle.records.specs.Record.{absent, record_width, with_list}
+use Rattle.records.specs.Parent.{parented}
+use Rattle.records.specs.Forest.{Forest, post_order, nodes_in, trees}
+use Rattle.records.specs.Adopt.{Sized}
 use Rattle.provenance.specs.Reading.{Piece}
 use Rattle.provenance.specs.Layout.{room, answer_of, buffer_of, piece_width, laid_pieces}
 use Rattle.provenance.specs.declared.walk.Walked.{Walked}
 use Rattle.provenance.specs.declared.walk.Walked.TheVariants.{Listed, NoRoom, NoList}
 use Rattle.parser.specs.Machine.{State, Next, go, stop, Outcome, built, refused, completed, keeping, run_all}
 use Rattle.records.specs.Layout.{piece_limit, pieces_limit, record_room, piece_room, laid_nodes}
-use Rattle.parser.specs.Call.{row_number, returned, table_row, building, Delivered}
+use Rattle.parser.specs.Call.{row_number, returned, table_row, with_parents, building, Delivered}
 use Rattle.records.specs.declared.record.Node.{Node}
 use Rattle.spans.specs.declared.open.Open.{Open}
 use Rattle.spans.specs.declared.scalar.ScalarEntry.{ScalarEntry}
@@ -28,11 +31,11 @@ use Rattle.parser.specs.Opens.{Below, OnBoundaries}
 
 -- ---- the state
 
--- n records, of the nodes xs
+-- n records, of the nodes xs with the parents that are known
 pub record RecordsHeld (size : ℕ) (xs : List Node) (n : ℕ) (records : List ℕ) : Type 0 where
   pub size_is : length records ≡ size
   pub nodes_are : length xs ≡ n
-  pub records_hold : records ≡ laid_nodes size xs
+  pub records_hold : records ≡ laid_nodes size (parented 0 xs)
   pub records_fit : record_width * n ≤ size
 
 -- n pieces, which are ps
@@ -59,6 +62,40 @@ pub record Held (text : List ℕ) (size pieces_size : ℕ) (st : State) (b : Bui
   pub open opens_held use *
   pub cursor_stands : Stands text b.cursor.chars b.cursor.offset
 
+-- ---- trees
+
+-- the nodes since o was opened, those before it being `outer`, are as many trees as it has children
+pub record Level (o : Open) (outer xs : List Node) : Type 0 where
+  pub kids : Forest
+  pub order : xs ≡ outer ++ post_order kids
+  pub sized : Sized kids
+  pub before : o.before ≡ length outer
+  pub children : o.children ≡ trees kids
+
+-- so it is in each open collection, the innermost first
+abbrev pub Nest : List Open → List Node → Type 0
+Nest [] xs = Unit {0}
+Nest (o ∷ os) xs = (outer : List Node) × Nest os outer × Level o outer xs
+
+abbrev pub Nested : State → Type 0
+Nested st = Nest st.opens st.nodes
+
+-- the next node is x: the root of the last k trees of the nodes, its parent not known yet
+pub record Rooted (x : Node) (k : ℕ) (st : State) : Type 0 where
+  pub outer : List Node
+  pub nest : Nest st.opens outer
+  pub kids : Forest
+  pub order : st.nodes ≡ outer ++ post_order kids
+  pub sized : Sized kids
+  pub children : k ≡ trees kids
+  pub count : x.subtree ≡ nodes_in kids + 1
+  pub parent : x.parent ≡ absent
+
+-- a node of no children
+pub record Leaf (x : Node) : Type 0 where
+  pub count : x.subtree ≡ 1
+  pub parent : x.parent ≡ absent
+
 -- a value is no longer than a text may be
 abbrev pub ValueShort : Event → Type 0
 ValueShort (SequenceStart m t) = Unit {0}
@@ -82,6 +119,7 @@ pub record Ready (text : List ℕ) (b : Builder) (records pieces : List ℕ) : T
   pub pieces_size : ℕ
   pub st : State
   pub held : Held text size pieces_size st b records pieces
+  pub nested : Nested st
   pub few : b.nodes < events_limit
 
 -- the same, whatever the records or the pieces are
@@ -114,7 +152,7 @@ gate false e = Ok tt
 
 -- n is what the machine does next, and r what the code answers, with its builder and buffers then; k nodes were complete before
 abbrev pub Moved : {A : Type 0} → List ℕ → ℕ → ℕ → ℕ → Next → Result A Refusal → Builder → List ℕ → List ℕ → Type 0
-Moved text size pieces_size k (go st) (Ok t) b records pieces = Held text size pieces_size st b records pieces × (b.nodes ≤ k + 1)
+Moved text size pieces_size k (go st) (Ok t) b records pieces = Held text size pieces_size st b records pieces × Nested st × (b.nodes ≤ k + 1)
 Moved text size pieces_size k (go st) (Err e) b records pieces = ⊥
 Moved text size pieces_size k (stop n) (Ok t) b records pieces = ⊥
 Moved text size pieces_size k (stop n) (Err e) b records pieces = n ≡ row_number e
@@ -122,7 +160,7 @@ Moved text size pieces_size k (stop n) (Err e) b records pieces = n ≡ row_numb
 -- the code goes with the machine's move f, from every state that its values hold
 abbrev pub Follows : {A : Type 0} → List ℕ → Builder → List ℕ → List ℕ → (ℕ → ℕ → State → Next) → Result A Refusal → Builder → List ℕ → List ℕ → Type 0
 Follows text b records pieces f r b' records' pieces' =
-    (size pieces_size : ℕ) (st : State) → Held text size pieces_size st b records pieces
+    (size pieces_size : ℕ) (st : State) → Held text size pieces_size st b records pieces → Nested st
     → Moved text size pieces_size b.nodes (f (record_room size) (pieces_size / piece_width) st) r b' records' pieces'
 
 -- the same for a move that leaves the pieces alone
@@ -134,11 +172,11 @@ FollowsBut text b records f r b' records' =
 abbrev pub Opens : List ℕ → Builder → (State → Next) → Result Unit Refusal → Builder → Type 0
 Opens text b f r b' = (records : List ℕ) → FollowsBut text b records (λ (room : ℕ) (st : State). f st) r b' records
 
--- the node x is complete, whatever the text and the pieces are
-abbrev pub Completes : Builder → Node → List ℕ → Builder → List ℕ → Type 0
-Completes b x records b' records' =
-    (text : List ℕ) (size pieces_size : ℕ) (st : State) (pieces : List ℕ) → Boundary text x.extent.start
-    → Held text size pieces_size st b records pieces → Held text size pieces_size (completed x st) b' records' pieces
+-- the node x with k children is complete, whatever the text and the pieces are
+abbrev pub Completes : Builder → Node → ℕ → List ℕ → Builder → List ℕ → Type 0
+Completes b x k records b' records' =
+    (text : List ℕ) (size pieces_size : ℕ) (st : State) (pieces : List ℕ) → Boundary text x.extent.start → Rooted x k st
+    → Held text size pieces_size st b records pieces → Held text size pieces_size (completed x st) b' records' pieces × Nested (completed x st)
 
 -- so many pieces more can be counted
 abbrev pub Counted : ℕ → Walked → Type 0
@@ -147,19 +185,19 @@ Counted used NoRoom = Unit {0}
 Counted used NoList = Unit {0}
 
 -- what the call on one scalar answers, by the scalar's walk
-abbrev alone_by : Node → Bool → Walked → Result answer.Scalar Refusal
-alone_by x t (Listed n) = Ok (record { node = with_list x 0 n; measured = t; pieces = n })
-alone_by x t NoRoom = Err row.NoPieceRoom
-alone_by x t NoList = Ok (record { node = x; measured = t; pieces = 0 })
+abbrev alone_by : Node → Walked → Result answer.Scalar Refusal
+alone_by x (Listed n) = Ok (record { node = with_list x 0 n; pieces = n })
+alone_by x NoRoom = Err row.NoPieceRoom
+alone_by x NoList = Ok (record { node = x; pieces = 0 })
 
 abbrev pub alone_answer : ScalarEntry → Result answer.Scalar Refusal
-alone_answer x = alone_by x.node x.measured x.walked
+alone_answer x = alone_by x.node x.walked
 
 -- the scalar x is kept, its walk having left y in the free part of the pieces, whatever its list o
 abbrev pub Keeps : Builder → ScalarEntry → List ℕ → Result Unit Refusal → Builder → List ℕ → Type 0
 Keeps b x records r b' records' =
     (text : List ℕ) (size pieces_size : ℕ) (st : State) (pieces : List ℕ) (o : Option (List Piece)) (y : List ℕ)
-    → Boundary text x.node.extent.start → Held text size pieces_size st b records pieces
+    → Boundary text x.node.extent.start → Leaf x.node → Held text size pieces_size st b records pieces → Nested st
     → length y ≡ pieces_size - piece_width * b.used → x.walked ≡ answer_of (room (length y)) o → y ≡ buffer_of (length y) o
     → Moved text size pieces_size b.nodes (keeping (pieces_size / piece_width) x.node o st) r b' records' (take (piece_width * b.used) pieces ++ y)
 
@@ -169,8 +207,8 @@ Filled size pieces_size (built xs ps) r b p = (returned r ≡ table_row (built x
 Filled size pieces_size (refused n k) r b p = returned r ≡ table_row (refused n k)
 
 abbrev pub Fills : List ℕ → List ℕ → List ℕ → List ℕ → Result Built Refused → List ℕ → List ℕ → Type 0
-Fills text events b p r b' p' = Filled (length b) (length p) (run_all text events (record_room (length b)) (length p / piece_width)) r b' p'
+Fills text events b p r b' p' = Filled (length b) (length p) (with_parents (run_all text events (record_room (length b)) (length p / piece_width))) r b' p'
 
 -- and with the buffers cleared where it was
 abbrev pub Settles : List ℕ → List ℕ → List ℕ → List ℕ → Result Built Refused → List ℕ → List ℕ → Type 0
-Settles text events b p r b' p' = Delivered (length b) (length p) (run_all text events (record_room (length b)) (piece_room (length p))) r b' p'
+Settles text events b p r b' p' = Delivered (length b) (length p) (with_parents (run_all text events (record_room (length b)) (piece_room (length p)))) r b' p'

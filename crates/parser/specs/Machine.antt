@@ -1,6 +1,7 @@
 -- The builder as a machine over lists (R3 to R9, RO). A state holds the nodes completed, the collections open, the innermost first, and
 -- the pieces kept. The step for an event gives the next state or the number of a row, the rows tested in the table's order. Markers have
--- no cursor here: an offset is `byte_offset` of its index. `room` is how many records fit, `piece_room` how many pieces.
+-- no cursor here: an offset is `byte_offset` of its index. Nodes have no parent here: the call gives it to them (`with_parents`, Call.antt).
+-- `room` is how many records fit, `piece_room` how many pieces.
 --
 -- `run` counts down the length of the event bytes, which are more than the events; what a reader expects of it stands in `RunLaws`.
 use Rattle.std.specs.Prelude.{ℕ, zero, suc, ◌+◌, Bool, ◌&&◌, cond, List, [], ◌∷◌, ◌++◌, eqb, ltb, leb, length, Option, Result, Ok, Err, Some, None}

@@ -73,10 +73,9 @@ pub struct Refused {
     pub place: usize,
 }
 
-// A scalar that is built: its record, whether its span was measured, and how many pieces the buffer holds.
+// A scalar that is built: its record, and how many pieces the buffer holds.
 #[derive(Clone, Copy, Debug, PartialEq, Eq)]
 pub struct Scalar {
     pub node: Node,
-    pub measured: bool,
     pub pieces: usize,
 }

@@ -1,6 +1,7 @@
-// What each event does to the open collections and the buffers. (01: `on_event`, `push_complete`; rows 3 to 8.)
+// What each event does to the open collections and the buffers. (01: `on_event`, `push_complete`; rows 3 to 8. 02: (c).)
 ghost use Rattle.std.specs.Prelude.{◌≡◌, ◌/◌, [], leb, length};
 ghost use Rattle.records.specs.Record.{record_width};
+ghost use Rattle.records.specs.Adopt.{Chain};
 ghost use Rattle.parser.specs.Machine.{on_start, on_end, on_alias, on_scalar, on_event};
 ghost use Rattle.parser.specs.Held.{gate, is_root_done, Read, Ready, ReadyBut, ReadyToOpen, Pushable, Completes, Counted, Keeps, Follows, FollowsBut, Opens};
 ghost use Rattle.parser.specs.declared.answer.Refusal.TheVariants.{AfterRoot, NoRecordRoom};
@@ -12,7 +13,8 @@ use event::read::Event;
 use event::tag::YamlTag;
 use provenance::walk::Walked;
 use provenance::write::PIECE_WIDTH;
-use records::record::{Extent, NO_LIST, NO_TAG, Node, RECORD_WIDTH, put_record};
+use records::parent::adopt;
+use records::record::{ABSENT, Extent, NO_LIST, NO_TAG, Node, RECORD_WIDTH, put_record};
 use schema::record::{Kind, Payload};
 use spans::collection::{closes_open, collection_node};
 use spans::open::{Collection, Open};
@@ -72,11 +74,13 @@ impl Builder {
         Ok(())
     }
 
-    // The node `x` is complete: its record is written, and the innermost open collection has a child more.
-    fn push_complete(&mut self, records: &mut [u32], x: Node)
-        requires { Pushable self.old records.old }
-        ensures { Completes self.old x records.old self.new records.new }
+    // The node `x` is complete: its children get their parent, its record is written, and the innermost open collection has a child more.
+    fn push_complete(&mut self, records: &mut [u32], x: Node, children: u32)
+        requires pushable { Pushable self.old records.old }
+        requires chain { Chain records.old children self.old.nodes }
+        ensures { Completes self.old x children records.old self.new records.new }
     {
+        adopt(records, self.nodes, children);
         put_record(records, self.nodes, x);
         self.stack.add_child(x.extent.start);
         self.nodes += 1;
@@ -131,7 +135,7 @@ impl Builder {
         self.within_room(records)?;
         self.cursor = text.byte_offset_of_char(self.cursor, index as usize);
         let x = collection_node(text.content, open, self.cursor.offset, self.nodes);
-        self.push_complete(records, x);
+        self.push_complete(records, x, open.children);
         Ok(())
     }
 
@@ -152,8 +156,10 @@ impl Builder {
             subtree: 1,
             list: NO_LIST,
             payload: Payload::default(),
+            parent: ABSENT,
+            measured: 1,
         };
-        self.push_complete(records, x);
+        self.push_complete(records, x, 0);
         Ok(())
     }
 
@@ -165,11 +171,11 @@ impl Builder {
     {
         match x.walked {
             Walked::NoRoom => return Err(Refusal::NoPieceRoom),
-            Walked::NoList => self.push_complete(records, x.node),
+            Walked::NoList => self.push_complete(records, x.node, 0),
             Walked::Listed(n) => {
                 let node = x.node.with_list(self.used as u32, n as u32);
                 self.used += n;
-                self.push_complete(records, node);
+                self.push_complete(records, node, 0);
             }
         }
         Ok(())

@@ -1,9 +1,9 @@
-// The call on one scalar. (01: the table's last lines; RS, RZ, B1. 02: (b).)
+// The call on one scalar. (01: the table's last lines; RS, RZ, B1. 02: (c).)
 ghost use Rattle.std.specs.Prelude.{◌≡◌, ◌≤◌, length};
 ghost use Rattle.provenance.specs.Layout.{zeros};
 ghost use Rattle.records.specs.Layout.{pieces_limit};
 ghost use Rattle.spans.specs.Scalar.{mark, mark_of};
-ghost use Rattle.parser.specs.Call.{scalar_measured, one_scalar, DeliveredScalar, PromisedScalar};
+ghost use Rattle.parser.specs.Call.{one_scalar, DeliveredScalar, PromisedScalar};
 ghost use Rattle.parser.specs.Held.{Counted, alone_answer};
 
 use crate::answer::{Refusal, Scalar};
@@ -22,17 +22,14 @@ fn alone(x: ScalarEntry) -> Result<Scalar, Refusal>
     requires { Counted 0 x.walked }
     ensures { result ≡ alone_answer x }
 {
-    let measured = x.measured;
     match x.walked {
         Walked::NoRoom => Err(Refusal::NoPieceRoom),
         Walked::NoList => Ok(Scalar {
             node: x.node,
-            measured,
             pieces: 0,
         }),
         Walked::Listed(n) => Ok(Scalar {
             node: x.node.with_list(0, n as u32),
-            measured,
             pieces: n,
         }),
     }
@@ -46,8 +43,7 @@ fn one_scalar(
     pieces: &mut [u32],
 ) -> Result<Scalar, Refusal>
     requires pieces_zero { (pieces.old ≡ zeros (length pieces.old)) × (length pieces.old ≤ pieces_limit) }
-    ensures { DeliveredScalar (length pieces.old) (one_scalar text.entry.content.bytes.now (mark_of m) value.entry.bytes.now (length pieces.old))
-        (scalar_measured text.entry.content.bytes.now (mark_of m) value.entry.bytes.now) result pieces.new }
+    ensures { DeliveredScalar (length pieces.old) (one_scalar text.entry.content.bytes.now (mark_of m) value.entry.bytes.now (length pieces.old)) result pieces.new }
 {
     let cursor = text.byte_offset_of_char(START, m.index as usize);
     let resolved = resolve_scalar(value.bytes, m.style, None);
@@ -59,8 +55,8 @@ fn one_scalar(
 }
 
 // One scalar, given as its event would give it: it awaits nothing, has no tag, and its value has the place 0. What it answers, the record
-// and every number of the buffer afterwards is `scalar_call`; on a refusal the buffer is zero. `scalar_measured` is the flag. The style is
-// a number, since the call refuses those that no style has.
+// and every number of the buffer afterwards is `scalar_call`; on a refusal the buffer is zero. The style is a number, since the call
+// refuses those that no style has.
 pub fn scalar(
     text: &[u8],
     index: u32,

@@ -14,16 +14,16 @@ use Rattle.spans.specs.Collection.{awaits_value}
 use Rattle.parser.specs.Machine.{scalar_kept, on_scalar}
 use Rattle.parser.proofs.Pieces.{put_tail, free_zero, free_len}
 use Rattle.parser.proofs.Starts.{cursor_offset, cursor_boundary}
-use Rattle.parser.proofs.Turns.{root_refused, past_root, room_refused, in_room, moved_cursor, walk_counted}
+use Rattle.parser.proofs.Turns.{root_refused, past_root, room_refused, in_room, moved_cursor, walk_counted, event_node_leaf}
 use Rattle.parser.proofs.on_event.Builder.on_scalar.Goals as goal
 
 pub returns-in_err-before_root : goal.returns-in_err-before_root
 unfolding on_scalar
-returns-in_err-before_root c = λ size pieces_size st h. root_refused h _ _ _ (sym c.before_root.ensures ∙ c.in_err-before_root.was) c.from_residual.ensures.1 _ _ _
+returns-in_err-before_root c = λ size pieces_size st h t. root_refused h _ _ _ (sym c.before_root.ensures ∙ c.in_err-before_root.was) c.from_residual.ensures.1 _ _ _
 
 pub returns-in_err-within_room : goal.returns-in_err-within_room
 unfolding on_scalar
-returns-in_err-within_room c = λ size pieces_size st h.
+returns-in_err-within_room c = λ size pieces_size st h t.
     rw (past_root h _ _ (sym c.before_root.ensures ∙ c.in_ok-before_root.was))
     (room_refused h _ _ _ (sym c.within_room.ensures ∙ c.in_err-within_room.was) c.from_residual-in_err-within_room.ensures.1 _ _ _)
 
@@ -44,7 +44,7 @@ keep_scalar-requires-clause-counted c =
 
 pub returns : goal.returns
 unfolding on_scalar scalar_kept
-returns c = λ size pieces_size st h.
+returns c = λ size pieces_size st h t.
     let a = c.args in
     let text = a.text.content.bytes.now in
     let u = utf8_sound text a.text.content.utf8 in
@@ -65,5 +65,5 @@ returns c = λ size pieces_size st h.
     let fits : 4 * a.self.now.used ≤ length a.pieces.now = rw h.pieces_size_is h.pieces_fit in
     rw (past_root h _ _ on, in_room h _ _ free, ← awaits, ← e, ← node, put_tail (4 * a.self.now.used) a.pieces.now y fits)
     (c.keep_scalar.ensures text size pieces_size st a.pieces.now (list_at text scalar) y
-    (rw node (event_node_boundary text a.events.now scalar a.e.tag starts)) moved (same ∙ free_len h.pieces_held)
+    (rw node (event_node_boundary text a.events.now scalar a.e.tag starts)) (rw node (event_node_leaf text a.events.now scalar a.e.tag)) moved t (same ∙ free_len h.pieces_held)
     (rw (← same) at (ap (λ z. z.walked) x.ensures.value)) (rw (← same) at x.ensures.pieces_after))

@@ -11,11 +11,11 @@ use Rattle.parser.proofs.on_event.Builder.on_start.Goals as goal
 
 pub returns-in_err-before_root : goal.returns-in_err-before_root
 unfolding on_start
-returns-in_err-before_root c = λ records pieces size pieces_size st h. root_refused h _ _ _ (sym c.before_root.ensures ∙ c.in_err-before_root.was) c.from_residual.ensures.1 _ _ _
+returns-in_err-before_root c = λ records pieces size pieces_size st h t. root_refused h _ _ _ (sym c.before_root.ensures ∙ c.in_err-before_root.was) c.from_residual.ensures.1 _ _ _
 
 pub returns-then-depth-ge-DEPTH_LIMIT : goal.returns-then-depth-ge-DEPTH_LIMIT
 unfolding on_start
-returns-then-depth-ge-DEPTH_LIMIT c = λ records pieces size pieces_size st h.
+returns-then-depth-ge-DEPTH_LIMIT c = λ records pieces size pieces_size st h t.
     let on = sym c.before_root.ensures ∙ c.in_ok-before_root.was in
     let deep : depth_limit ≤ length c.args.self.now.stack = rw (← c.depth.ensures) c.if-depth-ge-DEPTH_LIMIT.true in
     rw (past_root h _ _ on, too_deep h _ deep) refl
@@ -26,9 +26,9 @@ overflow_cast-self c =
     omega (arith, (cursor_within text.bytes.now c.args.index _ (utf8_sound _ text.utf8) text.within c.byte_offset_of_char-self.ensures).1)
 
 pub returns : goal.returns
-returns c = λ records pieces size pieces_size st h.
+returns c = λ records pieces size pieces_size st h t.
     let a = c.args in
     let on = sym c.before_root.ensures ∙ c.in_ok-before_root.was in
     let free : length a.self.now.stack < depth_limit = rw (← c.depth.ensures) c.if-depth-ge-DEPTH_LIMIT.false in
     rw (c.push.ensures, c.suffix_of.ensures)
-    (opened h a.collection a.index a.tag c.byte_offset_of_char-self.result _ (utf8_sound _ a.text.content.utf8) c.byte_offset_of_char-self.ensures on free)
+    (opened h a.collection a.index a.tag c.byte_offset_of_char-self.result _ (utf8_sound _ a.text.content.utf8) c.byte_offset_of_char-self.ensures on free t)
