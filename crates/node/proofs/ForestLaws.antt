@@ -11,6 +11,7 @@ use borrow.Author.Tests.{lt-ltb, le-leb, le-ltb, lt-leb, leb-true, eq-eqb, ne_eq
 use lib.Dec.{ltb, leb, eqb}
 use lib.ListN.{length, length-append}
 use Rattle.records.specs.Layout.{laid_nodes}
+use Rattle.records.proofs.ParentLaws.{order_length}
 use Rattle.records.specs.declared.record.Node.{Node}
 use Rattle.node.specs.Chain.{◌>>=◌}
 use Rattle.node.specs.Record.{is_kind, existing, record_at}
@@ -21,16 +22,13 @@ use Rattle.node.specs.Child.{place_at, record_before, last_child, child_before, 
 use Rattle.node.specs.Kind.{len, children, len_at}
 use Rattle.node.specs.Entry.{entry, pair_ending, hash_entry}
 use Rattle.node.specs.declared.entry.YamlHashEntry.{YamlHashEntry}
-use Rattle.node.specs.Forest.{Forest, nil, snoc, post_order, nodes_in, last_root, roots, pairs_of}
-use Rattle.node.specs.Built.{trees, Tree, SoundForest}
+use Rattle.records.specs.Forest.{Forest, nil, snoc, post_order, nodes_in, last_root, trees}
+use Rattle.node.specs.Forest.{roots, pairs_of}
+use Rattle.node.specs.Built.{Tree, SoundForest}
 
 member_at : (front : List Node) (x : Node) (rest : List Node) → slice_get (front ++ (x ∷ rest)) (length front) ≡ Some x
 member_at [] x rest = refl
 member_at (a ∷ front) x rest = member_at front x rest
-
-pub order_length : (f : Forest) (x : Node) (kids : Forest) → length (post_order (snoc f x kids)) ≡ nodes_in f + nodes_in kids + 1
-unfolding post_order
-order_length f x kids = simp length-append (omega arith)
 
 -- all but the last k trees
 abbrev pub all_but : ℕ → Forest → Forest

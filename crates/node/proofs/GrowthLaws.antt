@@ -1,13 +1,13 @@
--- The nodes that a call builds are the tree of its events, written in post-order, their records are sound, and each has the kind of the event
--- that completes it (N2, N3): kept by every step of the machine.
+-- The nodes that a call builds are the tree of its events, written in post-order, their records are sound, and each has the shape of the event
+-- that completes it (N2, N3): kept by every step of the machine, and when the nodes get their parents after the run (02, (c)).
 use mathlib.Core.Path.{◌≡◌, refl, sym, ap, subst, ◌∙◌}
 use mathlib.Core.Bool.{Bool, true, false, cond}
 use mathlib.Core.List.{List, [], ◌∷◌, ◌++◌, append_assoc, append-nil}
 use Rattle.std.specs.Prelude.{Option, Result, Ok, Err, None, Some}
-use Prim.Native.Nat.{ℕ, zero, suc, ◌+◌, ◌%◌, ◌<◌, ◌≤◌}
+use Prim.Native.Nat.{ℕ, zero, suc, ◌+◌, ◌%◌, ◌<◌, ◌≤◌, zero-le}
 use native.Mathlib.Decide.{dec_lt}
 use native.Mathlib.Omega.{arith}
-use borrow.Author.Tests.{lt-ltb, le-ltb, le-leb, eq-eqb, ltb-true, eqb-true}
+use borrow.Author.Tests.{lt-ltb, le-ltb, le-leb, eq-eqb, ltb-true, ltb-false, eqb-true}
 use lib.Dec.{eqb, ltb, leb}
 use lib.ListN.{length, length-append}
 use Rattle.schema.specs.Record.{kind_number}
@@ -22,21 +22,24 @@ use Rattle.event.specs.declared.malformed.Malformed.{Malformed}
 use Rattle.event.specs.declared.read.Event.{Event}
 use Rattle.event.specs.declared.read.Event.TheVariants.{SequenceStart, SequenceEnd, MappingStart, MappingEnd, Scalar, Alias}
 use Rattle.event.specs.declared.tag.YamlTag.{YamlTag}
-use Rattle.records.specs.Record.{with_list, alias_node}
+use Rattle.records.specs.Record.{absent, with_list, with_parent, alias_node}
+use Rattle.records.specs.Parent.{holder, or_absent, parented}
 use Rattle.spans.specs.Scalar.{ScalarAt, list_at, suffix_of, tag_info, resolved_by, scalar_over, scalar_node, scalar_given, event_scalar, event_node}
 use Rattle.spans.specs.Collection.{with_child, awaits_value, closes, collection_kind, members, collection_over, collection_node}
 use Rattle.parser.specs.Machine.{State, empty, Next, go, stop, Outcome, built, refused, root_done, before_root, within_depth, within_room, completed, opening as opened, on_start, ended, on_end, on_alias, keeping, scalar_kept, on_scalar, on_read, next_place, ending, run, run_all}
 use Rattle.records.specs.Layout.{record_room, piece_room}
 use Rattle.parser.specs.Call.{admitted, building}
-use Rattle.parser.proofs.RunLaws.{run_ended, run_stopped, stop_not_go}
+use Rattle.parser.proofs.RunLaws.{run_ended, run_stopped, stop_not_go, parents_built}
 use Rattle.records.specs.declared.record.Node.{Node}
 use Rattle.spans.specs.declared.open.Collection.{Collection}
 use Rattle.spans.specs.declared.open.Collection.TheVariants.{Sequence, Mapping}
 use Rattle.spans.specs.declared.open.Open.{Open}
-use Rattle.node.specs.Forest.{Forest, nil, snoc, post_order, nodes_in}
+use Rattle.records.specs.Forest.{Forest, nil, snoc, post_order, nodes_in, trees, last_root}
+use Rattle.records.proofs.ParentLaws.{under_parent}
+use Rattle.node.proofs.Alike.{sound_under, parented_nodes, parented_tree}
 use Rattle.node.proofs.ForestLaws.{both_true}
-use Rattle.node.specs.Growth.{Shape, scalar, array, hash, Effect, opening, closing, leaf, effect_of, effects_from, with_tree, growth, tree_of, shapes, completions, HasShape}
-use Rattle.node.specs.Built.{trees, Tree, SoundForest, Shaped, EveryBuiltTree}
+use Rattle.node.specs.Growth.{Shape, scalar, alias, array, hash, Effect, opening, closing, leaf, faulty, effect_of, effects_from, with_tree, growth, tree_of, effects, shapes, completions, HasShape}
+use Rattle.node.specs.Built.{Tree, SoundForest, Shaped, EveryBuiltTree}
 
 -- ---- what holds between the growth and the machine's state
 
@@ -138,7 +141,7 @@ root_is_done st x kids k =
 
 -- ---- leaves
 
-leaf_tree : (x : Node) → HasShape scalar x → x.subtree ≡ 1 → Tree x nil
+leaf_tree : (x : Node) → (1 ≤ x.kind) × (x.kind ≤ 6) → x.subtree ≡ 1 → Tree x nil
 unfolding post_order
 leaf_tree x (a, b) c =
     record {
@@ -150,10 +153,10 @@ leaf_tree x (a, b) c =
     }
 
 leaf-added :
-    (g : Progress) (st : State) (x : Node) (ps : List Piece) → Kept g st.opens st.nodes → root_done st ≡ false → Tree x nil → HasShape scalar x →
-    Advance leaf g st (completed x (record { nodes = st.nodes; opens = st.opens; pieces = ps }))
+    (g : Progress) (st : State) (x : Node) (ps : List Piece) (shape : Shape) → Kept g st.opens st.nodes → root_done st ≡ false → Tree x nil → HasShape shape x →
+    Advance (leaf shape) g st (completed x (record { nodes = st.nodes; opens = st.opens; pieces = ps }))
 unfolding completed growth SoundForest post_order
-leaf-added (growing fs) st x ps k d t s =
+leaf-added (growing fs) st x ps shape k d t s =
     record {
       new = x ∷ [];
       next = complete x nil fs;
@@ -162,20 +165,20 @@ leaf-added (growing fs) st x ps k d t s =
       onward = λ ms ys. ap (growth ms ys) (stack-complete x nil fs);
       shaped = λ ms ys h. (s, h);
     }
-leaf-added (grown y others) st x ps k d t s = absurd (true_not_false (sym (root_is_done st y others k) ∙ d))
+leaf-added (grown y others) st x ps shape k d t s = absurd (true_not_false (sym (root_is_done st y others k) ∙ d))
 
 leaf-kept :
     (g : Progress) (st n : State) (room : ℕ) (x : Node) (l : Option (List Piece)) → Kept g st.opens st.nodes → root_done st ≡ false → Tree x nil → HasShape scalar x →
-    keeping room x l st ≡ go n → Advance leaf g st n
+    keeping room x l st ≡ go n → Advance (leaf scalar) g st n
 unfolding keeping
-leaf-kept g st n room x None k d t s e = reached leaf g st (completed x st) n (leaf-added g st x st.pieces k d t s) e
+leaf-kept g st n room x None k d t s e = reached (leaf scalar) g st (completed x st) n (leaf-added g st x st.pieces scalar k d t s) e
 leaf-kept g st n room x (Some ps) k d t s e =
     let y = with_list x (length st.pieces) (length ps) in
     let u : Tree y nil = record { kind = t.kind; count = t.count; scalar = t.scalar; array = t.array; hash = t.hash } in
     let a = completed y (record { nodes = st.nodes; opens = st.opens; pieces = st.pieces ++ ps }) in
-    reached leaf g st a n (leaf-added g st y (st.pieces ++ ps) k d u s) (cond_goes (ltb room (length st.pieces + length ps)) 8 (go a) n e).1
+    reached (leaf scalar) g st a n (leaf-added g st y (st.pieces ++ ps) scalar k d u s) (cond_goes (ltb room (length st.pieces + length ps)) 8 (go a) n e).1
 
-kind_bounds : (r : Resolved) → (1 ≤ kind_number r) × (kind_number r ≤ 6)
+pub kind_bounds : (r : Resolved) → (1 ≤ kind_number r) × (kind_number r ≤ 6)
 kind_bounds Null = (omega arith, omega arith)
 kind_bounds (Boolean b) = (omega arith, omega arith)
 kind_bounds (Integer z) = (omega arith, omega arith)
@@ -185,7 +188,7 @@ kind_bounds BadValue = (omega arith, omega arith)
 
 scalar-kept :
     (text events : List ℕ) (room : ℕ) (x : ScalarAt) (tag : Option YamlTag) (g : Progress) (st n : State) →
-    Kept g st.opens st.nodes → root_done st ≡ false → scalar_kept text events room x tag st ≡ go n → Advance leaf g st n
+    Kept g st.opens st.nodes → root_done st ≡ false → scalar_kept text events room x tag st ≡ go n → Advance (leaf scalar) g st n
 unfolding scalar_kept event_node scalar_over
 scalar-kept text events room x tag g st n k d e =
     let r = resolved_by events x.value x.style tag in
@@ -240,16 +243,16 @@ abbrev end_shape : Collection → Shape
 end_shape Sequence = array
 end_shape Mapping = hash
 
-kind_shape : (collection : Collection) (x : Node) → x.kind ≡ collection_kind collection → HasShape (end_shape collection) x
-kind_shape Sequence x e = e
-kind_shape Mapping x e = e
+kind_shape : (collection : Collection) (x : Node) → x.kind ≡ collection_kind collection → x.measured ≡ 1 → HasShape (end_shape collection) x
+kind_shape Sequence x e m = (e, m)
+kind_shape Mapping x e m = (e, m)
 
 collection_shape :
     (text : List ℕ) (collection : Collection) (o : Open) (i n : ℕ) → closes collection o ≡ true →
     HasShape (end_shape collection) (collection_node text o i n)
 unfolding collection_node collection_over
 collection_shape text collection o i n ends =
-    kind_shape collection (collection_node text o i n) (ap collection_kind (same_kind collection o.collection o refl ends))
+    kind_shape collection (collection_node text o i n) (ap collection_kind (same_kind collection o.collection o refl ends)) refl
 
 end-added :
     (text : List ℕ) (collection : Collection) (o : Open) (os : List Open) (g : Progress) (st : State) (i : ℕ) → Kept g (o ∷ os) st.nodes → closes collection o ≡ true →
@@ -343,8 +346,7 @@ module _ (text events : List ℕ) (room piece_room : ℕ) where
       let a = cond_goes (root_done st) 5 _ n e in
       let b = cond_goes (leb room (length st.nodes)) 7 _ n a.1 in
       let x = alias_node (byte_offset text index) in
-      let s : HasShape scalar x = (omega arith, omega arith) in
-      reached leaf g st (completed x st) n (leaf-added g st x st.pieces k a.0 (leaf_tree x s refl) s) b.1
+      reached (leaf alias) g st (completed x st) n (leaf-added g st x st.pieces alias k a.0 (leaf_tree x (omega arith, omega arith) refl) (refl, refl)) b.1
   step_kept (Err x) g st n k e = absurd (stop_not_go _ n e)
 
   -- ---- the ending
@@ -444,20 +446,72 @@ admitted-built : (a : Result Bool TextError) (o : Outcome) (xs : List Node) (ps 
 admitted-built (Ok ascii) o xs ps e = e
 admitted-built (Err x) o xs ps e = absurd (refused_not_built (error_number x) 0 xs ps e)
 
-limited_built : (t : Bool) (o : Outcome) (xs : List Node) (ps : List Piece) → cond t (refused 1 0) o ≡ built xs ps → o ≡ built xs ps
+limited_built : (t : Bool) (o : Outcome) (xs : List Node) (ps : List Piece) → cond t (refused 1 0) o ≡ built xs ps → (t ≡ false) × (o ≡ built xs ps)
 limited_built true o xs ps e = absurd (refused_not_built 1 0 xs ps e)
-limited_built false o xs ps e = e
+limited_built false o xs ps e = (refl, e)
+
+-- a parent changes no shape
+shaped_parented : (n : ℕ) (ss : List Shape) (xs : List Node) → Shaped ss xs → Shaped ss (parented n xs)
+unfolding parented
+shaped_parented n [] [] h = tt
+shaped_parented n [] (x ∷ xs) h = absurd h
+shaped_parented n (s ∷ ss) [] h = absurd h
+shaped_parented n (s ∷ ss) (x ∷ xs) (a, h) = (same_shape s (or_absent (holder (n + 1) 1 xs)) a, shaped_parented (n + 1) ss xs h)
+  where
+    same_shape : (s : Shape) (p : ℕ) → HasShape s x → HasShape s (with_parent x p)
+    same_shape scalar p a = a
+    same_shape alias p a = a
+    same_shape array p a = a
+    same_shape hash p a = a
+
+-- no more nodes than events, which are no more than their bytes
+
+shapes_few : (ms : List Effect) → length (shapes ms) ≤ length ms
+shapes_few [] = omega arith
+shapes_few (opening ∷ ms) = let l = shapes_few ms in omega arith
+shapes_few (closing s ∷ ms) = let l = shapes_few ms in omega arith
+shapes_few (leaf s ∷ ms) = let l = shapes_few ms in omega arith
+shapes_few (faulty ∷ ms) = zero-le
+
+effects_few : (events : List ℕ) (f i : ℕ) → length (effects_from events f i) ≤ f
+unfolding effects_from
+effects_few events zero i = zero-le
+effects_few events (suc f) i = by (ltb i (length events)) (effects_few events f (next_place (read_event events i)))
+  where
+    by : (t : Bool) → length (effects_from events f (next_place (read_event events i))) ≤ f
+        → length (cond t (effect_of (read_event events i) ∷ effects_from events f (next_place (read_event events i))) []) ≤ suc f
+    by true l = omega arith
+    by false l = zero-le
+
+pub completions_few : (events : List ℕ) → length (completions events) ≤ length events
+completions_few events =
+    let a = shapes_few (effects_from events (length events) 0) in
+    let b = effects_few events (length events) 0 in
+    omega arith
+
+-- a call that built: its events are within the limit, and its nodes are those of the run with their parents
+pub built_run :
+    (text events : List ℕ) (size piece_size : ℕ) (xs : List Node) (ps : List Piece) → building text events size piece_size ≡ built xs ps →
+    (length events ≤ events_limit) × (ys : List Node) × (run_all text events (record_room size) (piece_room piece_size) ≡ built ys ps) × (parented 0 ys ≡ xs)
+unfolding building
+built_run text events size piece_size xs ps e =
+    let l = limited_built (ltb events_limit (length events)) _ xs ps e in
+    let p = parents_built _ xs ps (admitted-built (admission text) _ xs ps l.1) in
+    (ltb-false events_limit (length events) l.0, p.0, p.1, p.2)
 
 pub built_tree : EveryBuiltTree
-unfolding building run_all
+unfolding run_all
 built_tree text events size piece_size xs ps e =
-    let r = admitted-built (admission text) _ xs ps (limited_built (ltb events_limit (length events)) _ xs ps e) in
-    let m = run-made text events (record_room size) (piece_room piece_size) (length events) 0 0 (growing []) empty xs ps refl r in
+    let r = built_run text events size piece_size xs ps e in
+    let m = run-made text events (record_room size) (piece_room piece_size) (length events) 0 0 (growing []) empty r.1 ps refl r.2 in
+    let whole = snoc nil m.root m.kids in
+    let tree : tree_of events (post_order whole) ≡ whole ∷ [] = ap (λ (zs : List Node). tree_of events zs) (sym m.whole.order ∙ m.nodes) ∙ m.tree in
+    let nodes : xs ≡ parented 0 (post_order whole) = sym r.3 ∙ ap (parented 0) m.whole.order in
     record {
-      root = m.root;
-      kids = m.kids;
-      tree = ap (λ (ys : List Node). tree_of events ys) m.nodes ∙ m.tree;
-      order = m.whole.order;
-      sound = m.whole.sound;
-      shaped = subst (Shaped (completions events)) (sym m.nodes) m.shaped;
+      root = with_parent m.root absent;
+      kids = under_parent (0 + nodes_in nil) (last_root 0 whole) m.kids;
+      tree = ap (λ (zs : List Node). tree_of events zs) nodes ∙ parented_tree (effects events) whole m.whole.sound tree;
+      order = nodes ∙ parented_nodes whole m.whole.sound;
+      sound = sound_under 0 absent whole m.whole.sound;
+      shaped = subst (Shaped (completions events)) r.3 (shaped_parented 0 (completions events) r.1 (subst (Shaped (completions events)) (sym m.nodes) m.shaped));
     }

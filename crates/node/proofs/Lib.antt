@@ -13,7 +13,11 @@ mod ForestLaws
 mod SearchLaws
 -- each node but the root is a child of exactly one
 mod Parents
+-- the tree that events make of other nodes
+mod Alike
 -- what a call builds is the tree of its events: `built_tree`
 pub mod GrowthLaws
 -- and the accessors give it back: `read_back`
 pub mod ReadBackLaws
+-- whether a scalar's span was measured, by the accessor
+pub mod FlagLaws

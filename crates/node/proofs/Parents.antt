@@ -1,18 +1,21 @@
 -- Every node of a forest but its roots is a child of exactly one node (N3). The parents are a list beside the post-order, so that there is one
--- for each; that it says who is whose child is shown in both directions.
-use mathlib.Core.Path.{◌≡◌, refl, sym, ap, ◌∙◌}
+-- for each; that it says who is whose child is shown in both directions, and that it is what the nodes with their parents say (02, (c)).
+use mathlib.Core.Path.{◌≡◌, refl, sym, ap, ap₂, ◌∙◌}
 use mathlib.Core.Logic.{◌⊎◌, inl, inr}
 use mathlib.Core.List.{List, [], ◌∷◌, ◌++◌}
-use Rattle.std.specs.Prelude.{Some, slice_get}
+use Rattle.std.specs.Prelude.{Option, Some, slice_get, cond, ltb}
 use Rattle.std.proofs.lemmas.Option.{same_Some}
 use Prim.Native.Nat.{ℕ, ◌+◌, ◌-◌, ◌<◌}
 use native.Mathlib.Decide.{dec_lt}
 use native.Mathlib.Omega.{arith}
 use lib.ListN.{length, length-append}
+use Rattle.records.specs.Record.{with_parent}
+use Rattle.records.specs.Parent.{holder, or_absent, parented}
+use Rattle.records.proofs.ParentLaws.{order_length, under_parent}
 use Rattle.records.specs.declared.record.Node.{Node}
 use Rattle.node.proofs.Members.{member_left, member_right, member_within}
-use Rattle.node.specs.Forest.{Forest, nil, snoc, post_order, nodes_in, last_root, roots, Has}
-use Rattle.node.proofs.ForestLaws.{order_length}
+use Rattle.records.specs.Forest.{Forest, nil, snoc, post_order, nodes_in, last_root}
+use Rattle.node.specs.Forest.{roots, Has}
 
 -- of a forest whose roots are the children of number q, and before which come p nodes
 abbrev pub parents : ℕ → ℕ → Forest → List ℕ
@@ -53,7 +56,7 @@ module _ (p q : ℕ) (f : Forest) (x : Node) (kids : Forest) where
 
 -- ---- a child has that parent
 
-roots_parent : (p q : ℕ) (f : Forest) (i r : ℕ) → slice_get (roots p f) i ≡ Some r → (j : ℕ) × (r ≡ p + j) × (slice_get (parents p q f) j ≡ Some q)
+pub roots_parent : (p q : ℕ) (f : Forest) (i r : ℕ) → slice_get (roots p f) i ≡ Some r → (j : ℕ) × (r ≡ p + j) × (slice_get (parents p q f) j ≡ Some q)
 roots_parent p q nil i r e = absurd (let h = member_within (roots p nil) i r e in omega arith)
 roots_parent p q (snoc f x kids) i r e = by (dec_lt i (length (roots p f))) (roots_parent p q f i r)
   where
@@ -141,3 +144,35 @@ parent_child p q (snoc f y others) j n e =
         let z = same_Some n q (sym e ∙ ap (slice_get (parents p q whole)) here ∙ at_last p q f y others) in
         let r : slice_get (roots p whole) (length (roots p f) + 0) ≡ Some (last_root p whole) = member_right (roots p f) (last_root p whole ∷ []) 0 in
         inl (z, length (roots p f) + 0, r ∙ ap Some (ap (λ (k : ℕ). p + k) (sym here)))
+
+-- ---- what the nodes say
+
+abbrev pub parents_in : List Node → List ℕ
+parents_in [] = []
+parents_in (x ∷ xs) = x.parent ∷ parents_in xs
+
+parents_append : (xs ys : List Node) → parents_in (xs ++ ys) ≡ parents_in xs ++ parents_in ys
+parents_append [] ys = refl
+parents_append (x ∷ xs) ys = ap (λ (l : List ℕ). x.parent ∷ l) (parents_append xs ys)
+
+pub parents_said : (p q : ℕ) (f : Forest) → parents_in (post_order (under_parent p q f)) ≡ parents p q f
+unfolding post_order
+parents_said p q nil = refl
+parents_said p q (snoc f x kids) =
+    let f' = post_order (under_parent p q f) in
+    let kids' = post_order (under_parent (p + nodes_in f) (last_root p (snoc f x kids)) kids) in
+    parents_append f' (kids' ++ (with_parent x q ∷ []))
+    ∙ ap₂ ◌++◌ (parents_said p q f) (parents_append kids' (with_parent x q ∷ []) ∙ ap (λ (l : List ℕ). l ++ (q ∷ [])) (parents_said (p + nodes_in f) (last_root p (snoc f x kids)) kids))
+
+-- what holds a node goes by the counts, not by parents
+holder_again : (m n d : ℕ) (xs : List Node) → holder n d (parented m xs) ≡ holder n d xs
+unfolding holder parented
+holder_again m n d [] = refl
+holder_again m n d (x ∷ xs) = ap (cond (ltb d x.subtree) (Some n)) (holder_again (m + 1) (n + 1) (d + 1) xs)
+
+-- nodes that have their parents get the same again
+pub parented_again : (n : ℕ) (xs : List Node) → parented n (parented n xs) ≡ parented n xs
+unfolding parented
+parented_again n [] = refl
+parented_again n (x ∷ xs) =
+    ap₂ (λ (o : Option ℕ) (l : List Node). with_parent x (or_absent o) ∷ l) (holder_again (n + 1) (n + 1) 1 xs) (parented_again (n + 1) xs)

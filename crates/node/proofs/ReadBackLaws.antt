@@ -3,31 +3,37 @@ use mathlib.Core.Path.{◌≡◌, refl, sym, ap, subst, ◌∙◌}
 use mathlib.Core.Bool.{Bool, true, false}
 use mathlib.Core.Logic.{◌⊎◌, inl, inr}
 use mathlib.Core.List.{List, [], ◌∷◌, ◌++◌, append_assoc, append-nil}
-use Rattle.std.specs.Prelude.{None, Option, Some, if◌then◌else◌, slice_get}
+use Rattle.std.specs.Prelude.{None, Option, Some, if◌then◌else◌, option_map, slice_get}
 use Rattle.std.proofs.lemmas.Option.{none-some, same_Some}
-use Prim.Native.Nat.{ℕ, zero, suc, ◌+◌, ◌-◌, ◌*◌, ◌<◌}
+use Prim.Native.Nat.{ℕ, zero, suc, ◌+◌, ◌-◌, ◌*◌, ◌<◌, ◌≤◌}
 use native.Mathlib.Decide.{dec_lt}
 use native.Mathlib.Omega.{arith}
 use borrow.Author.Tests.{lt-ltb, le-leb, eqb-true}
 use lib.Dec.{eqb}
 use lib.ListN.{length, length-append}
+use Rattle.records.specs.Record.{absent}
 use Rattle.records.specs.Layout.{laid_nodes}
+use Rattle.records.specs.Parent.{parented}
+use Rattle.records.proofs.ParentLaws.{order_length, under_parent}
 use Rattle.records.specs.declared.record.Node.{Node}
 use Rattle.node.specs.Chain.{◌>>=◌}
 use Rattle.node.proofs.Answers.{members_of, item_members, entry-members}
 use Rattle.node.proofs.Members.{member_left, member_right, member_past, member_within, member_some}
+use Rattle.node.specs.Source.{is_measured_at}
 use Rattle.node.specs.Record.{is_kind, existing, record_at}
 use Rattle.node.specs.RecordLaws.{record_laid}
-use Rattle.node.specs.Child.{place_at, record_before, array_item}
+use Rattle.node.specs.Child.{place_at, record_before, array_item, parent_at}
 use Rattle.node.specs.Entry.{hash_entry}
 use Rattle.node.specs.declared.entry.YamlHashEntry.{YamlHashEntry}
-use Rattle.node.specs.Forest.{Forest, nil, snoc, post_order, nodes_in, last_root, roots, pairs_of, Has}
+use Rattle.records.specs.Forest.{Forest, nil, snoc, post_order, nodes_in, last_root, trees}
+use Rattle.node.specs.Forest.{roots, pairs_of, Has}
 use Rattle.node.proofs.ForestLaws as forest
 use Rattle.node.proofs.SearchLaws as search
-use Rattle.node.proofs.Parents.{Parent, parents, parents-length, at_last, child-parent, parent_child}
-use Rattle.node.specs.Growth.{Shape, scalar, array, hash, completions, HasShape}
-use Rattle.node.specs.Built.{trees, Tree, SoundForest, Shaped}
-use Rattle.node.proofs.GrowthLaws.{built_tree}
+use Rattle.node.proofs.Parents.{Parent, parents, parents-length, at_last, roots_parent, child-parent, parent_child, parents_in, parents_said, parented_again}
+use Rattle.node.specs.Growth.{Shape, scalar, alias, array, hash, completions, HasShape}
+use Rattle.node.specs.Built.{Tree, SoundForest, Shaped}
+use Rattle.node.proofs.Alike.{parented_nodes}
+use Rattle.node.proofs.GrowthLaws.{completions_few, built_run, built_tree}
 use Rattle.node.specs.ReadBack.{IsChild, NodeReadBack, ReadBack, EveryTreeReadBack}
 
 -- ---- a tree's place among the nodes
@@ -70,7 +76,7 @@ located (snoc f y others) p n h = by (dec_lt n (nodes_in f)) (dec_lt n (nodes_in
         (n - nodes_in f < nodes_in others → Found others (p + nodes_in f) (n - nodes_in f)) → Found (snoc f y others) p n
     by (yes l) d front next = let w = front l in (w.0, w.1, w.2, inl w.3, w.4)
     by (no l) (yes d) front next = let w = next (omega arith) in let e = w.4 in (w.0, w.1, w.2, inr (inl w.3), omega arith)
-    by (no l) (no d) front next = let o = forest.order_length f y others in (p + nodes_in f, y, others, inr (inr (refl, refl, refl)), omega arith)
+    by (no l) (no d) front next = let o = order_length f y others in (p + nodes_in f, y, others, inr (inr (refl, refl, refl)), omega arith)
 
 -- ---- keys and values are roots
 
@@ -109,6 +115,14 @@ pair-roots p (snoc (snoc f y others) x kids) i e q = by (dec_lt i (length (pairs
           (length (roots p f) + 0, member_left (roots p (snoc f y others)) _ (length (roots p f) + 0) (omega arith) ∙ k ∙ ap (λ (d : YamlHashEntry). Some d.key) (sym z)),
           (length (roots p (snoc f y others)) + 0, member_right (roots p (snoc f y others)) (last_root p whole ∷ []) 0 ∙ ap (λ (d : YamlHashEntry). Some d.value) (sym z)),
         )
+
+-- a tree of the forest ends within it
+has_inside : (f : Forest) (p s : ℕ) (x : Node) (kids : Forest) → Has f p s x kids → s + nodes_in kids < p + nodes_in f
+unfolding Has
+has_inside nil p s x kids h = absurd h
+has_inside (snoc f y others) p s x kids (inl h) = let l = has_inside f p s x kids h in let n = order_length f y others in omega arith
+has_inside (snoc f y others) p s x kids (inr (inl h)) = let l = has_inside others (p + nodes_in f) s x kids h in let n = order_length f y others in omega arith
+has_inside (snoc f y others) p s x kids (inr (inr (a, b, c))) = let n = order_length f y others in let e = ap nodes_in c in omega arith
 
 -- and of an even number of roots each is a pair's key or value
 root-pairs :
@@ -173,8 +187,9 @@ record_within size xs n y e = by (dec_lt n (length xs))
 
 shape_is_kind : (s : Shape) (x : Node) → HasShape s x → is_kind x.kind ≡ true
 shape_is_kind scalar x (a, b) = rw (le-leb 1 x.kind a, le-leb x.kind 8 (omega arith))
-shape_is_kind array x e = rw e refl
-shape_is_kind hash x e = rw e refl
+shape_is_kind alias x e = rw e.0 refl
+shape_is_kind array x e = rw e.0 refl
+shape_is_kind hash x e = rw e.0 refl
 
 shaped_length : (ss : List Shape) (xs : List Node) → Shaped ss xs → length ss ≡ length xs
 shaped_length [] [] h = refl
@@ -188,6 +203,20 @@ shaped_member [] (x ∷ xs) h j s e = absurd h
 shaped_member (t ∷ ss) [] h j s e = absurd h
 shaped_member (t ∷ ss) (x ∷ xs) (a, h) zero s e = (x, refl, subst (λ (z : Shape). HasShape z x) (same_Some t s e) a)
 shaped_member (t ∷ ss) (x ∷ xs) (a, h) (suc j) s e = shaped_member ss xs h j s e
+
+-- what the records of such nodes say of their parents
+parents_read : (ss : List Shape) (xs : List Node) → Shaped ss xs → (c : ℕ)
+    → option_map (λ (x : Node). x.parent) (slice_get xs c >>= existing) ≡ slice_get (parents_in xs) c
+unfolding existing
+parents_read [] [] h c = refl
+parents_read [] (x ∷ xs) h c = absurd h
+parents_read (s ∷ ss) [] h c = absurd h
+parents_read (s ∷ ss) (x ∷ xs) (a, h) zero = rw (shape_is_kind s x a)
+parents_read (s ∷ ss) (x ∷ xs) (a, h) (suc c) = parents_read ss xs h c
+
+parent_read : (size : ℕ) (ss : List Shape) (xs : List Node) → Shaped ss xs → (c : ℕ) → parent_at (laid_nodes size xs) c ≡ slice_get (parents_in xs) c
+unfolding parent_at
+parent_read size ss xs h c = ap (option_map (λ (x : Node). x.parent)) (record_laid size xs c) ∙ parents_read ss xs h c
 
 -- ---- over the nodes of a whole tree
 
@@ -236,6 +265,16 @@ module _ (size : ℕ) (events : List ℕ) (x : Node) (kids : Forest) (xs : List 
       let f = shaped_member ss xs h j s e in
       let is : existing f.0 ≡ Some f.0 = rw (shape_is_kind s f.0 f.2) in
       (f.0, record_laid size xs j ∙ ap (λ (o : Option Node). o >>= existing) f.1 ∙ is, f.2)
+
+  flags : (ss : List Shape) → Shaped ss xs → (j : ℕ) (s : Shape) → slice_get ss j ≡ Some s → (s ≡ scalar) ⊎ (is_measured_at (laid_nodes size xs) j ≡ Some 1)
+  unfolding is_measured_at
+  flags ss h j s e = let k = kinds ss h j s e in by s k.0 k.2 (ap (option_map (λ (y : Node). y.measured)) k.1)
+    where
+      by : (s : Shape) (y : Node) → HasShape s y → is_measured_at (laid_nodes size xs) j ≡ Some y.measured → (s ≡ scalar) ⊎ (is_measured_at (laid_nodes size xs) j ≡ Some 1)
+      by scalar y a f = inl refl
+      by alias y a f = inr (f ∙ ap Some a.1)
+      by array y a f = inr (f ∙ ap Some a.1)
+      by hash y a f = inr (f ∙ ap Some a.1)
 
   -- ---- children by the accessors and children in the tree
 
@@ -324,6 +363,60 @@ module _ (size : ℕ) (events : List ℕ) (x : Node) (kids : Forest) (xs : List 
       let z = same_Some m (suc m) (sym (only_parent (suc m) m (nodes_in kids) h) ∙ ap (slice_get (parents 0 (suc m) tree)) (sym here) ∙ at_last 0 (suc m) nil x kids) in
       absurd (omega arith)
 
+  -- ---- up and down
+
+  above : (p c : ℕ) → IsChild (laid_nodes size xs) p c → c < p
+  unfolding Rooted
+  above p c h =
+      let r = child_root p c h in
+      let v = roots_parent r.0 0 r.2 r.5 c r.6 in
+      let l = member_within (parents r.0 0 r.2) v.0 0 v.2 in
+      let n = parents-length r.0 0 r.2 in
+      let a = v.1 in
+      let b = r.4 in
+      omega arith
+
+  module _ (said : (c : ℕ) → parent_at (laid_nodes size xs) c ≡ slice_get (parents 0 absent tree) c) where
+    up : (p c : ℕ) → IsChild (laid_nodes size xs) p c → parent_at (laid_nodes size xs) c ≡ Some p
+    up p c h = said c ∙ only_parent absent p c h
+
+    down : (p c : ℕ) → parent_at (laid_nodes size xs) c ≡ Some p → (p ≡ absent) ⊎ IsChild (laid_nodes size xs) p c
+    down p c e = by (parent_child 0 absent tree c p (sym (said c) ∙ e))
+      where
+        by : Parent 0 absent tree c p → (p ≡ absent) ⊎ IsChild (laid_nodes size xs) p c
+        by (inl (a, i, r)) = inl a
+        by (inr (s, y, others, h, q, i, r)) =
+            inr (subst (λ (z : ℕ). IsChild (laid_nodes size xs) z c) (sym q) (root_child s y others i c h (r ∙ ap Some (omega arith))))
+
+    root_none : parent_at (laid_nodes size xs) (nodes_in kids) ≡ Some absent
+    unfolding tree post_order
+    root_none =
+        let here : nodes_in nil + nodes_in kids ≡ nodes_in kids = omega arith in
+        said (nodes_in kids) ∙ ap (slice_get (parents 0 absent tree)) (sym here) ∙ at_last 0 absent nil x kids
+
+    root_alone : length xs ≤ absent → (c : ℕ) → parent_at (laid_nodes size xs) c ≡ Some absent → c ≡ nodes_in kids
+    unfolding tree post_order Rooted
+    root_alone few c e = by (dec_lt c (nodes_in kids))
+      where
+        n : length xs ≡ nodes_in kids + 1
+        n = ap length order ∙ tree_nodes
+
+        by : Dec (c < nodes_in kids) → c ≡ nodes_in kids
+        by (yes l) =
+            let o = one_parent c l in
+            let q = same_Some o.0 absent (sym (up o.0 c o.1) ∙ e) in
+            let r = child_root o.0 c o.1 in
+            let f = has_inside tree 0 r.0 r.1 r.2 r.3 in
+            let t = tree_nodes in
+            let m = r.4 in
+            let long = n in
+            absurd (omega arith)
+        by (no l) =
+            let w = member_within (parents 0 absent tree) c absent (sym (said c) ∙ e) in
+            let k = parents-length 0 absent tree in
+            let t = tree_nodes in
+            omega arith
+
   last_is_root : length xs ≡ nodes_in kids + 1 → record_before (laid_nodes size xs) (length xs) ≡ Some (nodes_in kids)
   unfolding tree Has record_before place_at post_order
   last_is_root n =
@@ -331,17 +424,26 @@ module _ (size : ℕ) (events : List ℕ) (x : Node) (kids : Forest) (xs : List 
       let d : length xs - 1 ≡ 0 + nodes_in kids = omega arith in
       rw (lt-ltb 0 (length xs) (omega arith), d, r) (ap Some (omega arith))
 
-  whole_read_back : Shaped (completions events) xs → ReadBack (laid_nodes size xs) events (length xs) x kids
+  whole_read_back : Shaped (completions events) xs → parents_in xs ≡ parents 0 absent (snoc nil x kids) → length xs ≤ absent
+      → ReadBack (laid_nodes size xs) events (length xs) x kids
   unfolding tree
-  whole_read_back shaped =
+  whole_read_back shaped are few =
+      let said : (c : ℕ) → parent_at (laid_nodes size xs) c ≡ slice_get (parents 0 absent tree) c =
+      λ c. parent_read size (completions events) xs shaped c ∙ ap (λ (l : List ℕ). slice_get l c) are in
       let n : length xs ≡ nodes_in kids + 1 = ap length order ∙ tree_nodes in
       record {
         root = (last_is_root n, n);
         nodes = nodes;
         count = shaped_length (completions events) xs shaped;
         kinds = kinds (completions events) shaped;
+        flags = flags (completions events) shaped;
         one_parent = one_parent;
         root_no_child = root_no_child;
+        up = up said;
+        down = down said;
+        above = above;
+        root_none = root_none said;
+        root_alone = root_alone said few;
       }
 
 -- ---- a call that built
@@ -349,9 +451,16 @@ module _ (size : ℕ) (events : List ℕ) (x : Node) (kids : Forest) (xs : List 
 pub read_back : EveryTreeReadBack
 read_back text events size piece_size xs ps e =
     let t = built_tree text events size piece_size xs ps e in
+    let r = built_run text events size piece_size xs ps e in
+    let whole = snoc nil t.root t.kids in
+    let again : parented 0 xs ≡ xs = ap (parented 0) (sym r.3) ∙ parented_again 0 r.1 ∙ r.3 in
+    let order : xs ≡ post_order (under_parent 0 absent whole) = sym again ∙ ap (parented 0) t.order ∙ parented_nodes whole t.sound in
+    let few = completions_few events in
+    let count = shaped_length (completions events) xs t.shaped in
+    let short = r.0 in
     record {
       root = t.root;
       kids = t.kids;
       tree = t.tree;
-      read = whole_read_back size events t.root t.kids xs t.order t.sound t.shaped;
+      read = whole_read_back size events t.root t.kids xs t.order t.sound t.shaped (ap parents_in order ∙ parents_said 0 absent whole) (omega arith);
     }

@@ -15,8 +15,9 @@ use Rattle.node.specs.Child.{record_before, child_before}
 use Rattle.node.specs.Entry.{entry, pair_ending}
 use Rattle.node.specs.Search.{key_is, earlier, search_back, first_with, hash_value}
 use Rattle.node.specs.declared.entry.YamlHashEntry.{YamlHashEntry}
-use Rattle.node.specs.Forest.{Forest, nil, snoc, post_order, nodes_in, last_root, pairs_of}
-use Rattle.node.specs.Built.{trees, Tree, SoundForest}
+use Rattle.records.specs.Forest.{Forest, nil, snoc, post_order, nodes_in, last_root, trees}
+use Rattle.node.specs.Forest.{pairs_of}
+use Rattle.node.specs.Built.{Tree, SoundForest}
 use Rattle.node.proofs.ForestLaws.{laid, laid_front, root_before, root-pair, last-root, members-said}
 use Rattle.node.proofs.Answers.{value-members}
 

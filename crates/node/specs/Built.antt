@@ -1,18 +1,14 @@
 -- What is shown of the nodes that a call builds (N2, N3), apart from the accessors: they are the tree of the events, written in post-order; each
 -- record says how many nodes its tree has and how many children, or pairs; and each has the shape of the event that completes it. Proved as
 -- `built_tree` (proofs/GrowthLaws.antt).
-use Rattle.std.specs.Prelude.{◌≡◌, true, List, [], ◌∷◌, ℕ, suc, ◌+◌, ◌*◌, ◌<◌}
+use Rattle.std.specs.Prelude.{◌≡◌, true, List, [], ◌∷◌, ℕ, ◌+◌, ◌*◌, ◌<◌}
 use Rattle.provenance.specs.Reading.{Piece}
 use Rattle.parser.specs.Machine.{built}
 use Rattle.parser.specs.Call.{building}
 use Rattle.records.specs.declared.record.Node.{Node}
 use Rattle.node.specs.Record.{is_kind}
-use Rattle.node.specs.Forest.{Forest, nil, snoc, post_order, nodes_in}
+use Rattle.records.specs.Forest.{Forest, nil, snoc, post_order, nodes_in, trees}
 use Rattle.node.specs.Growth.{Shape, tree_of, completions, HasShape}
-
-abbrev pub trees : Forest → ℕ
-trees nil = 0
-trees (snoc f x kids) = suc (trees f)
 
 -- a node's record over its children
 pub record Tree (x : Node) (kids : Forest) : Type 0 where

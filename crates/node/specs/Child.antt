@@ -1,9 +1,10 @@
--- Children by their records' numbers (N3). The last child of n is n − 1, the child before c is c less c's subtree count; a hash's children
+-- Children and the parent by their records' numbers (N3; 02, (c)). The last child of n is n − 1, the child before c is c less c's subtree count; a hash's children
 -- are its keys and values in turn. A child counts from the first: item i of k is reached from the last by k − 1 − i steps back.
 --
 -- What document 01 leaves open: a collection of no children has no last child. A count that leads below record 0 gives none. A count that
 -- leads to a record outside the collection is followed, since the number of children alone says where the first one is.
-use Rattle.std.specs.Prelude.{ℕ, zero, suc, ◌-◌, ◌&&◌, if◌then◌else◌, List, ltb, leb, Option, Some, None}
+use Rattle.std.specs.Prelude.{ℕ, zero, suc, ◌-◌, ◌&&◌, if◌then◌else◌, List, ltb, leb, Option, Some, None, option_map}
+use Rattle.records.specs.declared.record.Node.{Node}
 use Rattle.node.specs.Chain.{◌>>=◌}
 use Rattle.node.specs.Record.{record_at}
 use Rattle.node.specs.Kind.{is_array, children, len_at}
@@ -46,3 +47,7 @@ unfoldable pub array_item : List ℕ → ℕ → ℕ → Option ℕ
 array_item b n i = do
   x ← record_at b n
   if is_array x && ltb i x.payload.first then child_from_last b n (x.payload.first - 1 - i) else None
+
+-- the parent, as the record says; the number that stands for none is told as it is
+unfoldable pub parent_at : List ℕ → ℕ → Option ℕ
+parent_at b n = option_map (λ (x : Node). x.parent) (record_at b n)

@@ -6,16 +6,31 @@ use Rattle.records.specs.declared.record.Node.{Node}
 use Rattle.records.specs.declared.record.TagInfo.{TagInfo}
 use Rattle.node.specs.Record.{existing, record_at}
 use Rattle.node.specs.Kind.{len_at}
-use Rattle.node.specs.Source.{is_absent, tag_of}
-use Rattle.node.specs.Child.{place_at, record_before, last_child, child_before, steps_back, child_from_last, array_item}
+use Rattle.node.specs.Source.{is_absent, tag_of, is_measured_at}
+use Rattle.node.specs.Child.{place_at, record_before, last_child, child_before, steps_back, child_from_last, array_item, parent_at}
 use Rattle.node.specs.Entry.{pair_ending, hash_entry}
 use Rattle.node.specs.Search.{string_is, key_is, search_back, hash_value}
-use Rattle.node.specs.Forest.{nil, snoc}
-use Rattle.node.specs.Growth.{Effect, scalar, array, hash, opening, closing, leaf, growth, shapes}
+use Rattle.records.specs.Forest.{nil, snoc}
+use Rattle.node.specs.Growth.{Effect, scalar, alias, array, hash, opening, closing, leaf, growth, shapes}
 
--- a record of this kind, span, subtree count and payload, with no tag and no list
+-- a record of this kind, span, subtree count, payload and parent, with no tag and no list
+abbrev child : ℕ → ℕ → ℕ → ℕ → ℕ → ℕ → ℕ → List ℕ
+child kind a e count p q parent =
+    node_numbers
+    (record {
+      kind = kind;
+      extent = extent a e;
+      tag = no_tag;
+      subtree = count;
+      list = no_list;
+      payload = two_numbers p q;
+      parent = parent;
+      measured = 1;
+    })
+
+-- and with no parent
 abbrev row : ℕ → ℕ → ℕ → ℕ → ℕ → ℕ → List ℕ
-row kind a e count p q = node_numbers (record { kind = kind; extent = extent a e; tag = no_tag; subtree = count; list = no_list; payload = two_numbers p q })
+row kind a e count p q = child kind a e count p q absent
 
 -- `k: [x, y]`, `k: z`, as one hash: both keys are the byte 107 of the event bytes
 abbrev events : List ℕ
@@ -23,19 +38,33 @@ events = 107 ∷ 120 ∷ 121 ∷ 122 ∷ []
 
 abbrev buffer : List ℕ
 buffer =
-    row 5 0 1 1 0 1 ++ row 5 4 5 1 1 1 ++ row 5 7 8 1 2 1 ++ row 7 3 9 3 2 0
-    ++ row 5 10 11 1 0 1 ++ row 5 13 14 1 3 1 ++ row 8 0 14 7 2 0
+    child 5 0 1 1 0 1 6 ++ child 5 4 5 1 1 1 3 ++ child 5 7 8 1 2 1 3 ++ child 7 3 9 3 2 0 6
+    ++ child 5 10 11 1 0 1 6 ++ child 5 13 14 1 3 1 6 ++ row 8 0 14 7 2 0
 
 abbrev tag_with : ℕ → ℕ → ℕ → ℕ → TagInfo
 tag_with a e s n = record { start = a; end = e; suffix = s; len = n }
 
--- a null with this tag
-abbrev null_with : TagInfo → List ℕ
-null_with t = node_numbers (record { kind = 1; extent = extent 0 0; tag = t; subtree = 1; list = no_list; payload = two_numbers 0 0 })
+-- a null with this tag and flag
+abbrev null_with_flag : TagInfo → ℕ → List ℕ
+null_with_flag t measured =
+    node_numbers
+    (record {
+      kind = 1;
+      extent = extent 0 0;
+      tag = t;
+      subtree = 1;
+      list = no_list;
+      payload = two_numbers 0 0;
+      parent = absent;
+      measured = measured;
+    })
 
--- of `[a, {b: c}]`
+abbrev null_with : TagInfo → List ℕ
+null_with t = null_with_flag t 0
+
+-- of `[a, {b: *c}]`
 abbrev small_tree : List Effect
-small_tree = opening ∷ leaf ∷ opening ∷ leaf ∷ leaf ∷ closing hash ∷ closing array ∷ []
+small_tree = opening ∷ leaf scalar ∷ opening ∷ leaf scalar ∷ leaf alias ∷ closing hash ∷ closing array ∷ []
 
 pub record Cases : Type 0 where
   -- the root of seven nodes; its last child; the children before
@@ -65,11 +94,22 @@ pub record Cases : Type 0 where
   pub of_a_scalar : child_from_last buffer 2 0 ≡ None
   pub of_none : child_from_last (row 1 0 0 1 0 0 ++ row 9 0 0 2 1 0) 1 0 ≡ None
   -- records that are cut off, or of kind 0 or 9, are missing; a count of 0 is not followed, nor one that leads below record 0
-  pub cut_off : place_at (take 83 buffer) 6 ≡ None
+  pub cut_off : place_at (take 97 buffer) 6 ≡ None
   pub kind_0 : place_at (row 0 0 0 1 0 0) 0 ≡ None
   pub kind_9 : place_at (row 9 0 0 1 0 0) 0 ≡ None
   pub count_0 : child_before (row 1 0 0 1 0 0 ++ row 1 0 0 0 0 0) 1 ≡ None
   pub count_2 : child_before (row 1 0 0 1 0 0 ++ row 1 0 0 2 0 0) 1 ≡ None
+  -- the parent and the flag as the record says; the root's parent is the number that stands for none; a missing record says nothing
+  pub up : parent_at buffer 1 ≡ Some 3
+  pub further_up : parent_at buffer 3 ≡ Some 6
+  pub top : parent_at buffer 6 ≡ Some absent
+  -- which may be its own number, or any
+  pub own_parent : parent_at (child 1 0 0 1 0 0 0) 0 ≡ Some 0
+  pub no_parent : parent_at (row 9 0 0 1 0 0) 0 ≡ None
+  pub flag : is_measured_at buffer 6 ≡ Some 1
+  pub no_flag : is_measured_at (null_with no_tag) 0 ≡ Some 0
+  pub other_flag : is_measured_at (null_with_flag no_tag 2) 0 ≡ Some 2
+  pub flag_of_none : is_measured_at buffer 7 ≡ None
   -- no tag only where all four of its numbers say so
   pub no_tag_is : tag_of (null_with no_tag) 0 ≡ None
   pub tag_of_length : tag_of (null_with (tag_with absent absent absent 0)) 0 ≡ Some (tag_with absent absent absent 0)
@@ -78,11 +118,11 @@ pub record Cases : Type 0 where
   pub small-tree :
       (a b c d e : Node) →
       growth small_tree (a ∷ b ∷ c ∷ d ∷ e ∷ []) (nil ∷ []) ≡ snoc nil e (snoc (snoc nil a nil) d (snoc (snoc nil b nil) c nil)) ∷ []
-  pub small_shapes : shapes small_tree ≡ scalar ∷ scalar ∷ scalar ∷ hash ∷ array ∷ []
+  pub small_shapes : shapes small_tree ≡ scalar ∷ scalar ∷ alias ∷ hash ∷ array ∷ []
 
 pub cases : Cases
 unfolding record_before last_child len_at child_before place_at record_at existing node_of node_numbers array_item hash_entry child_from_last steps_back pair_ending
-    hash_value search_back key_is string_is tag_of is_absent growth
+    hash_value search_back key_is string_is tag_of is_absent parent_at is_measured_at growth
 cases =
     record {
       root = refl;
@@ -109,6 +149,15 @@ cases =
       kind_9 = refl;
       count_0 = refl;
       count_2 = refl;
+      up = refl;
+      further_up = refl;
+      top = refl;
+      own_parent = refl;
+      no_parent = refl;
+      flag = refl;
+      no_flag = refl;
+      other_flag = refl;
+      flag_of_none = refl;
       no_tag_is = refl;
       tag_of_length = refl;
       tag_of_no_start = refl;

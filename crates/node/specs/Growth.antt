@@ -1,6 +1,6 @@
 -- The tree that events make (N3): the children of a collection are the nodes completed directly under it, in the order of the events. It goes
 -- by what an event does to the tree and by nothing else; the completed nodes come one by one from a list, the order of their completion.
--- What each of them is, an array, a hash or neither, is also said by the events alone (`completions`).
+-- What each of them is, an array, a hash, an alias or a scalar, is also said by the events alone (`completions`).
 use Rattle.std.specs.Prelude.{cond, ◌≡◌, ℕ, zero, suc, ◌≤◌, List, [], ◌∷◌, ltb, length, Result, Ok, Err}
 use Rattle.event.specs.Read.{read_event}
 use Rattle.event.specs.declared.malformed.Malformed.{Malformed}
@@ -8,13 +8,14 @@ use Rattle.event.specs.declared.read.Event.{Event}
 use Rattle.event.specs.declared.read.Event.TheVariants.{SequenceStart, SequenceEnd, MappingStart, MappingEnd, Scalar, Alias}
 use Rattle.parser.specs.Machine.{next_place}
 use Rattle.records.specs.declared.record.Node.{Node}
-use Rattle.node.specs.Forest.{Forest, nil, snoc}
+use Rattle.records.specs.Forest.{Forest, nil, snoc}
 
 -- ---- what events do
 
 -- what a node is
 pub data Shape : Type 0 where
   scalar : Shape
+  alias : Shape
   array : Shape
   hash : Shape
 
@@ -22,7 +23,8 @@ pub data Effect : Type 0 where
   opening : Effect
   -- the innermost collection is complete, an array or a hash
   closing : Shape → Effect
-  leaf : Effect
+  -- a scalar or an alias
+  leaf : Shape → Effect
   faulty : Effect
 
 -- what was read, an event and the place after it
@@ -31,8 +33,8 @@ effect_of (Ok (SequenceStart index tag, next)) = opening
 effect_of (Ok (SequenceEnd index, next)) = closing array
 effect_of (Ok (MappingStart index tag, next)) = opening
 effect_of (Ok (MappingEnd index, next)) = closing hash
-effect_of (Ok (Scalar index column style empty_span tag value, next)) = leaf
-effect_of (Ok (Alias index, next)) = leaf
+effect_of (Ok (Scalar index column style empty_span tag value, next)) = leaf scalar
+effect_of (Ok (Alias index, next)) = leaf alias
 effect_of (Err e) = faulty
 
 -- of the events from the place i on; each takes a byte or more, and no more than f are read
@@ -60,8 +62,8 @@ growth [] xs fs = fs
 growth (opening ∷ es) xs fs = growth es xs (nil ∷ fs)
 growth (closing s ∷ es) [] fs = fs
 growth (closing s ∷ es) (x ∷ xs) fs = growth es xs (close_top x fs)
-growth (leaf ∷ es) [] fs = fs
-growth (leaf ∷ es) (x ∷ xs) fs = growth es xs (with_tree x nil fs)
+growth (leaf s ∷ es) [] fs = fs
+growth (leaf s ∷ es) (x ∷ xs) fs = growth es xs (with_tree x nil fs)
 growth (faulty ∷ es) xs fs = fs
 
 -- what these events leave, whose nodes are completed in this order: of a document, one tree and no open collection
@@ -74,15 +76,16 @@ abbrev pub shapes : List Effect → List Shape
 shapes [] = []
 shapes (opening ∷ es) = shapes es
 shapes (closing s ∷ es) = s ∷ shapes es
-shapes (leaf ∷ es) = scalar ∷ shapes es
+shapes (leaf s ∷ es) = s ∷ shapes es
 shapes (faulty ∷ es) = []
 
 -- the shapes of the nodes that these events complete, in the order of their completion
 abbrev pub completions : List ℕ → List Shape
 completions events = shapes (effects events)
 
--- by its kind (E2)
+-- its kind (E2), and, where no scalar's event completes it, that its span counts as measured (02, (c))
 abbrev pub HasShape : Shape → Node → Type 0
 HasShape scalar x = (1 ≤ x.kind) × (x.kind ≤ 6)
-HasShape array x = x.kind ≡ 7
-HasShape hash x = x.kind ≡ 8
+HasShape alias x = (x.kind ≡ 1) × (x.measured ≡ 1)
+HasShape array x = (x.kind ≡ 7) × (x.measured ≡ 1)
+HasShape hash x = (x.kind ≡ 8) × (x.measured ≡ 1)

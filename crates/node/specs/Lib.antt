@@ -7,9 +7,9 @@ pub mod Chain
 pub mod Record
 -- kinds and counts
 pub mod Kind
--- spans, tags, piece lists
+-- spans and whether they were measured, tags, piece lists
 pub mod Source
--- the last child, the child before, items by index, the root
+-- the last child, the child before, items by index, the root, the parent
 pub mod Child
 -- pairs by index
 pub mod Entry
@@ -17,13 +17,15 @@ pub mod Entry
 pub mod Search
 -- scan_error
 pub mod Marker
--- nodes as a forest
+-- the trees of a forest by number
 pub mod Forest
 -- the tree that events make
 pub mod Growth
 -- Statements: theorems and laws that a caller may use, and worked cases. Proved; nothing here is to be believed.
 -- what the accessors give back of a tree: the theorem on trees
 pub mod ReadBack
+-- whether a scalar's span was measured, by the accessor
+pub mod Flag
 -- reading is the inverse of laying out
 pub mod RecordLaws
 -- the nodes of every run are the tree of its events

@@ -1,20 +1,23 @@
--- What the accessors give back of a tree (N2, N3): its items, its pairs, equal keys included, the value of a key, how many they are, the last
--- child and the one before each, and of each record but the root exactly one collection whose child it is. Told by the accessors' own answers.
--- That they do, on every buffer that `build` filled, is `read_back` (proofs/ReadBackLaws.antt).
+-- What the accessors give back of a tree (N2, N3; 02, (c)): its items, its pairs, equal keys included, the value of a key, how many they are, the
+-- last child and the one before each, of each record but the root exactly one collection whose child it is, and that collection as its parent.
+-- Told by the accessors' own answers. That they do, on every buffer that `build` filled, is `read_back` (proofs/ReadBackLaws.antt).
 use Rattle.std.specs.Prelude.{◌≡◌, ◌⊎◌, List, [], ◌∷◌, ℕ, suc, ◌+◌, ◌-◌, ◌<◌, length, Some, None, slice_get}
 use Rattle.provenance.specs.Reading.{Piece}
+use Rattle.records.specs.Record.{absent}
 use Rattle.records.specs.Layout.{laid_nodes}
 use Rattle.parser.specs.Machine.{built}
 use Rattle.parser.specs.Call.{building}
 use Rattle.records.specs.declared.record.Node.{Node}
 use Rattle.node.specs.Record.{record_at}
 use Rattle.node.specs.Kind.{len_at}
-use Rattle.node.specs.Child.{record_before, last_child, child_before, array_item}
+use Rattle.node.specs.Child.{record_before, last_child, child_before, array_item, parent_at}
 use Rattle.node.specs.Entry.{hash_entry}
 use Rattle.node.specs.Search.{key_is, first_with, hash_value}
 use Rattle.node.specs.declared.entry.YamlHashEntry.{YamlHashEntry}
-use Rattle.node.specs.Forest.{Forest, nil, snoc, nodes_in, roots, pairs_of, Has}
-use Rattle.node.specs.Growth.{Shape, tree_of, completions, HasShape}
+use Rattle.records.specs.Forest.{Forest, nil, snoc, nodes_in}
+use Rattle.node.specs.Forest.{roots, pairs_of, Has}
+use Rattle.node.specs.Source.{is_measured_at}
+use Rattle.node.specs.Growth.{Shape, scalar, tree_of, completions, HasShape}
 
 -- record c is an item of n, or a key or a value of one of its pairs
 abbrev pub IsChild : List ℕ → ℕ → ℕ → Type 0
@@ -41,11 +44,19 @@ pub record NodeReadBack (b events : List ℕ) (s n : ℕ) (y : Node) (kids : For
 pub record ReadBack (b events : List ℕ) (n : ℕ) (x : Node) (kids : Forest) : Type 0 where
   pub root : (record_before b n ≡ Some (nodes_in kids)) × (n ≡ nodes_in kids + 1)
   pub nodes : (s : ℕ) (y : Node) (others : Forest) → Has (snoc nil x kids) 0 s y others → NodeReadBack b events s (s + nodes_in others) y others
-  -- as many records as the events complete nodes, and record j is an array, a hash or neither as the j-th event that completes one says
+  -- as many records as the events complete nodes, and record j is an array, a hash, an alias or a scalar as the j-th event that completes one says
   pub count : length (completions events) ≡ n
   pub kinds : (j : ℕ) (s : Shape) → slice_get (completions events) j ≡ Some s → (y : Node) × (record_at b j ≡ Some y) × HasShape s y
+  -- by the accessor, the span of a record that no scalar's event completes counts as measured
+  pub flags : (j : ℕ) (s : Shape) → slice_get (completions events) j ≡ Some s → (s ≡ scalar) ⊎ (is_measured_at b j ≡ Some 1)
   pub one_parent : (c : ℕ) → c < nodes_in kids → (p : ℕ) × IsChild b p c × ((m : ℕ) → IsChild b m c → m ≡ p)
   pub root_no_child : (m : ℕ) → IsChild b m (nodes_in kids) → ⊥
+  -- going up and going down agree: the collection whose child a record is is its parent, and has a higher number; the root alone has none
+  pub up : (p c : ℕ) → IsChild b p c → parent_at b c ≡ Some p
+  pub down : (p c : ℕ) → parent_at b c ≡ Some p → (p ≡ absent) ⊎ IsChild b p c
+  pub above : (p c : ℕ) → IsChild b p c → c < p
+  pub root_none : parent_at b (nodes_in kids) ≡ Some absent
+  pub root_alone : (c : ℕ) → parent_at b c ≡ Some absent → c ≡ nodes_in kids
 
 -- of the nodes xs, laid out in `size` numbers
 pub record TreeReadBack (events : List ℕ) (size : ℕ) (xs : List Node) : Type 0 where

@@ -3,9 +3,9 @@ use Rattle.std.specs.Prelude.{◌≡◌, refl, Bool, true, false, if◌then◌el
 use Rattle.std.proofs.Common.{ap, ◌∙◌, append_assoc, arith, lt-ltb, length-append}
 use Rattle.std.proofs.Math.Dec.{leb-suc-suc}
 use Rattle.std.proofs.Math.Seq.{drop-append-add}
-use Rattle.records.specs.Record.{record_width, node_numbers, node_of}
+use Rattle.records.specs.Record.{record_width, node_numbers}
 use Rattle.records.specs.RecordLaws.{node_wide, read_laid, read_zeros}
-use Rattle.records.specs.Layout.{laid_nodes}
+use Rattle.records.specs.Layout.{laid_nodes, node_at}
 use Rattle.provenance.specs.Layout.{flat, laid_by}
 use Rattle.records.specs.declared.record.Node.{Node}
 use Rattle.node.specs.Chain.{◌>>=◌}
@@ -25,7 +25,7 @@ record_next r rest n e =
     let l : length (r ++ rest) / record_width ≡ suc (length rest / record_width) = rw (length-append, e) (room_next (length rest)) in
     let k : record_width * suc n ≡ length r + record_width * n = omega arith in
     let d : drop (record_width * suc n) (r ++ rest) ≡ drop (record_width * n) rest = rw k (drop-append-add r rest (record_width * n)) in
-    rw (l, d) (ap (λ (t : Bool). if t then existing (node_of (drop (record_width * n) rest)) else None) (ltb-suc n (length rest / record_width)))
+    rw (l, d) (ap (λ (t : Bool). if t then existing (node_at rest n) else None) (ltb-suc n (length rest / record_width)))
 
 first_whole : (r rest : List ℕ) → length r ≡ record_width → ltb 0 (length (r ++ rest) / record_width) ≡ true
 first_whole r rest e = let l : length (r ++ rest) ≡ record_width + length rest = rw (length-append, e) in lt-ltb 0 (length (r ++ rest) / record_width) (omega arith)

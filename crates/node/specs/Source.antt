@@ -1,4 +1,4 @@
--- Spans, tags, piece lists (E2, N1, N3). A record that is not laid out here may hold anything: it has no tag exactly where all four numbers
+-- Spans and whether they were measured, tags, piece lists (E2, N1, N3; 02, (c)). A record that is not laid out here may hold anything: it has no tag exactly where all four numbers
 -- say so, and no list where the first piece says so, or where it is a collection, whatever its numbers say.
 use Rattle.std.specs.Prelude.{ℕ, Bool, ◌&&◌, not, if◌then◌else◌, List, eqb, Option, Some, None, option_map}
 use Rattle.records.specs.Record.{absent}
@@ -12,6 +12,10 @@ use Rattle.node.specs.Kind.{is_scalar}
 
 unfoldable pub span_at : List ℕ → ℕ → Option Extent
 span_at b n = option_map (λ (x : Node). x.extent) (record_at b n)
+
+-- whether the span was measured, as the record says: 1, 0, or any number in a record that is not laid out here
+unfoldable pub is_measured_at : List ℕ → ℕ → Option ℕ
+is_measured_at b n = option_map (λ (x : Node). x.measured) (record_at b n)
 
 unfoldable pub is_absent : TagInfo → Bool
 is_absent t = eqb t.start absent && (eqb t.end absent && (eqb t.suffix absent && eqb t.len absent))

@@ -1,10 +1,10 @@
-// Children by their records' numbers. (01: `get_array_item`; the last child is n − 1, the child before c is c less c's subtree count;
-// N3.)
+// Children and the parent by their records' numbers. (01: `get_array_item`; the last child is n − 1, the child before c is c less c's subtree
+// count; N3. 02: (c).)
 //
 // Going from the last child back by `child_before` costs one step a child. By index it costs the distance from the last.
 ghost use Rattle.std.specs.Prelude.{◌≡◌};
 ghost use Rattle.node.specs.Kind.{children};
-ghost use Rattle.node.specs.Child.{place_at, record_before, last_child, child_before, steps_back, child_from_last, array_item};
+ghost use Rattle.node.specs.Child.{place_at, record_before, last_child, child_before, steps_back, child_from_last, array_item, parent_at};
 
 use crate::kind::{len, members};
 use crate::record::get_record;
@@ -98,4 +98,12 @@ pub fn get_array_item(records: &[u32], n: usize, i: usize) -> Option<usize>
         return None;
     }
     child_from_last(records, n, items - 1 - i)
+}
+
+// The parent of record `n`, as it says; none is ABSENT, and a missing record says nothing.
+#[tactic(auto, unfolding(crate::specs::Child::parent_at))]
+pub fn parent(records: &[u32], n: usize) -> Option<u32>
+    ensures { result ≡ parent_at records.now n }
+{
+    get_record(records, n).map(|x| x.parent)
 }

@@ -1,6 +1,7 @@
-// Where a node stands: its span, its tag, its pieces. (01: `source_info`, `tag`, `content_source_info`; N3.)
+// Where a node stands: its span, and whether that was measured, its tag, its pieces. (01: `source_info`, `tag`, `content_source_info`; N3.
+// 02: (c).)
 ghost use Rattle.std.specs.Prelude.{◌≡◌};
-ghost use Rattle.node.specs.Source.{span_at, tag_of, piece_list_at};
+ghost use Rattle.node.specs.Source.{span_at, is_measured_at, tag_of, piece_list_at};
 
 use crate::record::get_record;
 use records::record::{ABSENT, Extent, NO_TAG, PieceList, TagInfo};
@@ -11,6 +12,14 @@ pub fn source_info(records: &[u32], n: usize) -> Option<Extent>
     ensures { result ≡ span_at records.now n }
 {
     get_record(records, n).map(|x| x.extent)
+}
+
+// Whether the span of record `n` was measured, as it says: 1 or 0 in a record that was built.
+#[tactic(auto, unfolding(crate::specs::Source::is_measured_at))]
+pub fn is_measured(records: &[u32], n: usize) -> Option<u32>
+    ensures { result ≡ is_measured_at records.now n }
+{
+    get_record(records, n).map(|x| x.measured)
 }
 
 // The tag's span in the text, and its suffix's place and length in the event bytes.
