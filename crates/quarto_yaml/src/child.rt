@@ -1,6 +1,6 @@
-// Records by their numbers; 0xffff_ffff for none. (01: N2, N3.)
+// Records by their numbers; 0xffff_ffff for none. (01: N2, N3. 02: (c).)
 ghost use Rattle.std.specs.Prelude.{◌≡◌};
-ghost use Rattle.node.specs.Child.{record_before, last_child, child_before, array_item};
+ghost use Rattle.node.specs.Child.{record_before, last_child, child_before, array_item, parent_at};
 ghost use Rattle.node.specs.Search.{hash_value};
 ghost use Rattle.quarto_yaml.specs.Fit.{AtMost};
 ghost use Rattle.quarto_yaml.specs.None.{or_none, largest};
@@ -56,4 +56,12 @@ pub extern "C" fn quarto_yaml_get_hash_value(
     ensures { result ≡ or_none (hash_value records.now events.now n key.now) }
 {
     or_none(node::search::get_hash_value(records, events, n as usize, key))
+}
+
+// As the record says, which is none at the root. A record that was not built here may say any number.
+#[unsafe(no_mangle)]
+pub extern "C" fn quarto_yaml_parent(records: &[u32], n: u32) -> u32
+    ensures { result ≡ or_none (parent_at records.now n) }
+{
+    node::child::parent(records, n as usize).unwrap_or(ABSENT)
 }

@@ -1,8 +1,12 @@
-// Answers of several numbers: `present` is 1, or 0 with all the others. (01: N2, N3.)
+// Where a node stands. Answers of several numbers: `present` is 1, or 0 with all the others. Whether a span was measured is one number,
+// 0xffff_ffff for none. (01: N2, N3. 02: (c).)
 ghost use Rattle.std.specs.Prelude.{◌≡◌};
-ghost use Rattle.node.specs.Source.{span_at, tag_of, piece_list_at};
+ghost use Rattle.node.specs.Source.{span_at, is_measured_at, tag_of, piece_list_at};
 ghost use Rattle.node.specs.Entry.{hash_entry};
+ghost use Rattle.quarto_yaml.specs.None.{or_none};
 ghost use Rattle.quarto_yaml.specs.Found.{found_span, found_tag, found_pieces, found_entry};
+
+use records::record::ABSENT;
 
 // Bytes of the text.
 #[repr(C)]
@@ -60,6 +64,14 @@ pub extern "C" fn quarto_yaml_source_info(records: &[u32], n: u32) -> FoundSpan
         start: e.start,
         end: e.end,
     }
+}
+
+// As the record says: 1 or 0. A record that was not built here may say any number.
+#[unsafe(no_mangle)]
+pub extern "C" fn quarto_yaml_is_measured(records: &[u32], n: u32) -> u32
+    ensures { result ≡ or_none (is_measured_at records.now n) }
+{
+    node::source::is_measured(records, n as usize).unwrap_or(ABSENT)
 }
 
 #[unsafe(no_mangle)]
