@@ -2,7 +2,7 @@
 ghost use Rattle.std.specs.Prelude.{◌≡◌};
 ghost use Rattle.replay.specs.Tally.{judged_of, verdict_of, counted_of, closed_of, after_of};
 
-use crate::case::Case;
+use crate::case::{Case, case_of, in_rooms};
 use crate::stream::CaseError;
 use std::fmt;
 
@@ -49,6 +49,18 @@ pub fn verdict_of(case: Case<'_>, same: Option<bool>) -> Verdict
         return Verdict::Panicked;
     }
     same.map_or(Verdict::TooLarge, judged)
+}
+
+// The verdict on a case that is answered over its two rooms, of records and of pieces.
+pub fn verdict_in_rooms<F: FnOnce(Case<'_>, &mut [u32], &mut [u32]) -> bool>(
+    bytes: &[u8],
+    answer: F,
+) -> Verdict
+    requires { F.IsAlwaysCallable answer }
+{
+    let case = case_of(bytes);
+    let same = in_rooms(case.rooms, |records, pieces| answer(case, records, pieces));
+    verdict_of(case, same)
 }
 
 pub const START: Tally = Tally {

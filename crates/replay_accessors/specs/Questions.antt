@@ -2,8 +2,8 @@
 use Rattle.std.specs.Prelude.{ℕ, zero, suc, ◌+◌, ◌-◌, ◌*◌, ◌/◌, false, if◌then◌else◌, min, List, ◌++◌, ltb, length, Option, None, unwrap_or}
 use Rattle.node.specs.Record.{record_at}
 use Rattle.node.specs.Kind.{is_scalar_at, is_array_at, is_hash_at, len_at, is_empty_at}
-use Rattle.node.specs.Source.{span_at, tag_of, piece_list_at}
-use Rattle.node.specs.Child.{last_child, array_item}
+use Rattle.node.specs.Source.{span_at, is_measured_at, tag_of, piece_list_at}
+use Rattle.node.specs.Child.{last_child, array_item, parent_at}
 use Rattle.node.specs.Entry.{hash_entry}
 use Rattle.node.specs.Search.{hash_value}
 use Rattle.replay.specs.Case.{number, part_of}
@@ -18,9 +18,14 @@ kind_numbers records n =
 abbrev pub source_numbers : List ℕ → ℕ → List ℕ
 source_numbers records n = span_numbers (span_at records n) ++ (tag_numbers (tag_of records n) ++ piece_numbers (piece_list_at records n))
 
+-- its last child, and what it says of its parent and of its span
+abbrev pub about_family : List ℕ → ℕ → Option (List ℕ) → Option (List ℕ)
+about_family records n m =
+    match_all (match_place m (last_child records n)) (count_numbers (parent_at records n) ++ count_numbers (is_measured_at records n))
+
 abbrev pub about_itself : List ℕ → ℕ → Option (List ℕ) → Option (List ℕ)
 about_itself records n m =
-    match_place (match_all m (record_numbers (record_at records n) ++ (kind_numbers records n ++ source_numbers records n))) (last_child records n)
+    about_family records n (match_all m (record_numbers (record_at records n) ++ (kind_numbers records n ++ source_numbers records n)))
 
 -- the item and the pair at an index
 abbrev pub at_index : List ℕ → ℕ → ℕ → Option (List ℕ) → Option (List ℕ)

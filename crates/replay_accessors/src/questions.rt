@@ -5,15 +5,15 @@
 ghost use Rattle.std.specs.Prelude.{◌≡◌, false, unwrap_or};
 ghost use Rattle.node.specs.Kind.{len_at, is_hash_at};
 ghost use Rattle.replay_accessors.specs.Matched.{match_all};
-ghost use Rattle.replay_accessors.specs.Questions.{kind_numbers, source_numbers, about_itself, at_index, about_children, about_key, about_keys, about_record};
+ghost use Rattle.replay_accessors.specs.Questions.{kind_numbers, source_numbers, about_family, about_itself, at_index, about_children, about_key, about_keys, about_record};
 
 use crate::matched::Matcher;
-use node::child::{get_array_item, last_child};
+use node::child::{get_array_item, last_child, parent};
 use node::entry::hash_entry;
 use node::kind::{is_array, is_empty, is_hash, is_scalar, len};
 use node::record::get_record;
 use node::search::get_hash_value;
-use node::source::{content_source_info, source_info, tag};
+use node::source::{content_source_info, is_measured, source_info, tag};
 use replay::case::{bytes_at, number_at};
 
 // The bytes that say where a key is: its place and its length.
@@ -43,6 +43,16 @@ fn about_source(records: &[u32], n: usize, m: &mut Matcher<'_>)
     m.pieces(content_source_info(records, n));
 }
 
+// Its last child, its parent, and whether its span was measured.
+#[tactic(auto, using(crate::proofs::Matching::in_turn))]
+fn about_family(records: &[u32], n: usize, m: &mut Matcher<'_>)
+    ensures { m.new ≡ about_family records.now n m.old }
+{
+    m.place(last_child(records, n));
+    m.count(parent(records, n));
+    m.count(is_measured(records, n));
+}
+
 // What is asked of the record itself.
 #[tactic(auto, using(crate::proofs::Matching::in_turn))]
 fn about_itself(records: &[u32], n: usize, m: &mut Matcher<'_>)
@@ -51,7 +61,7 @@ fn about_itself(records: &[u32], n: usize, m: &mut Matcher<'_>)
     m.lookup(get_record(records, n));
     about_kind(records, n, m);
     about_source(records, n, m);
-    m.place(last_child(records, n));
+    about_family(records, n, m);
 }
 
 // How many children or pairs a record says it has; 0 for a missing one.

@@ -15,8 +15,8 @@ use std::io;
 // How far from the last child, or from the count of children, is asked.
 const LIMIT: usize = 3;
 
-// Record numbers and indices that no buffer has. Twelve times the first is 8 and a multiple of 2^64.
-const FAR: usize = 0x1555_5555_5555_5556;
+// Record numbers and indices that no buffer has. Fourteen times the first is 12 and a multiple of 2^64.
+const FAR: usize = 0x1249_2492_4924_924a;
 
 const FARTHEST: usize = usize::MAX;
 

@@ -4,8 +4,8 @@
 #![tactic(auto)]
 
 use parser::one::scalar;
-use replay::case::{Case, NUMBER_BYTES, case_of, in_rooms, number_at};
-use replay::tally::{Verdict, verdict_of};
+use replay::case::{Case, NUMBER_BYTES, number_at};
+use replay::tally::verdict_in_rooms;
 use std::io;
 
 // Where the fields of a scalar's event stand, in bytes. Style and value are handed on unread, for the call to refuse.
@@ -32,20 +32,16 @@ fn read_the_same(case: Case<'_>, pieces: &mut [u32]) -> bool {
     let (code, measured) = match scalar(
         case.text, index, column, style, empty_span, value, pieces,
     ) {
-        Ok(built) => (0, built.measured),
-        Err(refusal) => (u32::from(refusal), false),
+        Ok(built) => (0, built.node.measured),
+        Err(refusal) => (u32::from(refusal), 0),
     };
     case.records.len() == NUMBER_BYTES
         && case.returned.is_some_and(|returned| returned.code == code)
-        && number_at(case.records, 0) == u32::from(measured)
-}
-
-fn verdict(bytes: &[u8]) -> Verdict {
-    let case = case_of(bytes);
-    let same = in_rooms(case.rooms, |_, pieces| read_the_same(case, pieces));
-    verdict_of(case, same)
+        && number_at(case.records, 0) == measured
 }
 
 fn main(rt: HostRuntime) -> io::Result<()> {
-    replay::run(&rt, verdict)
+    replay::run(&rt, |bytes| {
+        verdict_in_rooms(bytes, |case, _, pieces| read_the_same(case, pieces))
+    })
 }

@@ -1,5 +1,6 @@
 // Replays the original's accessors: each case is a document, built in buffers of the case's rooms and then read by every accessor at
-// every record and the one past the last. The records of the case are the answers, its pieces are the keys to ask for.
+// every record and the one past the last. The records of the case are the answers, its pieces are the keys to ask for. What the original
+// does not say, the parent and whether a span was measured, the oracle's second implementations do.
 #![tactic(auto)]
 
 use node::child::{child_before, child_count, child_from_last, last_child, record_before};
@@ -7,8 +8,8 @@ use node::entry::pair_ending;
 use node::record::get_record;
 use parser::answer::{Built, Refused};
 use parser::build::build;
-use replay::case::{Case, Returned, case_of, in_rooms};
-use replay::tally::{Verdict, verdict_of};
+use replay::case::{Case, Returned};
+use replay::tally::verdict_in_rooms;
 use replay_accessors::matched::Matcher;
 use replay_accessors::questions::{Subject, is_hash_there};
 use std::io;
@@ -78,14 +79,6 @@ fn built_the_same(case: Case<'_>, records: &mut [u32], pieces: &mut [u32]) -> bo
     }
 }
 
-fn verdict(bytes: &[u8]) -> Verdict {
-    let case = case_of(bytes);
-    let same = in_rooms(case.rooms, |records, pieces| {
-        built_the_same(case, records, pieces)
-    });
-    verdict_of(case, same)
-}
-
 fn main(rt: HostRuntime) -> io::Result<()> {
-    replay::run(&rt, verdict)
+    replay::run(&rt, |bytes| verdict_in_rooms(bytes, built_the_same))
 }

@@ -1,10 +1,11 @@
-// Replays the original's trees: each case is a document, built in buffers of the case's rooms, of which every number is compared.
+// Replays the original's trees: each case is a document, built in buffers of the case's rooms, of which every number is compared. The first
+// twelve numbers of a record are the original's, the last two those of the oracle's second implementations.
 #![tactic(auto)]
 
 use parser::answer::{Built, Refused};
 use parser::build::build;
-use replay::case::{Case, Returned, case_of, in_rooms, same_numbers};
-use replay::tally::{Verdict, verdict_of};
+use replay::case::{Case, Returned, same_numbers};
+use replay::tally::verdict_in_rooms;
 use std::io;
 
 // What is returned, as a list says it. `replay_nodes` has the same: a crate between, for these lines alone, would be no plainer.
@@ -31,14 +32,6 @@ fn built_the_same(case: Case<'_>, records: &mut [u32], pieces: &mut [u32]) -> bo
         && same_numbers(pieces, case.pieces)
 }
 
-fn verdict(bytes: &[u8]) -> Verdict {
-    let case = case_of(bytes);
-    let same = in_rooms(case.rooms, |records, pieces| {
-        built_the_same(case, records, pieces)
-    });
-    verdict_of(case, same)
-}
-
 fn main(rt: HostRuntime) -> io::Result<()> {
-    replay::run(&rt, verdict)
+    replay::run(&rt, |bytes| verdict_in_rooms(bytes, built_the_same))
 }

@@ -5,13 +5,16 @@
 use event::read::{Event, read_event};
 use parser::one::scalar;
 use records::record::{Extent, Node, PieceList};
-use replay::case::{Case, bytes_at, case_of, in_rooms, number_at, same_numbers};
-use replay::record::{END_AT, FIRST_PIECE_AT, KIND_AT, PIECE_COUNT_AT, START_AT};
-use replay::tally::{Verdict, verdict_of};
+use replay::case::{Case, bytes_at, number_at, same_numbers};
+use replay::record::{
+    END_AT, FIRST_PIECE_AT, KIND_AT, MEASURED_AT, PARENT_AT, PIECE_COUNT_AT, START_AT,
+};
+use replay::tally::verdict_in_rooms;
 use std::io;
 
-// Whether a node has the kind, the span and the list of a record. The payload of a real or a string names its place in the event bytes,
-// which this call does not have, and is left to `replay_schema`.
+// Whether a node has the kind, the span, the list, the parent and the flag of a record; the last two are not the original's, but the oracle's
+// second implementation's. The payload of a real or a string names its place in the event bytes, which this call does not have, and is left
+// to `replay_schema`.
 fn same_node(node: Node, record: &[u8]) -> bool {
     let extent = Extent {
         start: number_at(record, START_AT),
@@ -21,7 +24,11 @@ fn same_node(node: Node, record: &[u8]) -> bool {
         first: number_at(record, FIRST_PIECE_AT),
         count: number_at(record, PIECE_COUNT_AT),
     };
-    node.kind == number_at(record, KIND_AT) && node.extent == extent && node.list == list
+    node.kind == number_at(record, KIND_AT)
+        && node.extent == extent
+        && node.list == list
+        && node.parent == number_at(record, PARENT_AT)
+        && node.measured == number_at(record, MEASURED_AT)
 }
 
 // Reads the scalar of a case in this buffer, and compares the answer and every number of it.
@@ -58,12 +65,8 @@ fn read_the_same(case: Case<'_>, pieces: &mut [u32]) -> bool {
     same && same_numbers(pieces, case.pieces)
 }
 
-fn verdict(bytes: &[u8]) -> Verdict {
-    let case = case_of(bytes);
-    let same = in_rooms(case.rooms, |_, pieces| read_the_same(case, pieces));
-    verdict_of(case, same)
-}
-
 fn main(rt: HostRuntime) -> io::Result<()> {
-    replay::run(&rt, verdict)
+    replay::run(&rt, |bytes| {
+        verdict_in_rooms(bytes, |case, _, pieces| read_the_same(case, pieces))
+    })
 }

@@ -1,5 +1,5 @@
 -- `replay_accessors::questions::Subject::about_keys` meets its contract: the keys before `at` were asked. The measure is what is left.
-use Rattle.std.proofs.Common.{◌≡◌, ◌+◌, ◌-◌, ◌*◌, ◌/◌, ◌≤◌, length}
+use Rattle.std.proofs.Common.{◌≡◌, ◌+◌, ◌*◌, ◌/◌, ◌≤◌, length}
 use Rattle.replay_accessors.specs.Questions.{first_keys}
 use Rattle.replay_accessors.proofs.questions.Subject.about_keys.Given as goal
 
