@@ -1,9 +1,11 @@
 //! The questions about a record, in the order in which the replay programs ask them, and the numbers of their answers:
 //! 0 for none; 1 for no and 2 for yes; one more than a record's number; otherwise 1 and the numbers.
 
+use framing::Record;
+
 /// Answers by record numbers, as the accessors of the port give them. None where there is nothing to answer.
 pub trait Accessors {
-    fn get_record(&self, n: usize) -> Option<[u32; 12]>;
+    fn get_record(&self, n: usize) -> Option<Record>;
     fn is_scalar(&self, n: usize) -> Option<bool>;
     fn is_array(&self, n: usize) -> Option<bool>;
     fn is_hash(&self, n: usize) -> Option<bool>;
@@ -15,6 +17,10 @@ pub trait Accessors {
     /// The first piece and their count.
     fn content_source_info(&self, n: usize) -> Option<[u32; 2]>;
     fn last_child(&self, n: usize) -> Option<usize>;
+    /// As it stands in the record, 0xFFFFFFFF for none.
+    fn parent(&self, n: usize) -> Option<u32>;
+    /// As it stands in the record.
+    fn is_measured(&self, n: usize) -> Option<u32>;
     fn get_array_item(&self, n: usize, i: usize) -> Option<usize>;
     fn hash_entry(&self, n: usize, i: usize) -> Option<Entry>;
     fn get_hash_value(&self, n: usize, key: &[u8]) -> Option<usize>;
@@ -47,6 +53,8 @@ impl Told {
         self.numbers(accessors.tag(n));
         self.numbers(accessors.content_source_info(n));
         self.place(accessors.last_child(n));
+        self.numbers(accessors.parent(n).map(|parent| [parent]));
+        self.numbers(accessors.is_measured(n).map(|flag| [flag]));
         let len = accessors.len(n).unwrap_or(0) as usize;
         for back in 0..=len.min(limit) {
             self.place(accessors.get_array_item(n, len - back));

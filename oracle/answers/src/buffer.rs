@@ -1,18 +1,20 @@
 //! The accessors over any buffer of numbers, written a second time from document 01's words and from what docs/DECISIONS.md
-//! says where they leave it open.
+//! says where they leave it open; the last two numbers from document 02 (c).
 
 use crate::accessors::{Accessors, Entry};
+use crate::record::{MEASURED, PARENT};
+use framing::Record;
 use std::iter;
 
 const STRING: u32 = 5;
 const ARRAY: u32 = 7;
 const HASH: u32 = 8;
 
-/// Stands for no tag and no piece list.
+/// Stands for no tag, no piece list and no parent.
 const NONE: u32 = u32::MAX;
 
 pub struct Buffer<'a> {
-    pub records: &'a [[u32; 12]],
+    pub records: &'a [Record],
     pub events: &'a [u8],
 }
 
@@ -72,7 +74,7 @@ impl Buffer<'_> {
 }
 
 impl Accessors for Buffer<'_> {
-    fn get_record(&self, n: usize) -> Option<[u32; 12]> {
+    fn get_record(&self, n: usize) -> Option<Record> {
         self.records.get(n).copied().filter(|record| (1..=8).contains(&record[0]))
     }
 
@@ -115,6 +117,14 @@ impl Accessors for Buffer<'_> {
         if self.len(n)? == 0 { None } else { self.root(n) }
     }
 
+    fn parent(&self, n: usize) -> Option<u32> {
+        self.get_record(n).map(|record| record[PARENT])
+    }
+
+    fn is_measured(&self, n: usize) -> Option<u32> {
+        self.get_record(n).map(|record| record[MEASURED])
+    }
+
     fn get_array_item(&self, n: usize, i: usize) -> Option<usize> {
         let after = self.count(n, ARRAY)?.checked_sub(i)?.checked_sub(1)?;
         self.child_from_last(n, after)
@@ -144,15 +154,15 @@ mod tests {
 
     const EVENTS: &[u8] = b"ab";
 
-    fn string(at: u32, length: u32) -> [u32; 12] {
-        [STRING, 3, 4, NONE, NONE, NONE, NONE, 1, 0, 1, at, length]
+    fn string(at: u32, length: u32) -> Record {
+        [STRING, 3, 4, NONE, NONE, NONE, NONE, 1, 0, 1, at, length, 9, 0]
     }
 
-    fn hash(subtree: u32, pairs: u32) -> [u32; 12] {
-        [HASH, 0, 9, NONE, NONE, NONE, NONE, subtree, NONE, 0, pairs, 0]
+    fn hash(subtree: u32, pairs: u32) -> Record {
+        [HASH, 0, 9, NONE, NONE, NONE, NONE, subtree, NONE, 0, pairs, 0, NONE, 1]
     }
 
-    fn value(records: &[[u32; 12]], key: &[u8]) -> Option<usize> {
+    fn value(records: &[Record], key: &[u8]) -> Option<usize> {
         Buffer { records, events: EVENTS }.get_hash_value(records.len() - 1, key)
     }
 
@@ -181,7 +191,7 @@ mod tests {
     #[test]
     fn a_missing_record_has_no_children_and_no_child_comes_before_the_first() {
         let mut records = [string(0, 1), string(1, 1), hash(3, 1)];
-        let from_last = |records: &[[u32; 12]], k| Buffer { records, events: EVENTS }.child_from_last(2, k);
+        let from_last = |records: &[Record], k| Buffer { records, events: EVENTS }.child_from_last(2, k);
         assert_eq!([0, 1, 2].map(|k| from_last(&records, k)), [Some(1), Some(0), None]);
         assert_eq!(Buffer { records: &records, events: EVENTS }.child_from_last(1, 0), None);
         records[2][0] = 9;
@@ -195,5 +205,22 @@ mod tests {
         let buffer = Buffer { records: &records, events: EVENTS };
         assert_eq!(buffer.last_child(2), Some(1));
         assert!(buffer.hash_entry(2, 0).is_none());
+    }
+
+    #[test]
+    fn the_last_two_numbers_are_as_they_stand() {
+        let mut records = [string(0, 1), string(1, 1), hash(3, 1)];
+        let last_two = |records: &[Record], n| {
+            let buffer = Buffer { records, events: EVENTS };
+            [buffer.parent(n), buffer.is_measured(n)]
+        };
+        assert_eq!(last_two(&records, 0), [Some(9), Some(0)]);
+        assert_eq!(last_two(&records, 2), [Some(NONE), Some(1)]);
+        assert_eq!(last_two(&records, 3), [None; 2]);
+        // Neither is looked into: a parent of a lower number, a flag that is none.
+        records[1][PARENT..].copy_from_slice(&[0, 77]);
+        assert_eq!(last_two(&records, 1), [Some(0), Some(77)]);
+        records[1][0] = 0;
+        assert_eq!(last_two(&records, 1), [None; 2]);
     }
 }

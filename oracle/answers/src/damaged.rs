@@ -1,7 +1,6 @@
 //! The family `damaged`: what the accessors say of any numbers.
 
-use crate::accessors::Accessors;
-use crate::accessors::Told;
+use crate::accessors::{Accessors, Told};
 use crate::buffer::Buffer;
 use framing::{Answer, Case};
 use std::collections::HashSet;
@@ -10,8 +9,8 @@ use std::ops::Range;
 /// How far from the last child, or from the count of children, is asked.
 const LIMIT: usize = 3;
 
-/// Record numbers and indices that no buffer has. Twelve times the first is 8 and a multiple of 2^64.
-const FAR: usize = 0x1555_5555_5555_5556;
+/// Record numbers and indices that no buffer has. Fourteen times the first is 12 and a multiple of 2^64.
+const FAR: usize = 0x1249_2492_4924_924A;
 const FARTHEST: usize = usize::MAX;
 
 /// The text of the case is the buffer, four bytes a number; its events are what payloads point into. The records of the
@@ -47,11 +46,13 @@ fn tell_steps(told: &mut Told, buffer: &Buffer, n: usize) {
     }
 }
 
+const EMPTY: Range<usize> = 0..0;
+
 /// The empty key, and what the payloads point to, cut off at the end of the event bytes.
 fn keys(buffer: &Buffer) -> Vec<Range<usize>> {
     let end = buffer.events.len();
     let mut texts = HashSet::new();
-    let mut keys = vec![0..0];
+    let mut keys = vec![EMPTY];
     for record in buffer.records {
         let start = end.min(record[10] as usize);
         keys.push(start..end.min(start + record[11] as usize));

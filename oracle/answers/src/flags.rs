@@ -1,4 +1,5 @@
-//! The family `measured`: what the call on one scalar says of its span, measured or assumed.
+//! The family `measured`: what the call on one scalar says of its span, measured or assumed. That is the fourteenth number of its
+//! record.
 
 use crate::measured::is_measured;
 use crate::{TEXT_LIMIT, decode};
@@ -9,8 +10,8 @@ const INDEX_AT: usize = 3;
 const STYLE_AT: usize = 11;
 const VALUE_AT: usize = 14;
 
-/// The case is one scalar without a tag. The record of the answer is one number: 1 for a measured span, 0 for an assumed one or a
-/// refusal. Rows 1, 2 and 3 are tested as in the call on one scalar, which gets style and value as they are. The piece room is
+/// The case is one scalar without a tag. The record of the answer is one number, the fourteenth: 1 for a measured span, 0 for an assumed
+/// one or a refusal. Rows 1, 2 and 3 are tested as in the call on one scalar, which gets style and value as they are. The piece room is
 /// taken to be ample.
 pub fn measured(case: &Case) -> Answer {
     let event = &case.events;

@@ -1,23 +1,25 @@
 //! The original's answers in document 01's numbers: the table's rows, written here a second time and as the document
-//! words them, around the unchanged Rust.
+//! words them, around the unchanged Rust. The last two numbers of a record, which the original does not have, are those of
+//! second implementations.
 
-mod accessors;
+pub mod accessors;
 mod admit;
-mod buffer;
+pub mod buffer;
 mod damaged;
 pub mod decode;
 mod flags;
 pub mod measured;
 mod nodes;
 mod original;
-mod record;
+pub mod parent;
+pub mod record;
 mod scan_errors;
 mod tree;
 
 pub use damaged::damaged;
 use decode::{Body, Scalar};
 pub use flags::measured;
-use framing::{Answer, Case};
+use framing::{Answer, Case, RECORD_NUMBERS, Record};
 pub use nodes::nodes;
 use original::Panicked;
 pub use original::{Received, silence_listed_panic};
@@ -26,7 +28,6 @@ pub use scan_errors::scan_errors;
 const TEXT_LIMIT: usize = 1_048_576;
 const EVENTS_LIMIT: usize = 4_194_304;
 const PIECES_LIMIT: usize = 4_294_967_294;
-const RECORD_NUMBERS: u32 = 12;
 const PIECE_NUMBERS: u32 = 4;
 
 /// The answer to a case. After a panic of the original, rows 3 to 9 are no longer tested: whether row 8 refuses the
@@ -38,14 +39,14 @@ pub fn answer(case: &Case) -> Answer {
     let Ok(text) = str::from_utf8(&case.text) else {
         return refused(2, 0);
     };
-    let admitted = admit::admit(&case.events, (case.record_room / RECORD_NUMBERS) as usize);
+    let admitted = admit::admit(&case.events, case.record_room as usize / RECORD_NUMBERS);
     let tree = match original::build(text, &case.events, &admitted) {
         Ok(tree) => tree,
         Err(Panicked(event)) => return answer_before(case, event.place),
     };
 
     let piece_room = PIECES_LIMIT.min((case.piece_room / PIECE_NUMBERS) as usize);
-    let mut records = Vec::new();
+    let mut originals = Vec::new();
     let mut pieces = Vec::new();
     // Nodes past the completed ones belong to collections that were left open.
     let nodes = tree.as_ref().map(record::nodes).unwrap_or_default();
@@ -53,7 +54,7 @@ pub fn answer(case: &Case) -> Answer {
         let list = record::pieces(node.node);
         let first = pieces.len() as u32;
         let count = list.as_ref().map(|list| list.len() as u32);
-        records.push(record::record(node, completed, first, count));
+        originals.push(record::original(node, completed, first, count));
         pieces.extend(list.unwrap_or_default());
         if pieces.len() > piece_room {
             return refused(8, completed.event);
@@ -62,6 +63,15 @@ pub fn answer(case: &Case) -> Answer {
     if let Some(refusal) = admitted.refusal {
         return refused(refusal.row, refusal.place);
     }
+    let places = parent::places(&admitted.events);
+    let flags = measured::flags(text, &case.events, &admitted.events, &places);
+    assert_eq!([places.len(), flags.len()], [originals.len(); 2], "a place and a flag for each node");
+    let last_two = places.iter().zip(flags);
+    let records: Vec<Record> = originals
+        .into_iter()
+        .zip(last_two)
+        .map(|(original, (place, flag))| record::whole(original, place.parent, flag))
+        .collect();
     Answer {
         returned: [0, records.len() as u32, pieces.len() as u32],
         records: records.into_flattened(),

@@ -1,13 +1,42 @@
 //! Whether a scalar's span is measured, which is found in the text, or assumed, which is taken from the value's length: document
-//! 02 (b). The original does not say which. This is a second implementation, written from the words of documents 01 (reading
-//! rules, white space) and 02 alone, over characters, and apart from the original's measures and from the port's.
+//! 02 (b), and by (c) the fourteenth number of a record. The original does not say which. This is a second implementation, written
+//! from the words of documents 01 (reading rules, white space) and 02 alone, over characters, and apart from the original's measures
+//! and from the port's.
 
+use crate::decode::{Body, Event, Scalar};
+use crate::parent::Place;
 use saphyr_parser::ScalarStyle;
 
-/// Whether the span of the scalar at a marker's index is measured. An empty value that is awaited starts one byte later on a
-/// colon, which changes nothing here: it is measured at any place.
+/// Whether the span of the scalar at a marker's index is measured, in a call on one scalar: nothing awaits it.
 pub fn is_measured(text: &str, index: usize, style: ScalarStyle, value: &str) -> bool {
-    let rest = from_index(text, index);
+    is_found(from_index(text, index), style, value)
+}
+
+/// The fourteenth number of each node that admitted events complete, in the order of their records: scalars as they are measured,
+/// collections and aliases yes (document 02 (c)).
+pub fn flags(text: &str, bytes: &[u8], events: &[Event], places: &[Place]) -> Vec<bool> {
+    let starts: Vec<usize> = text.char_indices().map(|(start, _)| start).collect();
+    let completing = events.iter().filter(|event| !matches!(event.body, Body::Start(..)));
+    let flag = |(event, place): (&Event, &Place)| match &event.body {
+        Body::Scalar(scalar) => {
+            let offset = starts.get(event.index as usize).copied().unwrap_or(text.len());
+            let value = str::from_utf8(&bytes[scalar.value.clone()]).expect("the reader tests for UTF-8");
+            is_found(&text[start(text, offset, scalar, place)..], scalar.style, value)
+        }
+        _ => true,
+    };
+    completing.zip(places).map(flag).collect()
+}
+
+/// Where a document's scalar starts: at the offset of its index, or past the colon there, if it is plain, empty and a mapping's
+/// value. (No flag hangs on that: an empty plain value is matched at any place.)
+fn start(text: &str, offset: usize, scalar: &Scalar, place: &Place) -> usize {
+    let steps = place.awaited && scalar.style == ScalarStyle::Plain && scalar.value.is_empty();
+    if steps && text[offset..].starts_with(':') { offset + 1 } else { offset }
+}
+
+/// Whether a scalar is found at the beginning of the text that is left.
+fn is_found(rest: &str, style: ScalarStyle, value: &str) -> bool {
     match style {
         ScalarStyle::Plain => plain(rest, value).is_some(),
         ScalarStyle::SingleQuoted => single_quoted(rest).is_some(),
@@ -101,7 +130,10 @@ fn double_quoted(rest: &str) -> Option<usize> {
 #[cfg(test)]
 mod tests {
     use super::*;
+    use crate::{admit, parent};
     use ScalarStyle::{DoubleQuoted, Folded, Literal, Plain, SingleQuoted};
+    use framing::event::encode;
+    use std::ops::Range;
 
     fn plain_at(index: usize, text: &str, value: &str) -> bool {
         is_measured(text, index, Plain, value)
@@ -259,6 +291,72 @@ mod tests {
         assert_eq!(length("'it''s", 0, SingleQuoted, "it's"), Some(4));
         assert_eq!(length("\"\\\"\"", 0, DoubleQuoted, "\""), Some(4));
         assert_eq!(length("|\n a", 0, Literal, "a"), None);
+    }
+
+    /// The flags of a document over a text.
+    fn of_document(text: &str, events: &[framing::event::Event]) -> Vec<bool> {
+        let bytes = encode(events);
+        let admitted = admit::admit(&bytes, usize::MAX);
+        assert!(admitted.refusal.is_none());
+        flags(text, &bytes, &admitted.events, &parent::places(&admitted.events))
+    }
+
+    #[test]
+    fn flags_of_a_document() {
+        use framing::event::Event::*;
+        let plain = |index, value: &'static str| written(index, 0, value);
+        let text = "é: [a, 'b', \"c]";
+        let list = [
+            MappingStart(1, None),
+            plain(0, "é"),
+            SequenceStart(3, None),
+            plain(4, "a"),
+            plain(4, "b"),
+            written(7, 1, "b"),
+            written(8, 1, "b"),
+            written(12, 2, "c"),
+            written(12, 3, "x"),
+            Alias(99),
+            SequenceEnd(14),
+            MappingEnd(15),
+        ];
+        let expected = [true, true, false, true, false, false, true, true, true, true];
+        assert_eq!(of_document(text, &list), expected);
+        // A tag changes nothing.
+        let tagged = |index, value: &'static [u8]| {
+            Scalar(framing::event::Scalar { index, tag: Some((b"!", b"t")), value, ..Default::default() })
+        };
+        assert_eq!(of_document("a", &[tagged(0, b"a")]), [true]);
+        assert_eq!(of_document("a", &[tagged(0, b"b")]), [false]);
+    }
+
+    fn written(index: u32, style: u8, value: &str) -> framing::event::Event<'_> {
+        framing::event::Event::Scalar(framing::event::Scalar {
+            index,
+            style,
+            value: value.as_bytes(),
+            ..Default::default()
+        })
+    }
+
+    #[test]
+    fn awaited_values_step_past_a_colon() {
+        let scalar = |style, value: Range<usize>| Scalar { column: 0, style, empty_span: false, tag: None, value };
+        let place = |awaited| Place { parent: 2, awaited };
+        let empty = scalar(Plain, 5..5);
+        assert_eq!(start("a: b", 1, &empty, &place(true)), 2);
+        assert_eq!(start("a: b", 1, &empty, &place(false)), 1);
+        assert_eq!(start("a: b", 2, &empty, &place(true)), 2);
+        assert_eq!(start("a:", 2, &empty, &place(true)), 2);
+        assert_eq!(start("a: b", 1, &scalar(Plain, 5..6), &place(true)), 1);
+        assert_eq!(start("a: b", 1, &scalar(DoubleQuoted, 5..5), &place(true)), 1);
+        use framing::event::Event::{MappingEnd, MappingStart};
+        for (index, style, flag) in
+            [(1, 0, true), (2, 0, true), (9, 0, true), (1, 1, false), (1, 2, false), (1, 3, true)]
+        {
+            let list = [MappingStart(1, None), written(0, 0, "a"), written(index, style, ""), MappingEnd(2)];
+            assert_eq!(of_document("a:", &list), [true, flag, true]);
+        }
     }
 
     /// A minute would not do for a reading that looks through a run once for each of its blanks.

@@ -3,8 +3,8 @@
 use crate::accessors::{Accessors, Told};
 use crate::admit::{self, Completed};
 use crate::tree::Tree;
-use crate::{RECORD_NUMBERS, answer, original};
-use framing::{Answer, Case};
+use crate::{answer, original};
+use framing::{Answer, Case, RECORD_NUMBERS};
 use std::collections::HashSet;
 use std::ops::Range;
 
@@ -17,7 +17,7 @@ pub fn nodes(case: &Case) -> Answer {
         return built;
     }
     let text = str::from_utf8(&case.text).expect("the text of a built document");
-    let admitted = admit::admit(&case.events, (case.record_room / RECORD_NUMBERS) as usize);
+    let admitted = admit::admit(&case.events, case.record_room as usize / RECORD_NUMBERS);
     let Ok(Some(root)) = original::build(text, &case.events, &admitted) else {
         unreachable!("the document was built before");
     };
@@ -48,10 +48,12 @@ fn tell_children(told: &mut Told, tree: &Tree, n: usize) {
     }
 }
 
+const EMPTY: Range<usize> = 0..0;
+
 /// The empty key, the texts of all scalars, and these with the last character left out and with the byte after them.
 fn keys(events: &[u8], completed: &[Completed]) -> Vec<Range<usize>> {
     let mut texts = HashSet::new();
-    let mut keys = vec![0..0];
+    let mut keys = vec![EMPTY];
     for Completed { value, .. } in completed {
         let longer = value.start..events.len().min(value.end + 1);
         keys.extend([value.clone(), shorter(events, value), longer]);
@@ -93,6 +95,27 @@ mod tests {
                 by_buffer.about(&buffer, n, usize::MAX, &keys);
                 assert_eq!(by_tree.0, by_buffer.0);
             }
+        }
+    }
+
+    /// The parents by the events are those by the original's own children.
+    #[test]
+    fn parents_are_those_of_the_tree() {
+        for (text, events) in corpus::documents() {
+            let case = Case { text, events, record_room: 10_000, piece_room: 10_000 };
+            let records = answer(&case).records;
+            let admitted = admit::admit(&case.events, 1_000);
+            let text = str::from_utf8(&case.text).expect("a text");
+            let Ok(Some(root)) = original::build(text, &case.events, &admitted) else { panic!("a tree") };
+            let tree = Tree::new(&root, &admitted.completed, records.as_chunks().0);
+            let count = admitted.completed.len();
+            let mut parents = vec![u32::MAX; count];
+            for n in 0..count {
+                for child in tree.children(n) {
+                    parents[child] = n as u32;
+                }
+            }
+            assert_eq!((0..count).map(|n| tree.parent(n)).collect::<Option<Vec<u32>>>(), Some(parents));
         }
     }
 }

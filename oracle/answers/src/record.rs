@@ -1,12 +1,18 @@
-//! A node of the original's tree in document 01's numbers.
+//! A node of the original's tree in document 01's numbers, and a record of fourteen (document 02 (c)).
 
 use crate::admit::Completed;
+use framing::{RECORD_NUMBERS, Record};
 use quarto_source_map::{Call, SourceInfo};
 use quarto_yaml::YamlWithSourceInfo;
 use yaml_rust2::Yaml;
 
 /// Stands for no tag and no piece list.
 const NONE: u32 = u32::MAX;
+
+/// How many numbers of a record the original has. After them stand two that come from a second implementation.
+const ORIGINAL_NUMBERS: usize = 12;
+pub const PARENT: usize = 12;
+pub const MEASURED: usize = 13;
 
 /// A node and the number of nodes in its subtree, itself counted.
 pub struct Node<'a> {
@@ -54,13 +60,13 @@ pub fn pieces(node: &YamlWithSourceInfo) -> Option<Vec<[u32; 4]>> {
     Some(pieces)
 }
 
-/// The twelve numbers of a node. `first_piece` is the next free entry of the piece buffer.
-pub fn record(
+/// The twelve numbers that the original's node has. `first_piece` is the next free entry of the piece buffer.
+pub fn original(
     Node { node, subtree }: &Node,
     completed: &Completed,
     first_piece: u32,
     pieces: Option<u32>,
-) -> [u32; 12] {
+) -> [u32; ORIGINAL_NUMBERS] {
     let [start, end] = offsets(&node.source_info);
     let [tag_start, tag_end, suffix, suffix_length] = match (&node.tag, &completed.suffix) {
         (Some((_, span)), Some(suffix)) => {
@@ -83,6 +89,15 @@ pub fn record(
     };
     let [first, count] = pieces.map_or([NONE, 0], |count| [first_piece, count]);
     [kind, start, end, tag_start, tag_end, suffix, suffix_length, *subtree, first, count, high, low]
+}
+
+/// The original's twelve numbers, the parent, and whether the span is measured.
+pub fn whole(original: [u32; ORIGINAL_NUMBERS], parent: u32, measured: bool) -> Record {
+    let mut record = [0; RECORD_NUMBERS];
+    record[..ORIGINAL_NUMBERS].copy_from_slice(&original);
+    record[PARENT] = parent;
+    record[MEASURED] = measured.into();
+    record
 }
 
 pub fn offsets(span: &SourceInfo) -> [u32; 2] {

@@ -3,7 +3,8 @@
 
 use crate::accessors::{Accessors, Entry};
 use crate::admit::Completed;
-use crate::record::{self, Node};
+use crate::record::{self, MEASURED, Node, PARENT};
+use framing::Record;
 use quarto_yaml::{YamlHashEntry, YamlWithSourceInfo};
 use std::collections::HashMap;
 use std::ptr;
@@ -12,12 +13,13 @@ pub struct Tree<'a> {
     nodes: Vec<Node<'a>>,
     numbers: HashMap<*const YamlWithSourceInfo, usize>,
     completed: &'a [Completed],
-    records: &'a [[u32; 12]],
+    records: &'a [Record],
 }
 
 impl<'a> Tree<'a> {
-    /// The records have the numbers that the original does not keep: the counts of a subtree, and the first pieces.
-    pub fn new(root: &'a YamlWithSourceInfo, completed: &'a [Completed], records: &'a [[u32; 12]]) -> Self {
+    /// The records have the numbers that the original does not keep: the counts of a subtree, the first pieces, and the two that
+    /// come from a second implementation.
+    pub fn new(root: &'a YamlWithSourceInfo, completed: &'a [Completed], records: &'a [Record]) -> Self {
         let nodes = record::nodes(root);
         let numbers = nodes.iter().enumerate().map(|(n, node)| (ptr::from_ref(node.node), n)).collect();
         Self { nodes, numbers, completed, records }
@@ -51,7 +53,7 @@ impl<'a> Tree<'a> {
 }
 
 impl Accessors for Tree<'_> {
-    fn get_record(&self, n: usize) -> Option<[u32; 12]> {
+    fn get_record(&self, n: usize) -> Option<Record> {
         self.records.get(n).copied()
     }
 
@@ -96,6 +98,14 @@ impl Accessors for Tree<'_> {
         let value = node.as_hash().and_then(|entries| entries.last()).map(|entry| &entry.value);
         let item = node.as_array().and_then(|items| items.last());
         value.or(item).map(|child| self.number(child))
+    }
+
+    fn parent(&self, n: usize) -> Option<u32> {
+        self.records.get(n).map(|record| record[PARENT])
+    }
+
+    fn is_measured(&self, n: usize) -> Option<u32> {
+        self.records.get(n).map(|record| record[MEASURED])
     }
 
     fn get_array_item(&self, n: usize, i: usize) -> Option<usize> {

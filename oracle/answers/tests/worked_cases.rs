@@ -1,8 +1,8 @@
-//! K1 to K12 of document 01, a small input for each row of its table, the listed panic, and the corpus.
+//! K1 to K12 of document 01, a small input for each row of its table, the listed panic, the corpus, and document 02's (b) and (c).
 
 use answers::answer;
 use framing::event::{Event, Scalar, encode};
-use framing::{Answer, Case};
+use framing::{Answer, Case, RECORD_NUMBERS};
 
 const NONE: u32 = u32::MAX;
 
@@ -35,6 +35,12 @@ fn span(answer: &Answer) -> [u32; 2] {
     [answer.records[1], answer.records[2]]
 }
 
+/// The parent and the flag of a document of one scalar.
+fn last_two(answer: &Answer) -> [u32; 2] {
+    let [.., parent, flag] = answer.records[..] else { panic!("a record") };
+    [parent, flag]
+}
+
 fn pieces(answer: &Answer) -> &[[u32; 4]] {
     answer.pieces.as_chunks().0
 }
@@ -61,7 +67,7 @@ fn refusal(case: &Case) -> [u32; 2] {
 fn k1_marker_offsets() {
     for (index, offset) in [(3, 4), (9, 5)] {
         let answer = answer(&case("é: a", &[Event::Alias(index)]));
-        let record = [1, offset, offset, NONE, NONE, NONE, NONE, 1, NONE, 0, 0, 0];
+        let record = [1, offset, offset, NONE, NONE, NONE, NONE, 1, NONE, 0, 0, 0, NONE, 1];
         assert_eq!(answer.records, record);
     }
 }
@@ -83,6 +89,7 @@ fn k2_to_k6_plain_resolution() {
 fn k7_plain_fold() {
     let answer = one_scalar("a \n  b", scalar(PLAIN, "a b"));
     assert_eq!(span(&answer), [0, 6]);
+    assert_eq!(last_two(&answer), [NONE, 1]);
     assert_eq!(pieces(&answer), [[1, 0, 1, 1], [2, 1, 5, 1], [1, 5, 6, 1]]);
 }
 
@@ -90,6 +97,7 @@ fn k7_plain_fold() {
 fn k8_second_newline_without_a_run() {
     let answer = one_scalar("a\n\n\nb", scalar(PLAIN, "a\n\nb"));
     assert_eq!(span(&answer), [0, 4]);
+    assert_eq!(last_two(&answer), [NONE, 0]);
     assert_eq!(pieces(&answer).last().map(|piece| piece[2]), Some(5));
 }
 
@@ -97,12 +105,14 @@ fn k8_second_newline_without_a_run() {
 fn k9_single_quotes() {
     let answer = one_scalar("'it''s'", scalar(SINGLE_QUOTED, "it's"));
     assert_eq!(span(&answer), [0, 7]);
+    assert_eq!(last_two(&answer), [NONE, 1]);
     assert_eq!(pieces(&answer), [[1, 1, 3, 2], [2, 3, 5, 1], [1, 5, 6, 1]]);
 }
 
 #[test]
 fn k10_escape_past_the_value() {
     let answer = one_scalar(r#""\u20AC""#, scalar(DOUBLE_QUOTED, "A"));
+    assert_eq!(last_two(&answer), [NONE, 1]);
     assert_eq!(pieces(&answer), [[2, 1, 7, 3]]);
 }
 
@@ -111,6 +121,7 @@ fn k11_block() {
     let block = Scalar { index: 7, column: 2, ..scalar(LITERAL, "b\n") };
     let answer = one_scalar("a: |\n  b", block);
     assert_eq!(span(&answer), [7, 8]);
+    assert_eq!(last_two(&answer), [NONE, 1]);
     assert_eq!(pieces(&answer), [[1, 7, 8, 1], [2, 8, 8, 1]]);
 }
 
@@ -149,7 +160,7 @@ fn rows_of_the_table() {
     assert_eq!(refusal(&case("", &deep[..64])), [9, 64]);
 
     let mut no_record = case("", &alias);
-    no_record.record_room = 11;
+    no_record.record_room = 13;
     assert_eq!(refusal(&no_record), [7, 0]);
 
     let mut no_piece = case("a", &[Event::Scalar(scalar(PLAIN, "a"))]);
@@ -194,7 +205,7 @@ fn corpus() {
     for (text, events) in documents {
         let answer = answer(&Case { text, events, record_room: 10_000, piece_room: 10_000 });
         assert_eq!(answer.returned[0], 0);
-        let (records, _) = answer.records.as_chunks::<12>();
+        let (records, _) = answer.records.as_chunks::<RECORD_NUMBERS>();
         lists += records.iter().filter(|record| record[8] != NONE).count();
         leaves += records.iter().filter(|record| record[0] < 7).count();
     }
@@ -232,4 +243,51 @@ fn flags_of_one_scalar() {
     assert_eq!(flag(b"\xFF", scalar(5, "")), (2, 0));
     assert_eq!(flag(b"", Scalar { value: b"\xFF", ..scalar(5, "") }), (2, 0));
     assert_eq!(flag(b"", scalar(5, "")), (3, 0));
+}
+
+/// `{a: [b, *x], c:}` with a wrong value for `b`, so that its span is assumed, and the missing value on its colon.
+#[test]
+fn parents_and_flags_of_a_document() {
+    let plain = |index, value| Event::Scalar(Scalar { index, ..scalar(PLAIN, value) });
+    let list = [
+        Event::MappingStart(0, None),
+        plain(1, "a"),
+        Event::SequenceStart(4, None),
+        plain(5, "x"),
+        Event::Alias(8),
+        Event::SequenceEnd(10),
+        plain(13, "c"),
+        plain(14, ""),
+        Event::MappingEnd(15),
+    ];
+    let case = case("{a: [b, *x], c:}", &list);
+    let records = [
+        // The value stands behind a start of eight bytes and the fourteen before a value.
+        [STRING, 1, 2, NONE, NONE, NONE, NONE, 1, 0, 1, 22, 1, 6, 1],
+        // `b` of value `x`: no reading.
+        [STRING, 5, 6, NONE, NONE, NONE, NONE, 1, NONE, 0, 45, 1, 3, 0],
+        [1, 8, 8, NONE, NONE, NONE, NONE, 1, NONE, 0, 0, 0, 3, 1],
+        [7, 4, 11, NONE, NONE, NONE, NONE, 3, NONE, 0, 2, 0, 6, 1],
+        [STRING, 13, 14, NONE, NONE, NONE, NONE, 1, 1, 1, 74, 1, 6, 1],
+        // It steps past the colon, and has a list of no pieces.
+        [1, 15, 15, NONE, NONE, NONE, NONE, 1, 2, 0, 0, 0, 6, 1],
+        [8, 0, 16, NONE, NONE, NONE, NONE, 7, NONE, 0, 2, 0, NONE, 1],
+    ];
+    let answer = answer(&case);
+    assert_eq!(answer.returned, [0, 7, 2]);
+    assert_eq!(answer.records.as_chunks().0, records);
+    assert_eq!(answer.pieces, [1, 1, 2, 1, 1, 13, 14, 1]);
+}
+
+#[test]
+fn room_is_counted_in_fourteens() {
+    let list = [Event::SequenceStart(0, None), Event::Alias(0), Event::Alias(0), Event::SequenceEnd(0)];
+    let with_room = |record_room| answer(&Case { record_room, ..case("", &list) }).returned;
+    assert_eq!(with_room(42), [0, 3, 0]);
+    assert_eq!(with_room(41), [7, 3, 0]);
+    assert_eq!(with_room(36), [7, 3, 0]);
+    assert_eq!(with_room(28), [7, 3, 0]);
+    assert_eq!(with_room(27), [7, 2, 0]);
+    assert_eq!(with_room(13), [7, 1, 0]);
+    assert_eq!(with_room(0), [7, 1, 0]);
 }

@@ -14,8 +14,8 @@ use answers::Received;
 use cases::chapter::{self, Shape};
 use cases::run::{DOUBLE_QUOTED, one_scalar};
 use cases::script::SCRIPTS;
-use framing::Case;
 use framing::event::{Event, Scalar, encode};
+use framing::{Case, RECORD_NUMBERS};
 use std::env;
 use timing::{Bench, Figures};
 
@@ -70,7 +70,7 @@ fn runs(repeats: usize) {
     for blanks in [2_000, 4_000, 8_000, 16_000] {
         let text = format!("a{}b", " ".repeat(blanks));
         let events = encode(&[Event::Scalar(Scalar { value: text.as_bytes(), ..Scalar::default() })]);
-        let case = Case { text: text.into_bytes(), events, record_room: 12, piece_room: 64 };
+        let case = Case { text: text.into_bytes(), events, record_room: RECORD_NUMBERS as u32, piece_room: 64 };
         Bench::new(&case).figures(repeats.min(9)).print(&format!("{blanks} blanks"));
     }
 }

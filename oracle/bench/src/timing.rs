@@ -2,7 +2,7 @@
 
 use crate::received;
 use answers::Received;
-use framing::Case;
+use framing::{Case, RECORD_NUMBERS};
 use std::hint::black_box;
 use std::time::Instant;
 
@@ -43,7 +43,7 @@ impl<'a> Bench<'a> {
         for _ in 0..3 {
             self.turn(&mut Figures::default());
         }
-        let nodes = self.case.record_room / 12;
+        let nodes = self.case.record_room / RECORD_NUMBERS as u32;
         let mut figures = Figures { bytes: self.case.text.len(), nodes, ..Figures::default() };
         for _ in 0..repeats {
             self.turn(&mut figures);

@@ -1,7 +1,7 @@
 //! Chapters of a manual: a YAML text with the events that a scanner reads from it, markers where the scanner puts them.
 
 use crate::rng::Rng;
-use crate::run::{DOUBLE_QUOTED, FOLDED, LITERAL, PLAIN, SINGLE_QUOTED};
+use crate::run::{DOUBLE_QUOTED, FOLDED, LITERAL, PLAIN, SINGLE_QUOTED, record_room};
 use crate::script::Script;
 use framing::Case;
 use framing::event::{Event, Scalar};
@@ -27,7 +27,8 @@ pub fn chapter(shape: Shape, script: &Script, bytes: usize, seed: u64) -> Case {
         Chapter { rng: Rng::new(seed), script, text: String::new(), index: 0, events: Vec::new(), nodes: 0 };
     chapter.root(shape, bytes);
     let piece_room = chapter.text.len() as u32 / 8 * 4;
-    Case { text: chapter.text.into(), events: chapter.events, record_room: 12 * chapter.nodes, piece_room }
+    let record_room = record_room(chapter.nodes);
+    Case { text: chapter.text.into(), events: chapter.events, record_room, piece_room }
 }
 
 struct Chapter<'a> {
@@ -37,7 +38,7 @@ struct Chapter<'a> {
     /// How many characters the text has.
     index: u32,
     events: Vec<u8>,
-    nodes: u32,
+    nodes: usize,
 }
 
 impl Chapter<'_> {

@@ -4,31 +4,30 @@
 use crate::rng::Rng;
 use crate::run::{Run, ample};
 use crate::trees;
-use framing::Case;
 use framing::event::{Event, Scalar, Tag, encode};
+use framing::{Case, RECORD_NUMBERS};
 
 const NO_TAG: Tag = None;
-
-const RECORD_NUMBERS: usize = 12;
 
 /// Numbers around every limit of a record: the kinds, small counts, the sign and the end of the range.
 const NUMBERS: [u32; 14] = [0, 1, 2, 3, 4, 5, 7, 8, 9, 0x8000_0000, 0xFFFF_FFFC, 0xFFFF_FFFD, 0xFFFF_FFFE, u32::MAX];
 
-/// Where the numbers stand that lead on: kind, subtree count, and the two payload numbers.
+/// Where the numbers stand that lead on: kind, subtree count, and the two payload numbers. Then the parent and the flag.
 const COUNT: usize = 7;
 const LEADING: [usize; 4] = [0, COUNT, 10, 11];
+const LAST_TWO: [usize; 2] = [12, 13];
 
 pub fn write(run: &mut Run) {
     put_kinds(run);
     put_tags(run);
     for (number, (buffer, events)) in built().into_iter().enumerate() {
         put_cut_off(run, &buffer, &events, number);
-        put_changed(run, &buffer, &events);
+        put_changed(run, &buffer, &events, number);
     }
-    for _ in 0..run.sized(40, 300_000) {
+    for _ in 0..run.sized(23, 300_000) {
         put_random(run);
     }
-    for _ in 0..run.sized(40, 300_000) {
+    for _ in 0..run.sized(23, 300_000) {
         put_damaged(run);
     }
 }
@@ -69,14 +68,14 @@ fn with_records(case: &Case) -> (Vec<u32>, Vec<u8>) {
 
 /// Every kind and some that are none, alone in a buffer and after a string.
 fn put_kinds(run: &mut Run) {
-    let string = [5, 0, 1, u32::MAX, u32::MAX, u32::MAX, u32::MAX, 1, 0, 1, 0, 1];
+    let string = [5, 0, 1, u32::MAX, u32::MAX, u32::MAX, u32::MAX, 1, 0, 1, 0, 1, 2, 0];
     for kind in (0..=9).chain([255, 256, 257, 0x8000_0000, u32::MAX]) {
-        let record = [kind, 2, 3, 4, 5, 6, 7, 1, 9, 10, 1, 0];
+        let record = [kind, 2, 3, 4, 5, 6, 7, 1, 9, 10, 1, 0, 11, 12];
         put(run, &record, b"a");
         put(run, &[string, record].concat(), b"a");
         put(run, &[string, string, record].concat(), b"a");
     }
-    for length in [0, 1, 11] {
+    for length in [0, 1, 12, 13] {
         put(run, &string[..length], b"a");
     }
 }
@@ -84,7 +83,7 @@ fn put_kinds(run: &mut Run) {
 /// Tags of which some of the four numbers say that there is none.
 fn put_tags(run: &mut Run) {
     for absent in 0..16 {
-        let mut record = [6, 2, 3, 4, 5, 6, 7, 1, 9, 10, 0, 0];
+        let mut record = [6, 2, 3, 4, 5, 6, 7, 1, 9, 10, 0, 0, 11, 12];
         for place in 0..4 {
             if absent >> place & 1 == 1 {
                 record[3 + place] = u32::MAX;
@@ -97,7 +96,7 @@ fn put_tags(run: &mut Run) {
 /// A buffer cut off at every length; in the sample only the first one.
 fn put_cut_off(run: &mut Run, buffer: &[u32], events: &[u8], number: usize) {
     if run.full || number == 0 {
-        for length in (0..buffer.len()).step_by(run.sized(5, 1)) {
+        for length in (0..buffer.len()).step_by(run.sized(9, 1)) {
             put(run, &buffer[..length], events);
         }
         for length in 0..events.len() {
@@ -108,14 +107,17 @@ fn put_cut_off(run: &mut Run, buffer: &[u32], events: &[u8], number: usize) {
     }
 }
 
-/// Every number changed to every one of some; in the sample only those that lead on, to one each, and every count to 0.
-fn put_changed(run: &mut Run, buffer: &[u32], events: &[u8]) {
+/// Every number changed to every one of some; in the sample only those that lead on, to one each, in the first buffer also the last
+/// two, and every count to 0.
+fn put_changed(run: &mut Run, buffer: &[u32], events: &[u8], number: usize) {
     for place in 0..buffer.len() {
         let leads = LEADING.contains(&(place % RECORD_NUMBERS));
+        let last_two = number == 0 && LAST_TWO.contains(&(place % RECORD_NUMBERS));
         let counts = place % RECORD_NUMBERS == COUNT;
         let near = [buffer[place].wrapping_sub(1), buffer[place].wrapping_add(1), buffer[place].wrapping_add(2)];
         for (turn, number) in near.into_iter().chain(NUMBERS).enumerate() {
-            if run.full || (leads && turn == place % 17) || (counts && turn > 2 && number == 0) {
+            let chosen = (leads || last_two) && turn == place % 17;
+            if run.full || chosen || (counts && turn > 2 && number == 0) {
                 let mut changed = buffer.to_vec();
                 changed[place] = number;
                 put(run, &changed, events);
@@ -135,7 +137,7 @@ fn put_random(run: &mut Run) {
 
 fn random_number(rng: &mut Rng, place: usize) -> u32 {
     match (place % RECORD_NUMBERS, rng.below(8)) {
-        (_, 0) => rng.next() as u32,
+        (_, 0) => rng.number() as u32,
         (_, 1) => rng.pick(&NUMBERS),
         (0, _) => rng.pick(&[5, 5, 7, 8, 8, 1]),
         (7, _) => rng.pick(&[1, 1, 1, 2, 3]),
@@ -160,7 +162,7 @@ fn put_damaged(run: &mut Run) {
             1 => run.rng.pick(&NUMBERS),
             _ => run.rng.below(4) as u32,
         };
-        let place = record + run.rng.pick(&LEADING);
+        let place = record + if run.rng.once_in(4) { run.rng.pick(&LAST_TWO) } else { run.rng.pick(&LEADING) };
         buffer[place] = number;
     }
     put(run, &buffer, &events);

@@ -78,5 +78,5 @@ fn put_strings(run: &mut Run) {
 }
 
 fn put(run: &mut Run, events: &[u8]) {
-    run.put(&Case { text: Vec::new(), events: events.to_vec(), record_room: 24, piece_room: 24 });
+    run.put(&Case { text: Vec::new(), events: events.to_vec(), record_room: 28, piece_room: 24 });
 }

@@ -12,6 +12,7 @@ mod measured;
 mod measures;
 mod nodes;
 mod offsets;
+mod parents;
 pub mod rng;
 pub mod run;
 mod scan_errors;
@@ -30,7 +31,7 @@ use run::Run;
 pub type Family = fn(&mut Run);
 
 /// The families that `build` answers, by their names.
-pub const FAMILIES: [(&str, Family); 9] = [
+pub const FAMILIES: [(&str, Family); 10] = [
     ("offsets", offsets::write),
     ("schema", schema::write),
     ("measures", measures::write),
@@ -40,6 +41,7 @@ pub const FAMILIES: [(&str, Family); 9] = [
     ("tags", tags::write),
     ("events", events::write),
     ("trees", trees::write),
+    ("parents", parents::write),
 ];
 
 /// Those that the accessors and `scan_error` answer.
@@ -47,7 +49,7 @@ pub const ACCESSOR_FAMILIES: [(&str, Family); 3] =
     [("nodes", nodes::write), ("damaged", damaged::write), ("scan_errors", scan_errors::write)];
 
 /// Puts the next random cases of a family.
-pub const RANDOM: [(&str, Family); 9] = [
+pub const RANDOM: [(&str, Family); 10] = [
     ("offsets", offsets::put_random),
     ("schema", schema::put_random),
     ("measures", measures::put_random),
@@ -57,6 +59,7 @@ pub const RANDOM: [(&str, Family); 9] = [
     ("stretches", stretches::put_random),
     ("tags", tags::put_random),
     ("trees", trees::put_random),
+    ("parents", parents::put_random),
 ];
 
 /// Sizes at the limits.

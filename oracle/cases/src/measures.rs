@@ -19,7 +19,7 @@ pub fn write(run: &mut Run) {
         let text = words::word(&letters(style), number / values);
         put(run, &text, 0, column as u32, style, &value);
     }
-    for _ in 0..run.sized(1_100, 500_000) {
+    for _ in 0..run.sized(980, 500_000) {
         put_random(run);
     }
 }

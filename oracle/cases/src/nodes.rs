@@ -1,7 +1,7 @@
 //! Whole documents for the accessors: nestings, empty collections, and mappings with equal keys and keys of every kind.
 
 use crate::rng::Rng;
-use crate::run::{DOUBLE_QUOTED, PLAIN, Run, ample, characters};
+use crate::run::{DOUBLE_QUOTED, PLAIN, Run, ample, characters, record_room};
 use crate::trees;
 use framing::event::{Event, Scalar, Tag, encode};
 use framing::{Case, corpus};
@@ -40,11 +40,11 @@ pub fn write(run: &mut Run) {
     put_wide(run);
     put_deep(run);
     put_event_lists(run);
-    for _ in 0..run.sized(30, 150_000) {
+    for _ in 0..run.sized(21, 150_000) {
         let (case, _) = trees::random(&mut run.rng);
         run.put(&case);
     }
-    for _ in 0..run.sized(30, 150_000) {
+    for _ in 0..run.sized(21, 150_000) {
         let mut document = Document::default();
         let depth = 1 + run.rng.below(2);
         document.random(&mut run.rng, depth);
@@ -55,7 +55,7 @@ pub fn write(run: &mut Run) {
 /// The case with a little more room than the document needs.
 fn fitting(case: Case) -> Case {
     let [_, nodes, pieces] = answers::answer(&case).returned;
-    Case { record_room: 12 * nodes + 7, piece_room: 4 * pieces + 4, ..case }
+    Case { record_room: record_room(nodes as usize) + 7, piece_room: 4 * pieces + 4, ..case }
 }
 
 /// Each scalar as a key alone, before and after another, and all of them twice beside collections that hold the same.

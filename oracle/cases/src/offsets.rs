@@ -26,7 +26,7 @@ pub fn write(run: &mut Run) {
             put(run, &text, &indices);
         }
     }
-    for _ in 0..run.sized(110, 100_000) {
+    for _ in 0..run.sized(100, 100_000) {
         put_random(run);
     }
     if run.full {

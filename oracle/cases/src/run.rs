@@ -2,6 +2,7 @@
 
 use crate::rng::Rng;
 use framing::Case;
+use framing::RECORD_NUMBERS;
 use framing::event::{Event, Scalar, encode};
 
 pub const PLAIN: u8 = 0;
@@ -45,7 +46,12 @@ pub fn one_scalar(text: &str, scalar: Scalar) -> Case {
 
 /// A case whose rooms are more than its nodes and the bytes of its values need.
 pub fn ample(text: Vec<u8>, events: Vec<u8>, nodes: usize, value_bytes: usize) -> Case {
-    Case { text, events, record_room: 12 * nodes as u32 + 7, piece_room: 4 * value_bytes as u32 + 40 }
+    Case { text, events, record_room: record_room(nodes) + 7, piece_room: 4 * value_bytes as u32 + 40 }
+}
+
+/// The room for so many records, in numbers.
+pub fn record_room(records: usize) -> u32 {
+    (RECORD_NUMBERS * records) as u32
 }
 
 /// What a short scalar of a style opens with, and the column it is given.

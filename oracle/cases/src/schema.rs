@@ -144,7 +144,7 @@ pub fn write(run: &mut Run) {
     for (value, tag) in product(&short, &TAGS).step_by(run.sized(499, 1)) {
         put(run, value, DOUBLE_QUOTED, tag);
     }
-    for _ in 0..run.sized(600, 1_000_000) {
+    for _ in 0..run.sized(540, 1_000_000) {
         put_random(run);
     }
 }

@@ -50,7 +50,7 @@ pub fn write(run: &mut Run) {
             put(run, &text, index, b"t");
         }
     }
-    for _ in 0..run.sized(250, 1_000_000) {
+    for _ in 0..run.sized(160, 1_000_000) {
         put_random(run);
     }
 }

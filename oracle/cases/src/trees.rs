@@ -1,7 +1,7 @@
 //! Whole documents: trees, damaged event lists, rooms and limits.
 
 use crate::rng::Rng;
-use crate::run::{DOUBLE_QUOTED, PLAIN, Run, STYLES, ample, characters, one_scalar};
+use crate::run::{DOUBLE_QUOTED, PLAIN, Run, STYLES, ample, characters, one_scalar, record_room};
 use crate::source;
 use framing::event::{Event, Scalar, Tag, encode};
 use framing::{Case, corpus};
@@ -25,7 +25,7 @@ pub fn write(run: &mut Run) {
     put_damaged(run);
     put_deep(run);
     put_event_lists(run);
-    for _ in 0..run.sized(125, 400_000) {
+    for _ in 0..run.sized(105, 400_000) {
         put_random(run);
     }
     if run.full {
@@ -106,7 +106,7 @@ fn put_damaged(run: &mut Run) {
             run.put(&case);
         }
     }
-    for record_room in [0, 11, 12, 13, 23, 24, 35, 36, 47, 48, 49] {
+    for record_room in [0, 12, 13, 14, 15, 27, 28, 41, 42, 48, 55, 56, 57] {
         for piece_room in [0, 3, 4, 5] {
             run.put(&Case { record_room, piece_room, ..case.clone() });
         }
@@ -155,10 +155,10 @@ pub fn put_random(run: &mut Run) {
     run.put(&case);
 
     let pieces = answers::answer(&case).returned[2];
-    let (records, pieces) = (12 * nodes as u32, 4 * pieces);
+    let (records, pieces) = (record_room(nodes), 4 * pieces);
     let mut limited = case.clone();
     if run.rng.once_in(2) {
-        limited.record_room = run.rng.pick(&[0, records - 12, records - 1, records, records + 11]);
+        limited.record_room = run.rng.pick(&[0, record_room(nodes - 1), records - 1, records, records + 13]);
     } else {
         limited.piece_room = run.rng.pick(&[0, pieces.saturating_sub(4), pieces.saturating_sub(1), pieces, pieces + 3]);
     }

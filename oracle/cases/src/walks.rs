@@ -19,7 +19,7 @@ pub fn write(run: &mut Run) {
         let text = format!("{open}{source}");
         run.put(&case(&text, 0, column, style, &value));
     }
-    for _ in 0..run.sized(1_300, 1_000_000) {
+    for _ in 0..run.sized(1_170, 1_000_000) {
         put_random(run);
     }
 }

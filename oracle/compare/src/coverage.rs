@@ -1,7 +1,8 @@
-//! Which rows of the table and which steps of the piece grammar the answers met.
+//! Which rows of the table, which steps of the piece grammar, which parents and which flags the answers met.
 
 use answers::decode::{self, Body, Scalar};
-use framing::{Answer, Case};
+use answers::record::{MEASURED, PARENT};
+use framing::{Answer, Case, RECORD_NUMBERS, Record};
 use saphyr_parser::ScalarStyle::{self, DoubleQuoted, Folded, Literal, SingleQuoted};
 
 /// How often each of a list of names was met.
@@ -11,7 +12,7 @@ pub struct Coverage {
 
 const NONE: u32 = u32::MAX;
 
-const NAMES: [&str; 71] = [
+const NAMES: [&str; 86] = [
     "row 0: built",
     "row 1: too long",
     "row 2: text no UTF-8",
@@ -83,7 +84,25 @@ const NAMES: [&str; 71] = [
     "step 3: backslash",
     "step 4: one newline",
     "step 4: several newlines",
+    "parent: none, the root",
+    "parent: an array, the next record",
+    "parent: an array, past later children",
+    "parent: a hash, the next record",
+    "parent: a hash, past later children",
+    "plain, measured",
+    "plain, assumed",
+    "single-quoted, measured",
+    "single-quoted, assumed",
+    "double-quoted, measured",
+    "double-quoted, assumed",
+    "literal, measured",
+    "folded, measured",
+    "alias, measured",
+    "collection, measured",
 ];
+
+/// How the names of parents start.
+const PARENTS: &str = "parent: ";
 
 impl Coverage {
     pub fn new() -> Self {
@@ -120,22 +139,59 @@ impl Coverage {
 
     /// Records stand in the order of the events that complete them.
     fn add_records(&mut self, case: &Case, answer: &Answer) {
-        let mut records = answer.records.chunks_exact(12);
+        let (records, _) = answer.records.as_chunks::<RECORD_NUMBERS>();
+        let mut numbered = records.iter().enumerate();
         let mut place = 0;
         while let Some((event, next)) = decode::event(&case.events, place) {
             place = next;
             if matches!(event.body, Body::Start(..)) {
                 continue;
             }
-            let record = records.next().expect("a record for each node");
+            let (number, record) = numbered.next().expect("a record for each node");
             self.add_record(record);
+            self.add_parent(records, number);
+            self.add_flag(&event.body, record[MEASURED]);
             if let Body::Scalar(scalar) = event.body {
                 self.add_scalar(case, answer, record, &scalar);
             }
         }
     }
 
-    fn add_record(&mut self, record: &[u32]) {
+    fn add_parent(&mut self, records: &[Record], number: usize) {
+        let parent = records[number][PARENT];
+        let is_next = parent as usize == number + 1;
+        self.met(match (records.get(parent as usize).map(|record| record[0]), is_next) {
+            (None, _) => "parent: none, the root",
+            (Some(7), true) => "parent: an array, the next record",
+            (Some(7), false) => "parent: an array, past later children",
+            (_, true) => "parent: a hash, the next record",
+            (_, false) => "parent: a hash, past later children",
+        });
+    }
+
+    fn add_flag(&mut self, body: &Body, flag: u32) {
+        let node = match body {
+            Body::Scalar(scalar) => style_name(scalar.style),
+            Body::Alias => "alias",
+            _ => "collection",
+        };
+        self.met(&format!("{node}, {}", if flag == 1 { "measured" } else { "assumed" }));
+    }
+
+    /// How many parents there were, and how many flags of scalars.
+    pub fn last_two(&self) -> [u64; 2] {
+        let [mut parents, mut flags] = [0, 0];
+        for (name, count) in &self.counts {
+            if name.starts_with(PARENTS) {
+                parents += count;
+            } else if ALL_STYLES.iter().any(|style| is_flag(name, style_name(*style))) {
+                flags += count;
+            }
+        }
+        [parents, flags]
+    }
+
+    fn add_record(&mut self, record: &Record) {
         self.met(NAMES[10 + record[0] as usize]);
         self.met(match (record[3], record[4]) {
             (NONE, NONE) => "no tag",
@@ -144,14 +200,8 @@ impl Coverage {
         });
     }
 
-    fn add_scalar(&mut self, case: &Case, answer: &Answer, record: &[u32], scalar: &Scalar) {
-        self.met(match scalar.style {
-            ScalarStyle::Plain => "plain",
-            SingleQuoted => "single-quoted",
-            DoubleQuoted => "double-quoted",
-            Literal => "literal",
-            Folded => "folded",
-        });
+    fn add_scalar(&mut self, case: &Case, answer: &Answer, record: &Record, scalar: &Scalar) {
+        self.met(style_name(scalar.style));
         let [first, count] = [record[8], record[9]];
         if first == NONE {
             return self.met("scalar of no list");
@@ -261,6 +311,23 @@ impl Source<'_> {
     fn byte(&self, place: usize) -> u8 {
         self.text.get(self.start + place).copied().unwrap_or(0)
     }
+}
+
+const ALL_STYLES: [ScalarStyle; 5] = [ScalarStyle::Plain, SingleQuoted, DoubleQuoted, Literal, Folded];
+
+fn style_name(style: ScalarStyle) -> &'static str {
+    match style {
+        ScalarStyle::Plain => "plain",
+        SingleQuoted => "single-quoted",
+        DoubleQuoted => "double-quoted",
+        Literal => "literal",
+        Folded => "folded",
+    }
+}
+
+/// Whether a name is that of a flag of this style.
+fn is_flag(name: &str, style: &str) -> bool {
+    name.strip_prefix(style).is_some_and(|said| said.starts_with(", "))
 }
 
 fn is_block(style: ScalarStyle) -> bool {

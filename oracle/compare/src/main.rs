@@ -5,12 +5,11 @@
 //! then CASES random ones. `--exact` puts each input and buffer into an allocation of its exact size, for a memory checker,
 //! and leaves out what is large. A case that differs is shrunk and printed; the exit status says whether there was one.
 //!
-//! What the port says of each scalar's span, measured or assumed, is held to a second implementation, by a program of its own;
-//! not with `--exact`.
+//! The last two numbers of a record, which the original does not have, are held to second implementations: the parent, and whether a
+//! scalar's span is measured or assumed.
 
 mod calls;
 mod coverage;
-mod flags;
 mod held;
 mod show;
 mod shrink;
@@ -21,9 +20,8 @@ use cases::chapter::{self, Shape};
 use cases::rng::Rng;
 use cases::run::Run;
 use cases::script::SCRIPTS;
-use cases::{FAMILIES, LIMITS, RANDOM, SEED};
+use cases::{ACCESSOR_FAMILIES, FAMILIES, LIMITS, RANDOM, SEED};
 use coverage::Coverage;
-use flags::{Flags, Program};
 use framing::{Answer, Case};
 use held::{Build, Memory, outcome};
 use std::env;
@@ -48,9 +46,8 @@ struct Comparison {
     cases: u64,
     panicked: u64,
     different: u64,
-    /// Cases on which one of the two other calls differs.
+    /// Cases on which one of the other calls differs.
     other_calls: u64,
-    flags: Option<Flags>,
 }
 
 fn main() -> ExitCode {
@@ -59,9 +56,9 @@ fn main() -> ExitCode {
         eprintln!("usage: compare [--exact|--full] [CASES] [SEED]");
         return ExitCode::FAILURE;
     };
-    let program: Option<Program> = (options.memory == Memory::Guarded).then_some(flags::child);
-    let mut comparison = Comparison::new(port::build, options.memory, program);
+    let mut comparison = Comparison::new(port::build, options.memory);
     comparison.families(options.full);
+    comparison.buffers(options.full);
     if options.memory == Memory::Guarded {
         comparison.family("limits", LIMITS, false, SEED);
         comparison.chapters(options.seed);
@@ -91,18 +88,8 @@ fn options() -> Option<Options> {
 }
 
 impl Comparison {
-    /// Without a program the flags are left out.
-    fn new(build: Build, memory: Memory, program: Option<Program>) -> Self {
-        Self {
-            build,
-            memory,
-            coverage: Coverage::new(),
-            cases: 0,
-            panicked: 0,
-            different: 0,
-            other_calls: 0,
-            flags: program.map(|program| Flags::new(program, PRINTED)),
-        }
+    fn new(build: Build, memory: Memory) -> Self {
+        Self { build, memory, coverage: Coverage::new(), cases: 0, panicked: 0, different: 0, other_calls: 0 }
     }
 
     fn families(&mut self, full: bool) {
@@ -115,6 +102,24 @@ impl Comparison {
         let before = self.cases;
         family(&mut Run::new(full, Rng::new(seed), &mut |case| self.compare(case)));
         println!("{:9} cases of {name}, seed {seed}", self.cases - before);
+    }
+
+    /// The buffers of the family `damaged`, read by the calls that read any buffer.
+    fn buffers(&mut self, full: bool) {
+        let (_, family) = ACCESSOR_FAMILIES.iter().find(|(name, _)| *name == "damaged").expect("the family");
+        let mut buffers = 0;
+        let mut hold = |case: &Case| {
+            buffers += 1;
+            if let Some(n) = calls::PORT.differing_in_buffer(case, self.memory) {
+                self.other_calls += 1;
+                if self.other_calls <= PRINTED {
+                    println!("buffer {buffers}: parent, or is_measured, of record {n} differs");
+                    show::print_buffer(case);
+                }
+            }
+        };
+        family(&mut Run::new(full, Rng::new(SEED), &mut hold));
+        println!("{buffers:9} buffers of damaged, seed {SEED}");
     }
 
     fn chapters(&mut self, seed: u64) {
@@ -135,8 +140,8 @@ impl Comparison {
         while self.cases < end {
             let (_, put) = rng.pick(&RANDOM);
             let damaged = rng.once_in(16);
-            let mut damage = Rng::new(rng.next());
-            let own = Rng::new(rng.next());
+            let mut damage = Rng::new(rng.number());
+            let own = Rng::new(rng.number());
             put(&mut Run::new(true, own, &mut |case| {
                 self.compare(case);
                 if damaged && !case.text.is_empty() {
@@ -152,17 +157,22 @@ impl Comparison {
         self.cases += 1;
         self.panicked += u64::from(answer.returned[0] == Answer::PANICKED);
         self.coverage.add(case, &answer);
-        if let Some(flags) = &mut self.flags {
-            flags.add(self.cases, case);
-        }
-        if !calls::agree(case, &answer, self.memory) {
+        let same = found.is(&answer);
+        // Where the original panics, what the port leaves in the records is not known.
+        let is_read = same && answer.returned[0] != Answer::PANICKED;
+        let misread = if is_read { calls::PORT.differing(&answer, &found.records) } else { None };
+        let other_calls = [
+            (!calls::agree(case, &answer, self.memory)).then(|| "the call on one scalar, or scan_error,".into()),
+            misread.map(|n| format!("parent, or is_measured, of record {n}")),
+        ];
+        for name in other_calls.iter().flatten() {
             self.other_calls += 1;
             if self.other_calls <= PRINTED {
-                println!("case {}: the call on one scalar, or scan_error, differs", self.cases);
+                println!("case {}: {name} differs", self.cases);
                 show::print(case, &found, &answer);
             }
         }
-        if !found.is(&answer) {
+        if !same {
             self.different += 1;
             if self.different <= PRINTED {
                 self.print(case);
@@ -177,35 +187,19 @@ impl Comparison {
         show::print(&small, &outcome(build, &small, memory), &answers::answer(&small));
     }
 
-    fn report(&mut self) -> ExitCode {
+    fn report(&self) -> ExitCode {
         println!("\nHow often each rule was met:");
         self.coverage.print();
         let missing = self.coverage.missing();
         if missing > 0 {
             println!("{missing} RULES WERE NEVER MET");
         }
-        self.report_flags();
-        println!("\n{} cases, {} of them not answered by the original", self.cases, self.panicked);
-        let flags = self.flags.as_ref();
-        let different = self.different + self.other_calls + flags.map_or(0, |flags| flags.different);
+        let [parents, flags] = self.coverage.last_two();
+        println!("\n{parents} parents and {flags} flags of scalars held to the second implementations");
+        println!("{} cases, {} of them not answered by the original", self.cases, self.panicked);
+        let different = self.different + self.other_calls;
         println!("{different} different");
-        if let Some(failure) = flags.and_then(|flags| flags.failure.as_ref()) {
-            println!("NOT ALL FLAGS WERE HELD: {failure}");
-            return ExitCode::FAILURE;
-        }
         if different == 0 { ExitCode::SUCCESS } else { ExitCode::FAILURE }
-    }
-
-    fn report_flags(&mut self) {
-        let Some(flags) = &mut self.flags else {
-            return println!("\nMeasured and assumed spans: left out with --exact");
-        };
-        flags.finish();
-        for sent in &flags.found {
-            println!("case {}: the flag of a scalar differs", sent.of);
-            show::print_flag(sent);
-        }
-        flags.print();
     }
 }
 

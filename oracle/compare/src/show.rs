@@ -1,30 +1,26 @@
 //! A case in a form to paste.
 
-use crate::flags::Sent;
 use crate::held::Outcome;
 use answers::decode::{self, Body};
-use framing::{Answer, Case};
+use framing::{Answer, Case, RECORD_NUMBERS};
 
 pub fn print(case: &Case, outcome: &Outcome, answer: &Answer) {
     print_case(case);
     println!("  rooms   {} records numbers, {} piece numbers", case.record_room, case.piece_room);
     println!("  returned: original {:?}, port {:?}", answer.returned, outcome.returned);
-    print_numbers("records", 12, &answer.records, &outcome.records);
+    print_numbers("records", RECORD_NUMBERS, &answer.records, &outcome.records);
     print_numbers("pieces", 4, &answer.pieces, &outcome.pieces);
     if !outcome.kept {
         println!("  a guard, the text or the events were written to");
     }
 }
 
-/// A scalar whose flag, or whose refusal, is another.
-pub fn print_flag(sent: &Sent) {
-    print_case(&sent.case);
-    let expected = match (sent.answer.returned[0], sent.answer.records[0]) {
-        (0, 0) => "assumed".into(),
-        (0, _) => "measured".into(),
-        (row, _) => format!("refused by row {row}"),
-    };
-    println!("  second implementation: {expected}; the port says otherwise");
+/// A buffer of a case of the family `damaged`, a record on each line.
+pub fn print_buffer(case: &Case) {
+    let numbers: Vec<u32> = case.text.as_chunks().0.iter().map(|bytes| u32::from_be_bytes(*bytes)).collect();
+    for (row, record) in numbers.chunks(RECORD_NUMBERS).enumerate() {
+        println!("  record {row}: {record:?}");
+    }
 }
 
 fn print_case(case: &Case) {

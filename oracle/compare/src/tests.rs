@@ -1,12 +1,14 @@
-//! A faulty builder is told from the original, and its case is made small.
+//! A faulty builder is told from the original, and its case is made small; a faulty call on a record is told from the second reader.
 
 use crate::Comparison;
+use crate::calls::{PORT, Readers};
 use crate::held::{Build, Memory, differs};
 use crate::shrink::shrunk;
-use cases::RANDOM;
+use answers::record::{MEASURED, PARENT};
 use cases::rng::Rng;
 use cases::run::Run;
-use framing::Case;
+use cases::{ACCESSOR_FAMILIES, RANDOM, SEED};
+use framing::{Case, RECORD_NUMBERS, Record};
 
 /// One too many for the content of each replacement of two bytes.
 fn wrong_piece(text: &[u8], events: &[u8], records: &mut [u32], pieces: &mut [u32]) -> [u32; 3] {
@@ -40,6 +42,72 @@ fn past_the_pieces(text: &[u8], events: &[u8], records: &mut [u32], pieces: &mut
     returned
 }
 
+/// Changes each record of a built document. What changes it gets its number and all records.
+fn with_records(
+    text: &[u8],
+    events: &[u8],
+    records: &mut [u32],
+    pieces: &mut [u32],
+    change: fn(usize, &mut [Record]),
+) -> [u32; 3] {
+    let returned = port::build(text, events, records, pieces);
+    let nodes = if returned[0] == 0 { returned[1] as usize } else { 0 };
+    for number in 0..nodes {
+        change(number, &mut records.as_chunks_mut().0[..nodes]);
+    }
+    returned
+}
+
+/// One too many for each parent but the root's.
+fn later_parent(text: &[u8], events: &[u8], records: &mut [u32], pieces: &mut [u32]) -> [u32; 3] {
+    with_records(text, events, records, pieces, |number, records| {
+        let parent = &mut records[number][PARENT];
+        *parent = parent.saturating_add(1);
+    })
+}
+
+/// The next record for every parent.
+fn next_record(text: &[u8], events: &[u8], records: &mut [u32], pieces: &mut [u32]) -> [u32; 3] {
+    with_records(text, events, records, pieces, |number, records| {
+        if number + 1 < records.len() {
+            records[number][PARENT] = number as u32 + 1;
+        }
+    })
+}
+
+/// The root as its own parent.
+fn own_parent(text: &[u8], events: &[u8], records: &mut [u32], pieces: &mut [u32]) -> [u32; 3] {
+    with_records(text, events, records, pieces, |number, records| {
+        if number + 1 == records.len() {
+            records[number][PARENT] = number as u32;
+        }
+    })
+}
+
+/// No assumed span.
+fn all_measured(text: &[u8], events: &[u8], records: &mut [u32], pieces: &mut [u32]) -> [u32; 3] {
+    with_records(text, events, records, pieces, |number, records| records[number][MEASURED] = 1)
+}
+
+/// Collections that are not measured.
+fn assumed_collections(text: &[u8], events: &[u8], records: &mut [u32], pieces: &mut [u32]) -> [u32; 3] {
+    with_records(text, events, records, pieces, |number, records| {
+        if records[number][0] > 6 {
+            records[number][MEASURED] = 0;
+        }
+    })
+}
+
+/// A buffer that has room for one record less in fourteens, and would have in twelves.
+fn room_in_twelves(text: &[u8], events: &[u8], records: &mut [u32], pieces: &mut [u32]) -> [u32; 3] {
+    let mut wide = vec![0; records.len() / 12 * RECORD_NUMBERS];
+    let returned = port::build(text, events, &mut wide, pieces);
+    let room = records.len().min(wide.len());
+    records.fill(0);
+    records[..room].copy_from_slice(&wide[..room]);
+    returned
+}
+
 fn random(family: &str, seed: u64, count: usize) -> Vec<Case> {
     let (_, put) = RANDOM.iter().find(|(name, _)| *name == family).expect("a family");
     let mut cases = Vec::new();
@@ -65,8 +133,20 @@ fn the_port_is_the_original() {
 
 #[test]
 fn faults_are_found() {
-    for build in [wrong_piece, not_cleared, wrong_row, past_the_pieces] as [Build; 4] {
-        assert!(differing(build, "trees").is_some());
+    let faulty: [Build; 10] = [
+        wrong_piece,
+        not_cleared,
+        wrong_row,
+        past_the_pieces,
+        later_parent,
+        next_record,
+        own_parent,
+        all_measured,
+        assumed_collections,
+        room_in_twelves,
+    ];
+    for (number, build) in faulty.into_iter().enumerate() {
+        assert!(differing(build, "trees").is_some(), "{number}");
     }
 }
 
@@ -80,9 +160,97 @@ fn a_differing_case_is_made_small() {
 
 #[test]
 fn every_sound_case_is_counted() {
-    let mut comparison = Comparison::new(port::build, Memory::Exact, None);
+    let mut comparison = Comparison::new(port::build, Memory::Exact);
     for case in random("walks", 7, 500) {
         comparison.compare(&case);
     }
     assert_eq!((comparison.cases, comparison.different), (500, 0));
+}
+
+/// Whether the calls that read a record agree with the second implementation on the records of random documents.
+fn readers_agree(readers: Readers) -> bool {
+    random("trees", 1, 500)
+        .iter()
+        .map(answers::answer)
+        .all(|answer| readers.differing(&answer, &answer.records).is_none())
+}
+
+/// Whether they agree on damaged buffers.
+fn readers_agree_on_buffers(readers: Readers) -> bool {
+    let (_, family) = ACCESSOR_FAMILIES.iter().find(|(name, _)| *name == "damaged").expect("the family");
+    let mut agree = true;
+    let mut hold = |case: &Case| agree &= readers.differing_in_buffer(case, Memory::Guarded).is_none();
+    family(&mut Run::new(false, Rng::new(SEED), &mut hold));
+    agree
+}
+
+/// The number of a record, without asking whether the kind is one.
+fn number_of(records: &[u32], n: u32, place: usize) -> u32 {
+    records.as_chunks::<RECORD_NUMBERS>().0.get(n as usize).map_or(u32::MAX, |record| record[place])
+}
+
+/// In 32 bits, with which a large number wraps.
+fn wrapping(records: &[u32], n: u32, place: u32) -> u32 {
+    let at = n.wrapping_mul(RECORD_NUMBERS as u32);
+    match records.get(at as usize..).and_then(|rest| rest.get(..RECORD_NUMBERS)) {
+        Some(record) if (1..=8).contains(&record[0]) => record[place as usize],
+        _ => u32::MAX,
+    }
+}
+
+#[test]
+fn calls_on_a_record_are_held() {
+    answers::silence_listed_panic();
+    assert!(readers_agree(PORT) && readers_agree_on_buffers(PORT));
+    let other_numbers = Readers { parent: port::is_measured, is_measured: port::parent };
+    let of_a_root = Readers { parent: |records, n| port::parent(records, n).min(records.len() as u32), ..PORT };
+    let zero = Readers { is_measured: |records, n| port::is_measured(records, n) & 1, ..PORT };
+    for readers in [other_numbers, of_a_root, zero] {
+        assert!(!readers_agree(readers) && !readers_agree_on_buffers(readers));
+    }
+    // Both are right on what was built.
+    let any_kind = Readers {
+        parent: |records, n| number_of(records, n, PARENT),
+        is_measured: |records, n| number_of(records, n, MEASURED),
+    };
+    assert!(!readers_agree_on_buffers(any_kind));
+    let in_32_bits = Readers {
+        parent: |records, n| wrapping(records, n, PARENT as u32),
+        is_measured: |records, n| wrapping(records, n, MEASURED as u32),
+    };
+    assert!(!readers_agree_on_buffers(in_32_bits));
+}
+
+/// More records than are asked for one by one: the last is among those that are, and the one past it.
+#[test]
+fn long_documents_are_asked_evenly() {
+    let records = [7; RECORD_NUMBERS].repeat(2_500);
+    let answer = framing::Answer { returned: [0, 2_500, 0], records: records.clone(), pieces: Vec::new() };
+    let differing = |parent: fn(&[u32], u32) -> u32| {
+        let readers = Readers { parent, is_measured: |_, n| right_number(n) };
+        readers.differing(&answer, &records)
+    };
+    assert_eq!(differing(|_, n| right_number(n)), None);
+    let faults: [fn(&[u32], u32) -> u32; 4] = [
+        |_, n| if n < 2_499 { 7 } else { u32::MAX },
+        |_, n| if n <= 2_500 { 7 } else { u32::MAX },
+        |_, n| if (1_200..1_210).contains(&n) { 8 } else { right_number(n) },
+        |_, n| if n == 0 { 0 } else { right_number(n) },
+    ];
+    assert_eq!(faults.map(differing), [Some(2_499), Some(2_500), Some(1_200), Some(0)]);
+}
+
+fn right_number(n: u32) -> u32 {
+    if n < 2_500 { 7 } else { u32::MAX }
+}
+
+#[test]
+fn parents_and_flags_are_counted() {
+    answers::silence_listed_panic();
+    let mut comparison = Comparison::new(port::build, Memory::Exact);
+    for case in random("trees", 3, 500) {
+        comparison.compare(&case);
+    }
+    let [parents, flags] = comparison.coverage.last_two();
+    assert!(parents > flags && flags > 500, "{parents} {flags}");
 }

@@ -18,6 +18,11 @@ pub mod event;
 
 use std::io::{self, BufRead, Read, Write};
 
+/// How many numbers a record has.
+pub const RECORD_NUMBERS: usize = 14;
+
+pub type Record = [u32; RECORD_NUMBERS];
+
 #[derive(Debug, Clone, PartialEq)]
 pub struct Case {
     pub text: Vec<u8>,
@@ -30,7 +35,7 @@ pub struct Case {
 pub struct Answer {
     /// `0, nodes, pieces`, or the number of the refusing row, its place and 0, or [`Answer::PANICKED`], 0 and 0.
     pub returned: [u32; 3],
-    /// Twelve numbers for each node; none when refused.
+    /// [`RECORD_NUMBERS`] for each node; none when refused.
     pub records: Vec<u32>,
     /// Four numbers for each piece; none when refused.
     pub pieces: Vec<u32>,
@@ -101,7 +106,7 @@ mod tests {
 
     #[test]
     fn cases_are_read_as_written() -> io::Result<()> {
-        let case = Case { text: b"a".to_vec(), events: vec![6, 0, 4, 0, 0, 0, 0], record_room: 12, piece_room: 0 };
+        let case = Case { text: b"a".to_vec(), events: vec![6, 0, 4, 0, 0, 0, 0], record_room: 14, piece_room: 0 };
         let mut file = Vec::new();
         case.write(&mut file)?;
         let mut file = file.as_slice();

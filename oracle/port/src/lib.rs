@@ -1,6 +1,9 @@
 //! The port, linked as a static library: the one place here that calls it. Apart from the Rust package in `bindings`, which turns the numbers
 //! into types: what is compared are the numbers themselves, those of refusals too.
 
+/// The numbers of a record.
+pub type Record = [u32; 14];
+
 #[repr(C)]
 struct Answered {
     code: u32,
@@ -11,7 +14,7 @@ struct Answered {
 #[repr(C)]
 struct AnsweredScalar {
     answer: Answered,
-    record: [u32; 12],
+    record: Record,
 }
 
 unsafe extern "C" {
@@ -38,6 +41,8 @@ unsafe extern "C" {
         pieces_len: usize,
     ) -> AnsweredScalar;
     fn quarto_yaml_scan_error(text: *const u8, text_len: usize, index: u32) -> Answered;
+    fn quarto_yaml_parent(records: *const u32, records_len: usize, n: u32) -> u32;
+    fn quarto_yaml_is_measured(records: *const u32, records_len: usize, n: u32) -> u32;
 }
 
 /// What the port answers: `0, nodes, pieces`, or a row's number, its place and 0.
@@ -67,7 +72,7 @@ pub fn scalar(
     empty_span: bool,
     value: &[u8],
     pieces: &mut [u32],
-) -> ([u32; 3], [u32; 12]) {
+) -> ([u32; 3], Record) {
     // Each pointer comes with the length of the slice that it is of.
     let AnsweredScalar { answer, record } = unsafe {
         quarto_yaml_scalar(
@@ -91,4 +96,16 @@ pub fn scan_error(text: &[u8], index: u32) -> [u32; 3] {
     // The pointer comes with the length of the slice that it is of.
     let answered = unsafe { quarto_yaml_scan_error(text.as_ptr(), text.len(), index) };
     [answered.code, answered.first, answered.second]
+}
+
+/// The parent of record `n`, or 0xFFFFFFFF at the root and where there is no such record.
+pub fn parent(records: &[u32], n: u32) -> u32 {
+    // The pointer comes with the length of the slice that it is of.
+    unsafe { quarto_yaml_parent(records.as_ptr(), records.len(), n) }
+}
+
+/// 1 for a measured span and 0 for an assumed one, or 0xFFFFFFFF where there is no record `n`.
+pub fn is_measured(records: &[u32], n: u32) -> u32 {
+    // The pointer comes with the length of the slice that it is of.
+    unsafe { quarto_yaml_is_measured(records.as_ptr(), records.len(), n) }
 }
