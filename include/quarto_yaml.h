@@ -30,8 +30,8 @@
  * token with empty span 1. A block mapping's start may stand anywhere but on a `{`: its span starts at its first key. A missing value
  * has its marker on the `:` before it. An end has it on the closing bracket, or where a block collection ends.
  *
- * RECORDS. Twelve `uint32_t` for each node, in the order in which nodes are complete: children before their collection, the root
- * last. Record n, from 0, starts at `records[12 * n]`. By place (QUARTO_YAML_AT_...):
+ * RECORDS. Fourteen `uint32_t` for each node, in the order in which nodes are complete: children before their collection, the root
+ * last. Record n, from 0, starts at `records[14 * n]`. By place (QUARTO_YAML_AT_...):
  *
  *     0      kind, QUARTO_YAML_KIND_...
  *     1, 2   its span in the text: first byte, and the byte after the last
@@ -41,6 +41,11 @@
  *     8, 9   its first piece, and how many; QUARTO_YAML_NONE and 0 where there is no list, as for every collection
  *     10, 11 boolean: 0 or 1, and 0. Integer: the high and low 32 bits of its 64, two's complement. Real, string: place of the value
  *            in the events (0 in a call on one scalar), and its length. Array: items, and 0. Hash: pairs, and 0. Else 0 and 0
+ *     12     the record of its parent, always a higher number than its own; QUARTO_YAML_NONE for the root and in a call on one scalar
+ *     13     1 if its span was measured, 0 if it was assumed; 1 for every collection and alias
+ *
+ * A scalar's span is measured if it was found in the text; a block's always is. That of a plain scalar whose value cannot be followed
+ * through the text, and of a quoted one without both its marks, is assumed: as long as the value, cut to the text left.
  *
  * The children of a hash are its keys and values in turn; every pair is kept, equal keys too. An alias is a null of span length 0. A
  * scalar whose pieces cannot be found has no list. One with an empty value has a list of no pieces, if its walk can start: a quoted
@@ -52,8 +57,8 @@
  * compared with the value, so the last content can reach past the value; and an escape that the text's end cuts off still claims its
  * whole length, so a piece can end up to 4 bytes past the text: compare with the text's length before you use an end.
  *
- * A span can end early or late, even inside a character, a tag's span can lie in the content, pieces can reach past the span: which
- * files do this, and what one would expect there, is in docs/DIFFERENCES.md, "What an entry can get wrong".
+ * A span can end early or late, an assumed one even inside a character, a tag's span can lie in the content, pieces can reach past
+ * the span: which files do this, and what one would expect there, is in docs/DIFFERENCES.md, "What an entry can get wrong".
  */
 #ifndef QUARTO_YAML_H
 #define QUARTO_YAML_H
@@ -66,11 +71,11 @@
 extern "C" {
 #endif
 
-/* No record, no count, no tag, no list. */
+/* No record, no count, no tag, no list, no parent. */
 #define QUARTO_YAML_NONE 0xFFFFFFFFu
 
 /* How many uint32_t a record and a piece have. */
-#define QUARTO_YAML_RECORD_WIDTH 12
+#define QUARTO_YAML_RECORD_WIDTH 14
 #define QUARTO_YAML_PIECE_WIDTH 4
 
 /* The largest text, or value of a call on one scalar, and the largest event bytes, in bytes; open collections; pieces in all. */
@@ -140,7 +145,9 @@ enum {
     QUARTO_YAML_AT_SUBTREE = 7,
     QUARTO_YAML_AT_FIRST_PIECE = 8,
     QUARTO_YAML_AT_PIECE_COUNT = 9,
-    QUARTO_YAML_AT_PAYLOAD = 10
+    QUARTO_YAML_AT_PAYLOAD = 10,
+    QUARTO_YAML_AT_PARENT = 12,
+    QUARTO_YAML_AT_MEASURED = 13
 };
 
 /* ---- building */
@@ -150,7 +157,7 @@ typedef struct {
     uint32_t code, first, second;
 } quarto_yaml_answer;
 
-/* The answer, and the scalar's record; all twelve numbers 0 if it is refused. */
+/* The answer, and the scalar's record; all fourteen numbers 0 if it is refused. */
 typedef struct {
     quarto_yaml_answer answer;
     uint32_t record[QUARTO_YAML_RECORD_WIDTH];
@@ -160,8 +167,8 @@ typedef struct {
  * A whole document. Answers 0, how many records and how many pieces; they stand at the front of the buffers, and all numbers
  * past them are 0. Otherwise 1 to 9, its place, 0, and both buffers are 0. What the buffers held before does not matter.
  *
- * An event has at least 7 bytes, so `events_len / 7` records (twelve numbers each) are always enough. As a rule a piece for each byte
- * of the text and one for each scalar are; where they are not, 8 says so.
+ * An event has at least 7 bytes, so `events_len / 7` records (fourteen numbers each) are always enough. As a rule a piece for each
+ * byte of the text and one for each scalar are; where they are not, 8 says so.
  */
 quarto_yaml_answer quarto_yaml_build(const uint8_t *text, size_t text_len, const uint8_t *events, size_t events_len,
                                      uint32_t *records, size_t records_len, uint32_t *pieces, size_t pieces_len);
@@ -226,6 +233,11 @@ typedef struct {
 /* Pair `i` of the hash `n`, from 0. As many steps as it is away from the last. */
 quarto_yaml_entry quarto_yaml_hash_entry(const uint32_t *records, size_t records_len, uint32_t n, uint32_t i);
 
+/* The collection that `n` is a child of: for a key as for a value, the hash. None for the root. (A record that was not built here may
+ * hold any number there, which is told as it is: that record need not exist, and going up need not end. It ends on any buffer if you
+ * stop at a number that is not higher.) */
+uint32_t quarto_yaml_parent(const uint32_t *records, size_t records_len, uint32_t n);
+
 /* Bytes of the text, `end` not counted in. */
 typedef struct {
     uint32_t present, start, end;
@@ -233,6 +245,10 @@ typedef struct {
 
 /* The bytes of the text that a node spans. */
 quarto_yaml_span quarto_yaml_source_info(const uint32_t *records, size_t records_len, uint32_t n);
+
+/* 1 if that span was measured, 0 if it was assumed. (A record that was not built here may hold any number there, and 0xFFFFFFFF looks
+ * like none.) */
+uint32_t quarto_yaml_is_measured(const uint32_t *records, size_t records_len, uint32_t n);
 
 /* A tag's span in the text, and the place and length of its suffix in the events. */
 typedef struct {

@@ -20,11 +20,13 @@ fn fields(document: &Document, node: Node) -> Vec<String> {
     let tag = node.tag().map(|tag| {
         format!("{{\"span\":{},\"suffix\":{}}}", range(tag.span), quoted(node.tag_suffix().unwrap_or_default()))
     });
+    let parent = node.parent().map(|parent| parent.number().to_string());
     let mut fields = vec![
         format!("\"record\":{}", node.number()),
+        format!("\"parent\":{}", parent.as_deref().unwrap_or("null")),
         format!("\"kind\":{}", quoted(node.kind().name())),
         format!("\"line\":{},\"column\":{}", position.line, position.column),
-        format!("\"span\":{}", range(span)),
+        format!("\"span\":{},\"measured\":{}", range(span), node.is_measured()),
         format!("\"tag\":{}", tag.as_deref().unwrap_or("null")),
     ];
     match node.kind() {

@@ -18,8 +18,9 @@ usage: catalogue [--table | --json | --marked] [FILE]
 Shows the catalogue of a YAML file: for each scalar its kind, the bytes of the file that it occupies, where its tag is
 written, and the pieces: from which bytes every stretch of its value came.
 
-  --table     a row for each scalar and each piece (without an option)
-  --json      a JSON object for each node, one to a line
+  --table     a row for each scalar and each piece (without an option); a span with ? is assumed, as long as the value,
+              and was not found in the file
+  --json      a JSON object for each node, one to a line, with its parent
   --marked    the file with marks below each line, or in colours on a terminal
 
 FILE - is standard input. Without a FILE it shows examples/chapter.yaml of the repository, whatever standard input is,

@@ -28,7 +28,11 @@ pub fn write(document: &Document, out: &mut dyn Write) -> io::Result<()> {
     }
     writeln!(out)?;
     writeln!(out, "{}", summary(document))?;
-    writeln!(out, "= verbatim   ~ replaced, with the bytes that it stands for   bytes of the file, counted from 0")
+    writeln!(out, "= verbatim   ~ replaced, with the bytes that it stands for   bytes of the file, counted from 0")?;
+    if document.scalars().any(|node| !node.is_measured()) {
+        writeln!(out, "? span assumed: as long as the value, which could not be followed through the file")?;
+    }
+    Ok(())
 }
 
 fn range(span: Span) -> String {
@@ -41,7 +45,8 @@ fn rows_of(document: &Document, node: Node) -> Vec<Row> {
         Some(tag) => format!("{} {}", range(tag.span), word(node.tag_suffix().unwrap_or_default())),
         None => "-".to_string(),
     };
-    let first = [document.position(span.start).to_string(), node.kind().name().to_string(), range(span), tag];
+    let assumed = if node.is_measured() { "" } else { " ?" };
+    let first = [document.position(span.start).to_string(), node.kind().name().to_string(), range(span) + assumed, tag];
     let pieces = pieces(document, node);
     let mut rows = Vec::new();
     for (i, [piece, content]) in pieces.into_iter().enumerate() {
@@ -86,8 +91,13 @@ fn summary(document: &Document) -> String {
     let listed = document.scalars().filter(|node| node.piece_list().is_some()).count();
     let pieces = document.scalars().filter_map(|node| node.pieces()).flatten();
     let (verbatim, replaced): (Vec<_>, Vec<_>) = pieces.partition(|piece| piece.kind == PieceKind::Verbatim);
+    let assumed = match document.scalars().filter(|node| !node.is_measured()).count() {
+        0 => String::new(),
+        1 => "; 1 span assumed".to_string(),
+        assumed => format!("; {assumed} spans assumed"),
+    };
     format!(
-        "{scalars} scalars, {listed} with a list of pieces: {} verbatim, {} replaced",
+        "{scalars} scalars, {listed} with a list of pieces: {} verbatim, {} replaced{assumed}",
         verbatim.len(),
         replaced.len()
     )

@@ -92,10 +92,43 @@ fn the_chapter_marked() {
     assert_eq!(shown(&["--marked", "--", CHAPTER]), golden);
 }
 
+/// Two blank lines inside a plain scalar: its span is the value's length, four bytes of the seven.
+const ASSUMED: &[u8] = b"a: x\n\n\n  y\nb: 'z'\n";
+
+#[test]
+fn an_assumed_span_in_the_table() {
+    let expected = r#"line:col  kind    span    tag  piece       content
+1:1       string  0..1    -    = 0..1      "a"
+1:4       string  3..7 ?  -    = 3..4      "x"
+                               ~ 4..9 > 2  "\n\n"
+                               = 9..10     "y"
+5:1       string  11..12  -    = 11..12    "b"
+5:4       string  14..17  -    = 15..16    "z"
+
+4 scalars, 4 with a list of pieces: 5 verbatim, 1 replaced; 1 span assumed
+= verbatim   ~ replaced, with the bytes that it stands for   bytes of the file, counted from 0
+? span assumed: as long as the value, which could not be followed through the file
+"#;
+    assert_eq!(shown(&[&file("assumed.yaml", ASSUMED)]), expected);
+    let two = shown(&[&file("assumed-two.yaml", b"- a\n\n\n  b\n- c\n\n\n  d\n")]);
+    assert!(two.contains("; 2 spans assumed\n"));
+}
+
+#[test]
+fn an_assumed_span_in_json_lines() {
+    let expected = r#"{"record":0,"parent":4,"kind":"string","line":1,"column":1,"span":[0,1],"measured":true,"tag":null,"text":"a","pieces":[{"kind":"verbatim","source":[0,1],"content":1}]}
+{"record":1,"parent":4,"kind":"string","line":1,"column":4,"span":[3,7],"measured":false,"tag":null,"text":"x\n\ny","pieces":[{"kind":"verbatim","source":[3,4],"content":1},{"kind":"replacement","source":[4,9],"content":2},{"kind":"verbatim","source":[9,10],"content":1}]}
+{"record":2,"parent":4,"kind":"string","line":5,"column":1,"span":[11,12],"measured":true,"tag":null,"text":"b","pieces":[{"kind":"verbatim","source":[11,12],"content":1}]}
+{"record":3,"parent":4,"kind":"string","line":5,"column":4,"span":[14,17],"measured":true,"tag":null,"text":"z","pieces":[{"kind":"verbatim","source":[15,16],"content":1}]}
+{"record":4,"parent":null,"kind":"hash","line":1,"column":1,"span":[0,18],"measured":true,"tag":null,"pairs":[{"key":0,"value":1,"span":[0,7]},{"key":2,"value":3,"span":[11,17]}]}
+"#;
+    assert_eq!(shown(&["--json", &file("assumed-json.yaml", ASSUMED)]), expected);
+}
+
 #[test]
 fn standard_input() {
-    let expected = "{\"record\":0,\"kind\":\"integer\",\"line\":1,\"column\":1,\"span\":[0,1],\"tag\":null,\"text\":\"7\",\"value\":7,\
-                    \"pieces\":[{\"kind\":\"verbatim\",\"source\":[0,1],\"content\":1}]}\n";
+    let expected = "{\"record\":0,\"parent\":null,\"kind\":\"integer\",\"line\":1,\"column\":1,\"span\":[0,1],\"measured\":true,\
+                    \"tag\":null,\"text\":\"7\",\"value\":7,\"pieces\":[{\"kind\":\"verbatim\",\"source\":[0,1],\"content\":1}]}\n";
     for arguments in [["--json", "-"], ["-", "--json"]] {
         let output = run_with_input(&arguments, b"7");
         assert!(output.status.success() && output.stderr.is_empty(), "{output:?}");

@@ -60,8 +60,9 @@ fn in_the_table() {
     assert!(out.contains(r#""\u202a\u202e\u2066\u2069\u200e\u200f\u061c""#));
     assert!(out.contains(r#""x\u2028y\u2029z w""#));
     assert!(out.contains(r#""\u200d\ufe0f\u2060\udb40\udc41""#));
-    // a line for each scalar, the head, the sum and the legend
-    assert_eq!(out.lines().count(), 18 + 4);
+    // a line for each scalar, the head, the sum and the two of the legend: the span at 7:4 is assumed
+    assert!(row(&out, "7:4").contains(" ? "));
+    assert_eq!(out.lines().count(), 18 + 5);
 }
 
 #[test]

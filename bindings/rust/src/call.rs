@@ -47,7 +47,7 @@ impl Catalogue<'_> {
         self.built
     }
 
-    /// The numbers of the records, twelve each.
+    /// The numbers of the records, fourteen each.
     pub fn records(&self) -> &[u32] {
         &self.records
     }
@@ -135,7 +135,7 @@ pub struct ScalarEvent<'a> {
 /// The record of one scalar, and its pieces.
 #[derive(Clone, Debug)]
 pub struct Scalar {
-    /// Its record. The place of its value is 0.
+    /// Its record. The place of its value is 0, and it has no parent.
     pub record: Record,
     pieces: Vec<u32>,
 }

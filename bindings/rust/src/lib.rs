@@ -1,8 +1,9 @@
 //! Safe calls to the tree builder of quarto-yaml, which is written in Rattle and proved.
 //!
 //! From the text of a YAML file and the events of a YAML parser, [`build`] makes a record for each node (what it is, which bytes of the
-//! file it occupies, where its tag is written) and the pieces of each scalar: from which bytes of the file every stretch of its value
-//! came. Nothing is assumed of the input: what is no sound document is refused with a [`Refusal`].
+//! file it occupies, where its tag is written, which node is its parent) and the pieces of each scalar: from which bytes of the file every
+//! stretch of its value came. Nothing is assumed of the input: what is no sound document is refused with a [`Refusal`]. [`tree`] has an
+//! example of going up and down.
 //!
 //! ```
 //! use quarto_yaml::event::{Event, Style, encode};

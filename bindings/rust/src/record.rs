@@ -1,10 +1,10 @@
 //! Records and pieces as types.
 
 /// How many numbers a record has.
-pub const RECORD_WIDTH: usize = 12;
+pub const RECORD_WIDTH: usize = 14;
 /// How many numbers a piece has.
 pub const PIECE_WIDTH: usize = 4;
-/// No record, no tag, no list.
+/// No record, no tag, no list, no parent.
 pub const NONE: u32 = 0xFFFF_FFFF;
 
 /// Bytes from `start` up to, not including, `end`.
@@ -141,12 +141,18 @@ pub struct Record {
     pub pieces: Option<PieceList>,
     /// What it says of its value.
     pub payload: Payload,
+    /// The record of its parent, as its number says; none for the root and in a call on one scalar.
+    pub parent: Option<u32>,
+    /// Whether its span was found in the text. The span of a scalar for which this is false is assumed: as long as the value, cut to the
+    /// text left.
+    pub measured: bool,
 }
 
 impl Record {
     /// The record of these numbers; none if the kind is not 1 to 8.
     pub fn new(numbers: &[u32; RECORD_WIDTH]) -> Option<Record> {
-        let [kind, start, end, tag_start, tag_end, suffix, len, subtree, first, count, high, low] = *numbers;
+        let [kind, start, end, tag_start, tag_end, suffix, len, subtree, first, count, high, low, parent, measured] =
+            *numbers;
         let kind = Kind::new(kind)?;
         let tagged = [tag_start, tag_end, suffix, len] != [NONE; 4];
         let listed = first != NONE && !matches!(kind, Kind::Array | Kind::Hash);
@@ -157,6 +163,8 @@ impl Record {
             subtree,
             pieces: listed.then_some(PieceList { first, count }),
             payload: payload(kind, high, low),
+            parent: (parent != NONE).then_some(parent),
+            measured: measured == 1,
         })
     }
 }
@@ -241,7 +249,7 @@ mod tests {
 
     #[test]
     fn every_field_is_read_from_its_place() {
-        let numbers = [5, 1, 2, 3, 4, 5, 6, 7, 8, 9, 10, 11];
+        let mut numbers = [5, 1, 2, 3, 4, 5, 6, 7, 8, 9, 10, 11, 12, 1];
         let record = Record::new(&numbers).unwrap();
         assert_eq!(record.kind, Kind::String);
         assert_eq!(record.span, Span { start: 1, end: 2 });
@@ -249,12 +257,16 @@ mod tests {
         assert_eq!(record.subtree, 7);
         assert_eq!(record.pieces, Some(PieceList { first: 8, count: 9 }));
         assert_eq!(record.payload, Payload::Text { place: 10, len: 11 });
+        assert_eq!((record.parent, record.measured), (Some(12), true));
+        numbers[13] = 0;
+        assert!(!Record::new(&numbers).unwrap().measured);
     }
 
     #[test]
     fn payloads() {
-        let of =
-            |kind, first, second| Record::new(&[kind, 0, 0, 0, 0, 0, 0, 1, NONE, 0, first, second]).unwrap().payload;
+        let of = |kind, first, second| {
+            Record::new(&[kind, 0, 0, 0, 0, 0, 0, 1, NONE, 0, first, second, NONE, 1]).unwrap().payload
+        };
         assert_eq!(of(1, 0, 0), Payload::Nothing);
         assert_eq!(of(2, 1, 0), Payload::Boolean(true));
         assert_eq!(of(3, 0x8000_0000, 0), Payload::Integer(i64::MIN));
@@ -268,11 +280,15 @@ mod tests {
 
     #[test]
     fn what_is_not_there() {
-        let mut numbers = [7, 0, 0, NONE, NONE, NONE, NONE, 1, 0, 0, 0, 0];
+        let mut numbers = [7, 0, 0, NONE, NONE, NONE, NONE, 1, 0, 0, 0, 0, NONE, 1];
         let record = Record::new(&numbers).unwrap();
-        assert_eq!((record.tag, record.pieces), (None, None));
+        assert_eq!((record.tag, record.pieces, record.parent), (None, None, None));
         numbers[3] = 0;
         assert!(Record::new(&numbers).unwrap().tag.is_some());
+        for other in [0, 2, NONE] {
+            numbers[13] = other;
+            assert!(!Record::new(&numbers).unwrap().measured);
+        }
         for kind in [0, 9, NONE] {
             numbers[0] = kind;
             assert_eq!(Record::new(&numbers), None);

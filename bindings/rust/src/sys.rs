@@ -2,6 +2,8 @@
 
 #![allow(unsafe_code)]
 
+use crate::record::RECORD_WIDTH;
+
 /// `code` 0 with two numbers of the call, or a number of the table, its place, and 0.
 #[derive(Clone, Copy)]
 #[repr(C)]
@@ -14,7 +16,7 @@ pub(crate) struct Answer {
 #[repr(C)]
 pub(crate) struct ScalarAnswer {
     pub(crate) answer: Answer,
-    pub(crate) record: [u32; 12],
+    pub(crate) record: [u32; RECORD_WIDTH],
 }
 
 #[repr(C)]
@@ -96,7 +98,9 @@ unsafe extern "C" {
         key_len: usize,
     ) -> u32;
     fn quarto_yaml_hash_entry(records: *const u32, records_len: usize, n: u32, i: u32) -> Entry;
+    fn quarto_yaml_parent(records: *const u32, records_len: usize, n: u32) -> u32;
     fn quarto_yaml_source_info(records: *const u32, records_len: usize, n: u32) -> Span;
+    fn quarto_yaml_is_measured(records: *const u32, records_len: usize, n: u32) -> u32;
     fn quarto_yaml_tag(records: *const u32, records_len: usize, n: u32) -> TagInfo;
     fn quarto_yaml_content_source_info(records: *const u32, records_len: usize, n: u32) -> PieceList;
 }
@@ -167,7 +171,9 @@ reader!(last_child = quarto_yaml_last_child(n) -> u32);
 reader!(child_before = quarto_yaml_child_before(c) -> u32);
 reader!(get_array_item = quarto_yaml_get_array_item(n, i) -> u32);
 reader!(hash_entry = quarto_yaml_hash_entry(n, i) -> Entry);
+reader!(parent = quarto_yaml_parent(n) -> u32);
 reader!(source_info = quarto_yaml_source_info(n) -> Span);
+reader!(is_measured = quarto_yaml_is_measured(n) -> u32);
 reader!(tag = quarto_yaml_tag(n) -> TagInfo);
 reader!(content_source_info = quarto_yaml_content_source_info(n) -> PieceList);
 

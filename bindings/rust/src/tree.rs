@@ -1,6 +1,36 @@
 //! The records seen as a tree.
 //!
 //! Nothing is assumed of the buffers: every question to records that no build left has an answer too, and every iteration ends.
+//!
+//! From a sentence up to the section that it stands in:
+//!
+//! ```
+//! use quarto_yaml::event::{Event, Style, encode};
+//!
+//! let text = "{title: Oil, steps: [Drain it, Fill it]}";
+//! let scalar = |index, value| {
+//!     Event::Scalar { index, column: index, style: Style::Plain, empty_span: false, tag: None, value }
+//! };
+//! let events = encode(&[
+//!     Event::MappingStart { index: 0, tag: None },
+//!     scalar(1, "title"),
+//!     scalar(8, "Oil"),
+//!     scalar(13, "steps"),
+//!     Event::SequenceStart { index: 20, tag: None },
+//!     scalar(21, "Drain it"),
+//!     scalar(31, "Fill it"),
+//!     Event::SequenceEnd { index: 38 },
+//!     Event::MappingEnd { index: 39 },
+//! ])?;
+//! let catalogue = quarto_yaml::build(text.as_bytes(), &events)?;
+//! let sentence = catalogue.tree().nodes().find(|node| node.text() == Some("Fill it")).unwrap();
+//!
+//! // Its parent is the list of steps; the first hash on the way up is the section.
+//! assert!(sentence.parent().unwrap().is_array());
+//! let section = sentence.ancestors().find(|node| node.is_hash()).unwrap();
+//! assert_eq!(section.get("title").unwrap().text(), Some("Oil"));
+//! # Ok::<(), Box<dyn std::error::Error>>(())
+//! ```
 
 use crate::record::{Kind, NONE, Payload, PieceList, Pieces, RECORD_WIDTH, Record, Span, TagInfo};
 use crate::sys;
@@ -102,6 +132,13 @@ impl<'a> Node<'a> {
         Span { start, end }
     }
 
+    /// Whether that span was found in the text, as it is for every block scalar and counts for every collection and alias. Otherwise it is
+    /// assumed: as long as the value, cut to the text left, since a plain one's value cannot be followed through the text, or a quoted one
+    /// has not both its marks.
+    pub fn is_measured(self) -> bool {
+        sys::is_measured(self.tree.records, self.number) == 1
+    }
+
     /// Its tag.
     pub fn tag(self) -> Option<TagInfo> {
         let tag = sys::tag(self.tree.records, self.number);
@@ -140,6 +177,17 @@ impl<'a> Node<'a> {
     /// collection.
     pub fn pieces(self) -> Option<Pieces<'a>> {
         Pieces::new(self.tree.pieces, self.piece_list()?)
+    }
+
+    /// The array or hash that it is a child of, for a key as for a value; none for the root. A parent has a higher number than its
+    /// children; where the number in a record that no build left is not higher, it has no parent.
+    pub fn parent(self) -> Option<Node<'a>> {
+        self.tree.found(sys::parent(self.tree.records, self.number)).filter(|parent| parent.number > self.number)
+    }
+
+    /// Its parent, the parent of that, and so on up to the root, which is the last.
+    pub fn ancestors(self) -> impl Iterator<Item = Node<'a>> {
+        std::iter::successors(self.parent(), |node| node.parent())
     }
 
     /// The last child: of a hash, the value of its last pair.

@@ -77,7 +77,7 @@ fn the_record_of_one_scalar() {
         let event =
             ScalarEvent { index: 0, column: 0, style: Style::Plain, empty_span: false, value: value.as_bytes() };
         let record = scalar(value.as_bytes(), &event).unwrap().record;
-        assert_eq!((record.subtree, record.tag), (1, None));
+        assert_eq!((record.subtree, record.tag, record.parent, record.measured), (1, None, None, true));
         (record.kind, record.payload)
     };
     assert_eq!(of("~"), (Kind::Null, Payload::Nothing));
@@ -86,6 +86,22 @@ fn the_record_of_one_scalar() {
     assert_eq!(of("0o17"), (Kind::Integer, Payload::Integer(15)));
     assert_eq!(of("9223372036854775808"), (Kind::Real, Payload::Text { place: 0, len: 19 }));
     assert_eq!(of("+.nan"), (Kind::String, Payload::Text { place: 0, len: 5 }));
+}
+
+#[test]
+fn one_scalar_that_is_measured_or_assumed() {
+    let of = |text: &'static str, style, value: &'static str| {
+        let event = ScalarEvent { index: 0, column: 0, style, empty_span: false, value: value.as_bytes() };
+        let record = scalar(text.as_bytes(), &event).unwrap().record;
+        assert_eq!(record.parent, None);
+        record.measured
+    };
+    assert!(of("a", Style::Plain, "a") && !of("a", Style::Plain, "b"));
+    assert!(of("a \n  b", Style::Plain, "a b") && !of("a\n\n\nb", Style::Plain, "a\n\nb"));
+    assert!(of("", Style::Plain, "") && !of("", Style::DoubleQuoted, ""));
+    assert!(of("'a'", Style::SingleQuoted, "a") && !of("'a", Style::SingleQuoted, "a"));
+    assert!(of("\"\\e\"", Style::DoubleQuoted, "\u{1b}") && !of("\"a\\\"", Style::DoubleQuoted, "a\""));
+    assert!(of("a", Style::Literal, "b") && of("", Style::Folded, "a\n"));
 }
 
 #[test]
@@ -143,23 +159,24 @@ fn a_buffer_that_is_full_or_one_short() {
         Event::SequenceEnd { index: 10 },
     ])
     .unwrap();
-    let (mut records, mut pieces) = ([9; 3 * 12], [9; 4 * 4]);
+    let (mut records, mut pieces) = ([9; 3 * 14], [9; 4 * 4]);
     let built = build_in(text, &events, &mut records, &mut pieces).unwrap();
     assert_eq!((built.nodes, built.pieces), (3, 4));
-    assert_eq!(records[24..], [7, 0, 11, NONE, NONE, NONE, NONE, 3, NONE, 0, 2, 0]);
+    assert_eq!(records[..14], [5, 1, 2, NONE, NONE, NONE, NONE, 1, 0, 1, 22, 1, 2, 1]);
+    assert_eq!(records[28..], [7, 0, 11, NONE, NONE, NONE, NONE, 3, NONE, 0, 2, 0, NONE, 1]);
     assert_eq!(pieces[4..], [1, 5, 6, 1, 2, 6, 8, 1, 1, 8, 9, 1]);
 
-    let short = build_in(text, &events, &mut records[..35], &mut pieces);
+    let short = build_in(text, &events, &mut records[..41], &mut pieces);
     assert_eq!(short, Err(Refusal::NoRecordRoom { event: 3 }));
-    assert!(records[..35].iter().chain(&pieces).all(|number| *number == 0));
-    assert_eq!(records[35], 0);
+    assert!(records[..41].iter().chain(&pieces).all(|number| *number == 0));
+    assert_eq!(records[41], 1, "it was not lent");
     assert_eq!(build_in(text, &events, &mut records, &mut pieces[..15]), Err(Refusal::NoPieceRoom { event: 2 }));
 
-    let mut large = ([9; 40], [9; 30]);
+    let mut large = ([9; 46], [9; 30]);
     build_in(text, &events, &mut large.0, &mut large.1).unwrap();
-    assert_eq!((&large.0[36..], &large.1[16..]), (&[0; 4][..], &[0; 14][..]));
+    assert_eq!((&large.0[42..], &large.1[16..]), (&[0; 4][..], &[0; 14][..]));
     let catalogue = build(text, &events).unwrap();
-    assert_eq!((catalogue.records(), catalogue.pieces()), (&large.0[..36], &large.1[..16]));
+    assert_eq!((catalogue.records(), catalogue.pieces()), (&large.0[..42], &large.1[..16]));
 }
 
 #[test]
@@ -171,11 +188,11 @@ fn the_room_that_is_always_enough() {
         Event::SequenceEnd { index: 0 },
     ])
     .unwrap();
-    assert_eq!(record_room(&events), 3 * 12);
+    assert_eq!(record_room(&events), 3 * 14);
     assert_eq!(piece_room(b"four", &events), 4 * (4 + 1));
-    assert_eq!(record_room(&events[..events.len() - 6]), 2 * 12);
-    assert_eq!(record_room(&[&events[..], &[2, 0, 3, 0, 0, 0]].concat()), 3 * 12);
-    assert_eq!(record_room(&[&events[..], &[7, 0, 4, 0, 0, 0, 0]].concat()), 3 * 12);
+    assert_eq!(record_room(&events[..events.len() - 6]), 2 * 14);
+    assert_eq!(record_room(&[&events[..], &[2, 0, 3, 0, 0, 0]].concat()), 3 * 14);
+    assert_eq!(record_room(&[&events[..], &[7, 0, 4, 0, 0, 0, 0]].concat()), 3 * 14);
 }
 
 /// A text in which every piece is one byte of a value.

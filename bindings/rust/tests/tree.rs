@@ -90,9 +90,80 @@ fn pairs_of_a_hash() {
     assert_eq!(root.get("a").unwrap().pairs().len(), 0, "an array has no pairs");
 }
 
-/// Twelve numbers of a node with this kind, subtree count and payload.
-fn record(kind: u32, subtree: u32, count: u32) -> [u32; 12] {
-    [kind, 0, 0, NONE, NONE, NONE, NONE, subtree, 0, 0, count, 0]
+/// The events of a shape: `[`, `]`, `{` and `}` are starts and ends, `*` an alias, `a` a scalar. The markers do not matter.
+fn shape(signs: &str) -> Vec<u8> {
+    let event = |sign| match sign {
+        '[' => Event::SequenceStart { index: 0, tag: None },
+        ']' => Event::SequenceEnd { index: 0 },
+        '{' => Event::MappingStart { index: 0, tag: None },
+        '}' => Event::MappingEnd { index: 0 },
+        '*' => Event::Alias { index: 0 },
+        _ => Event::Scalar { index: 0, column: 0, style: Style::Plain, empty_span: false, tag: None, value: "a" },
+    };
+    encode(&signs.chars().map(event).collect::<Vec<_>>()).unwrap()
+}
+
+/// Every node is a child of its parent, and the parent of its children.
+#[test]
+fn up_and_down() {
+    let deep = "[".repeat(64) + "a" + &"]".repeat(64);
+    let mut documents = vec![events()];
+    documents.extend(["a", "*", "[]", &deep, "{[a*]a{}[]}", "[a[a]{a[**]}a]"].map(shape));
+    for events in documents {
+        let catalogue = build(TEXT.as_bytes(), &events).unwrap();
+        let root = catalogue.root();
+        assert!(root.parent().is_none() && root.ancestors().next().is_none());
+        let mut children = 0;
+        for node in catalogue.tree().nodes() {
+            for child in node.children() {
+                assert_eq!(child.parent().unwrap().number(), node.number());
+                assert!(child.number() < node.number());
+                children += 1;
+            }
+            let parent = node.parent();
+            assert_eq!(node.record().parent, parent.map(Node::number));
+            let among = |parent: Node| parent.children().filter(|child| child.number() == node.number()).count();
+            assert!(parent.is_none_or(|parent| among(parent) == 1));
+            assert_eq!(node.ancestors().last().unwrap_or(node).number(), root.number());
+        }
+        assert_eq!(children + 1, catalogue.built().nodes, "only the root is no child");
+    }
+}
+
+#[test]
+fn parents_of_a_document() {
+    let events = events();
+    let catalogue = build(TEXT.as_bytes(), &events).unwrap();
+    let parents: Vec<_> = catalogue.tree().nodes().map(|node| node.parent().map(Node::number)).collect();
+    let [array, root] = [Some(4), Some(11)];
+    assert_eq!(parents, [root, array, array, array, root, root, root, root, root, root, root, None]);
+    let x = catalogue.root().get("a").unwrap().item(1).unwrap();
+    assert_eq!(x.ancestors().map(Node::number).collect::<Vec<_>>(), [4, 11]);
+}
+
+#[test]
+fn measured_and_assumed_spans() {
+    let scalar =
+        |index, style, value| Event::Scalar { index, column: index, style, empty_span: false, tag: None, value };
+    let events = encode(&[
+        Event::SequenceStart { index: 0, tag: None },
+        scalar(1, Style::Plain, "a"),
+        scalar(4, Style::Plain, "c"),
+        scalar(7, Style::SingleQuoted, "d"),
+        scalar(8, Style::SingleQuoted, "d"),
+        Event::Alias { index: 12 },
+        Event::SequenceEnd { index: 14 },
+    ])
+    .unwrap();
+    let catalogue = build(b"[a, b, 'd', *e]", &events).unwrap();
+    let measured: Vec<bool> = catalogue.tree().nodes().map(Node::is_measured).collect();
+    assert_eq!(measured, [true, false, true, false, true, true]);
+    assert!(catalogue.tree().nodes().all(|node| node.record().measured == node.is_measured()));
+}
+
+/// Fourteen numbers of a node with this kind, subtree count and payload.
+fn record(kind: u32, subtree: u32, count: u32) -> [u32; 14] {
+    [kind, 0, 0, NONE, NONE, NONE, NONE, subtree, 0, 0, count, 0, NONE, 1]
 }
 
 #[test]
@@ -110,7 +181,36 @@ fn records_that_no_build_left() {
     assert!(tree.node(4).is_none() && tree.root(0).is_none() && tree.root(5).is_none());
     let odd = record(9, 1, 0);
     assert!(Tree::new(&[], &odd, &[]).node(0).is_none());
-    assert!(Tree::new(&[], &odd[..11], &[]).node(0).is_none());
+    assert!(Tree::new(&[], &odd[..13], &[]).node(0).is_none());
+    assert!(Tree::new(&[], &record(1, 1, 0)[..13], &[]).node(0).is_none());
+}
+
+/// A record may name itself, one below it, one that is cut off or one of no kind: it then has no parent, and going up ends.
+#[test]
+fn parents_that_no_build_left() {
+    let mut records = [record(5, 1, 0); 6];
+    for (record, parent) in records.iter_mut().zip([0, 0, 3, 6, 5, NONE]) {
+        record[12] = parent;
+    }
+    records[5][0] = 9;
+    let records = [records.as_flattened(), &record(8, 1, 0)[..13]].concat();
+    let tree = Tree::new(&[], &records, &[]);
+    let parents: Vec<_> = tree.nodes().map(|node| node.parent().map(Node::number)).collect();
+    assert_eq!(parents, [None, None, Some(3), None, None]);
+    let counts: Vec<_> = tree.nodes().map(|node| node.ancestors().count()).collect();
+    assert_eq!(counts, [0, 0, 1, 0, 0]);
+    assert_eq!(tree.node(0).unwrap().record().parent, Some(0), "its record says what it says");
+}
+
+/// A number other than 1 does not say that the span was measured.
+#[test]
+fn a_flag_that_no_build_left() {
+    let mut numbers = record(5, 1, 0);
+    for (number, measured) in [(0, false), (1, true), (2, false), (NONE, false)] {
+        numbers[13] = number;
+        let node = Tree::new(&[], &numbers, &[]).node(0).unwrap();
+        assert_eq!((node.is_measured(), node.record().measured), (measured, measured));
+    }
 }
 
 #[test]
