@@ -4,7 +4,7 @@ use mathlib.Core.List.{List, [], ◌∷◌}
 use Prim.Native.Nat.{ℕ, zero, suc}
 use native.Mathlib.Omega.{arith}
 use borrow.Author.Tests.{le-leb}
-use lib.ListN.{length, drop}
+use lib.ListN.{drop}
 use Rattle.std.specs.Prelude.{true, Option, Some, slice_get, option_map}
 use Rattle.schema.specs.Record.{kind_number}
 use Rattle.records.specs.declared.record.Node.{Node}
@@ -15,6 +15,7 @@ use Rattle.node.specs.Source.{is_measured_at}
 use Rattle.node.specs.Flag.{EveryScalarFlag}
 use Rattle.node.proofs.GrowthLaws.{kind_bounds}
 use Rattle.parser.specs.Demand.{resolved_as}
+use Rattle.parser.specs.EventRun.{completed_by}
 
 member_after : (xs : List Node) (n : ℕ) (x : Node) (later : List Node) → drop n xs ≡ x ∷ later → slice_get xs n ≡ Some x
 member_after [] zero x later e = cc
@@ -31,9 +32,9 @@ flag_read text events size pieces_size xs ps lists before after m tag value spli
     let kind : is_kind x.kind ≡ true =
     rw (listed.entry.kind, le-leb 1 (kind_number (resolved_as tag value m.style)) bounds.0, le-leb (kind_number (resolved_as tag value m.style)) 8 (omega arith)) refl
     in
-    let here = member_after xs (length listed.st.nodes) x listed.later listed.place in
+    let here = member_after xs (completed_by before) x listed.later listed.place in
     let is : existing x ≡ Some x = rw kind refl in (
       x.measured,
-      ap (option_map (λ (y : Node). y.measured)) (record_laid size xs (length listed.st.nodes) ∙ ap (λ (o : Option Node). o >>= existing) here ∙ is),
+      ap (option_map (λ (y : Node). y.measured)) (record_laid size xs (completed_by before) ∙ ap (λ (o : Option Node). o >>= existing) here ∙ is),
       listed.entry.measured,
     )

@@ -58,7 +58,7 @@ use Rattle.spans.specs.Collection.{awaits_value, closes}
 use Rattle.parser.specs.Machine.{State, empty, Next, go, stop, Outcome, built, refused, depth_limit, root_done, before_root, within_depth, within_room, completed, on_start, ended, on_end, on_alias, keeping}
 use Rattle.parser.specs.Machine.{scalar_kept, on_scalar, on_read, follow, ending, run, run_all}
 use Rattle.parser.proofs.RunLaws.{stop_not_go, run_stopped, run_enough, parents_built, parents_refused}
-use Rattle.parser.specs.EventRun.{reached, run_events, malformed, EventsAsList}
+use Rattle.parser.specs.EventRun.{completed_by, reached, run_events, malformed, EventsAsList}
 use Rattle.records.specs.Layout.{record_room, piece_room}
 use Rattle.parser.specs.Call as call
 use Rattle.parser.specs.Call.{record_of, admitted, with_parents, building, one_scalar, scalar_call}
@@ -73,6 +73,7 @@ use Rattle.spans.specs.declared.open.Open.{Open}
 use Rattle.spans.proofs.SpanLaws.{start_boundary, span_from, node_measured, pieces_are, measured_list, measured_pieces_end}
 use Rattle.parser.proofs.Pieces.{filled_none}
 use Rattle.parser.proofs.EventRun.{go_is, stop_is, refused_not_built, in_order_lem, events_as_list, over_through, passing, StoppedAt, stopped_at}
+use Rattle.parser.proofs.Counts.{reached_counts}
 use Rattle.parser.proofs.Growths.{gate, past_root, past_room, Grown, run_grown}
 
 -- ---- the walk of a scalar starts where document 01 says
@@ -359,14 +360,14 @@ listed_parented : (text events : List ℕ) (room most : ℕ) (before : List Yaml
     → ScalarListed text events room most before m tag value xs p → ScalarListed text events room most before m tag value (parented 0 xs) p
 unfolding parented
 listed_parented text events room most before m tag value xs p l =
-    let n = 0 + length l.st.nodes in
+    let n = 0 + completed_by before in
     let x = l.entry in
     record {
       st = l.st;
       let_through = l.let_through;
       node = with_parent l.node (or_absent (holder (n + 1) 1 l.later));
       later = parented (n + 1) l.later;
-      place = drop-parented (length l.st.nodes) 0 xs ∙ ap (parented n) l.place;
+      place = drop-parented (completed_by before) 0 xs ∙ ap (parented n) l.place;
       value_place_is = l.value_place_is;
       value_there = l.value_there;
       tag_info_is = l.tag_info_is;
@@ -617,12 +618,15 @@ module _ (text events : List ℕ) (size pieces_size : ℕ) where
         let all_pieces : ps ≡ (here.pieces ++ left) ++ g.left = g.pieces ∙ ap (λ (l : List Piece). l ++ g.left) k.pieces in
         let finds : list_in (laid_pieces pieces_size ps) k.node.list ≡ left = ap (λ (l : List Piece). list_in (laid_pieces pieces_size l) k.node.list) all_pieces ∙ k.finds pieces_size g.left in
         let first : ℕ = walk_first text (awaits_value here.opens) m value in
+        let number : completed_by before ≡ length here.nodes = let c = reached_counts text events records_in most 0 before empty here to_here in omega arith in
         record {
           st = here;
           let_through = to_here;
           node = k.node;
           later = g.own;
-          place = drop_front here.nodes k.node g.own xs (g.nodes ∙ ap (λ (l : List Node). l ++ g.own) k.nodes);
+          place =
+              ap (λ (n : ℕ). drop n xs) number
+              ∙ drop_front here.nodes k.node g.own xs (g.nodes ∙ ap (λ (l : List Node). l ++ g.own) k.nodes);
           value_place_is = value_place i tag;
           value_there = value_found events i m tag value stands;
           tag_info_is = tag_info text (start_at text (awaits_value here.opens) m value) (suffix_of (placed_tag (tag_place i) tag));

@@ -27,7 +27,7 @@ use Rattle.records.specs.Record.{absent, extent, no_tag, no_list, zero_node}
 use Rattle.spans.specs.Scalar.{Mark, start_at, walk_first, with_span}
 use Rattle.spans.specs.Collection.{awaits_value}
 use Rattle.parser.specs.Machine.{State, empty, go, Outcome, built, refused, root_done}
-use Rattle.parser.specs.EventRun.{reached}
+use Rattle.parser.specs.EventRun.{completed_by, reached}
 use Rattle.records.specs.Layout.{record_room, piece_room}
 use Rattle.parser.specs.Call as call
 use Rattle.parser.specs.Call.{record_of, building}
@@ -137,10 +137,10 @@ pub record ScalarListed (text events : List ℕ) (room piece_room : ℕ) (before
   -- the events before it are let through to this state
   pub st : State
   pub let_through : reached text events room piece_room 0 before empty ≡ go st
-  -- its record comes after theirs
+  -- its record is number `completed_by before`
   pub node : Node
   pub later : List Node
-  pub place : drop (length st.nodes) xs ≡ node ∷ later
+  pub place : drop (completed_by before) xs ≡ node ∷ later
   -- it says what document 01 says of this event
   pub value_place_is : ℕ
   pub value_there : part_of events (part value_place_is (length value)) ≡ value

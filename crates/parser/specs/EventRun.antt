@@ -2,12 +2,25 @@
 -- over event bytes is this run over the events that stand in them is `EventsAsList`, and what comes of other bytes `FaultyBytes`; both are
 -- proved in proofs/EventRun.antt.
 use Rattle.std.specs.Prelude.{ℕ, ◌+◌, ◌<◌, ◌≡◌, ◌⊎◌, List, [], ◌∷◌, length, Ok, Err}
-use Rattle.event.specs.Encode.{YamlEvent, encode_event}
+use Rattle.event.specs.Encode.{YamlEvent, sequence_start, sequence_end, mapping_start, mapping_end, scalar, alias, encode_event}
 use Rattle.event.specs.Meaning.{StandsAt, placed, event_number}
 use Rattle.event.specs.EventList.{encode_events}
 use Rattle.event.specs.Read as read
 use Rattle.parser.specs.Machine.{State, empty, Next, go, stop, Outcome, refused, on_read, ending, follow, run_all}
 use Rattle.parser.specs.Call.{building}
+
+-- how many nodes an event completes, and the events of a list
+abbrev pub nodes_completed : YamlEvent → ℕ
+nodes_completed (sequence_start index tag) = 0
+nodes_completed (mapping_start index tag) = 0
+nodes_completed (sequence_end index) = 1
+nodes_completed (mapping_end index) = 1
+nodes_completed (scalar index column style empty_span tag value) = 1
+nodes_completed (alias index) = 1
+
+abbrev pub completed_by : List YamlEvent → ℕ
+completed_by [] = 0
+completed_by (e ∷ es) = nodes_completed e + completed_by es
 
 abbrev pub go_on : Next → (State → Next) → Next
 go_on (go st) f = f st
