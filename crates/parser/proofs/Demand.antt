@@ -73,8 +73,7 @@ use Rattle.spans.specs.declared.open.Open.{Open}
 use Rattle.spans.proofs.SpanLaws.{start_boundary, span_from, node_measured, pieces_are, measured_list, measured_pieces_end}
 use Rattle.parser.proofs.Pieces.{filled_none}
 use Rattle.parser.proofs.EventRun.{go_is, stop_is, refused_not_built, in_order_lem, events_as_list, over_through, passing, StoppedAt, stopped_at}
-use Rattle.parser.proofs.Counts.{reached_counts}
-use Rattle.parser.proofs.Growths.{gate, past_root, past_room, Grown, run_grown}
+use Rattle.parser.proofs.Growths.{gate, past_root, past_room, Grown, reached_grown, run_grown}
 
 -- ---- the walk of a scalar starts where document 01 says
 
@@ -605,12 +604,12 @@ module _ (text events : List ℕ) (size pieces_size : ℕ) where
 
   module _ (sound : AdmittedText text) (es : List YamlEvent) (ok : AllSound es) (bytes : events ≡ encode_events es) (xs : List Node) (ps : List Piece)
       (runs : run_events text events records_in most ending 0 0 es empty ≡ built xs ps) where
-    listed : (before : List YamlEvent) (m : Mark) (tag : Tag) (value : List ℕ) (here next : State)
+    listed : (before : List YamlEvent) (m : Mark) (tag : Tag) (value : List ℕ) (here next : State) (more : ℕ)
         → reached text events records_in most 0 before empty ≡ go here → (stands : StandsAt events (length (encode_events before)) (scalar_of m tag value))
         → Keeps most (node_here text events sound records_in most (room_small pieces_size) (length (encode_events before)) m tag value stands here)
-        (found text sound (awaits_value here.opens) m value) here next → Grown most next (record { nodes = xs; opens = []; pieces = ps })
+        (found text sound (awaits_value here.opens) m value) here next → Grown most more next (record { nodes = xs; opens = []; pieces = ps })
         → ScalarListed text events records_in most before m tag value xs (laid_pieces pieces_size ps)
-    listed before m tag value here next to_here stands k g =
+    listed before m tag value here next more to_here stands k g =
         let o : Option (List Piece) = found text sound (awaits_value here.opens) m value in
         let room : ℕ = most - length here.pieces in
         let left : List Piece = left_of room o in
@@ -618,7 +617,8 @@ module _ (text events : List ℕ) (size pieces_size : ℕ) where
         let all_pieces : ps ≡ (here.pieces ++ left) ++ g.left = g.pieces ∙ ap (λ (l : List Piece). l ++ g.left) k.pieces in
         let finds : list_in (laid_pieces pieces_size ps) k.node.list ≡ left = ap (λ (l : List Piece). list_in (laid_pieces pieces_size l) k.node.list) all_pieces ∙ k.finds pieces_size g.left in
         let first : ℕ = walk_first text (awaits_value here.opens) m value in
-        let number : completed_by before ≡ length here.nodes = let c = reached_counts text events records_in most 0 before empty here to_here in omega arith in
+        let so_far = reached_grown text events records_in most (room_small pieces_size) 0 before empty here to_here in
+        let number : completed_by before ≡ length here.nodes = sym so_far.count ∙ sym (ap length so_far.nodes) in
         record {
           st = here;
           let_through = to_here;
@@ -651,7 +651,7 @@ module _ (text events : List ℕ) (size pieces_size : ℕ) where
         ap (λ (j : ℕ). on_read text events records_in most (Ok (placed j e)) p.here) (sym z) ∙ p.on in
         let k = leads text events sound records_in most (room_small pieces_size) (length (encode_events before)) m tag value stands p.here p.next on in
         let g = run_grown text events records_in most (room_small pieces_size) p.place p.number after p.next xs ps p.rest in
-        listed before m tag value p.here p.next p.to_here stands k g
+        listed before m tag value p.here p.next (completed_by after) p.to_here stands k g
 
     lists_all : Consecutive 0 xs (length ps)
     lists_all =

@@ -17,8 +17,6 @@ mod Wholes
 pub mod EventRun
 -- what a step adds to nodes and pieces
 mod Growths
--- how many nodes events complete
-mod Counts
 -- the equations of the run
 pub mod RunLaws
 -- how many nodes and pieces a call comes to at most, and which places and numbers

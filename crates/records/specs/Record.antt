@@ -60,30 +60,10 @@ abbrev pub piece_list : ℕ → ℕ → PieceList
 piece_list i n = record { first = i; count = n }
 
 abbrev pub with_list : Node → ℕ → ℕ → Node
-with_list x i n =
-    record {
-      kind = x.kind;
-      extent = x.extent;
-      tag = x.tag;
-      subtree = x.subtree;
-      list = piece_list i n;
-      payload = x.payload;
-      parent = x.parent;
-      measured = x.measured;
-    }
+with_list x i n = record x { list = piece_list i n }
 
 abbrev pub with_parent : Node → ℕ → Node
-with_parent x p =
-    record {
-      kind = x.kind;
-      extent = x.extent;
-      tag = x.tag;
-      subtree = x.subtree;
-      list = x.list;
-      payload = x.payload;
-      parent = p;
-      measured = x.measured;
-    }
+with_parent x p = record x { parent = p }
 
 -- an alias at byte i: a null of length 0 with no list (N1), its span counted as measured (02, (c)); no parent yet
 abbrev pub alias_node : ℕ → Node

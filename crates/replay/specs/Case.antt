@@ -1,5 +1,5 @@
 -- The framing of an answered case, as the oracle's page gives it. All numbers are four bytes, high byte first.
-use Rattle.std.specs.Prelude.{ℕ, ◌+◌, ◌-◌, ◌*◌, Bool, true, false, ◌&&◌, cond, List, [], ◌∷◌, leb, eqb, length, take, drop, get_or, Option, Some, None}
+use Rattle.std.specs.Prelude.{◌<◌, ◌≤◌, ◌⊎◌, ℕ, ◌+◌, ◌-◌, ◌*◌, Bool, true, false, ◌&&◌, cond, List, [], ◌∷◌, leb, eqb, length, take, drop, get_or, Option, Some, None}
 use Rattle.replay.specs.declared.case.Returned.{Returned}
 use Rattle.replay.specs.declared.case.Rooms.{Rooms}
 
@@ -26,6 +26,13 @@ rooms_at s = 4 + number s 0 + 4 + number s (4 + number s 0)
 
 abbrev pub rooms_of : List ℕ → Rooms
 rooms_of s = record { records = number s (rooms_at s); pieces = number s (rooms_at s + 4) }
+
+-- no room for so many numbers in one of the two buffers, or in both there is
+abbrev pub TooLargeFor : Rooms → Type 0
+TooLargeFor rooms = (4096 < rooms.records) ⊎ (4096 < rooms.pieces)
+
+abbrev pub FitsIn : Rooms → Type 0
+FitsIn rooms = (rooms.records ≤ 4096) × (rooms.pieces ≤ 4096)
 
 abbrev pub returned_if : Bool → Returned → Option Returned
 returned_if panicked r = cond panicked None (Some r)

@@ -1,6 +1,6 @@
 // The parts of an answered case.
 ghost use Rattle.std.specs.Prelude.{◌≡◌, ◌+◌, ◌*◌, ◌≤◌, ◌<◌, ℕ, List, length, drop, MatchOption, ◌⊎◌};
-ghost use Rattle.replay.specs.Case.{number, part_of, text_of, events_of, rooms_of, returned_of, records_of, pieces_of, same_numbers};
+ghost use Rattle.replay.specs.Case.{TooLargeFor, FitsIn, number, part_of, text_of, events_of, rooms_of, returned_of, records_of, pieces_of, same_numbers};
 
 // The rooms of the two buffers, in numbers.
 #[derive(Clone, Copy, Debug, PartialEq, Eq)]
@@ -158,9 +158,8 @@ pub fn in_room<F: FnOnce(&mut [u32]) -> bool>(size: usize, answer: F) -> Option<
 // The same over two buffers, of records and of pieces.
 pub fn in_rooms<F: FnOnce(&mut [u32], &mut [u32]) -> bool>(rooms: Rooms, answer: F) -> Option<bool>
     requires { F.IsAlwaysCallable answer }
-    ensures { MatchOption result ((4096 < rooms.records) ⊎ (4096 < rooms.pieces))
-        (λ r. (records : _) × (pieces : _) × (left : _) × (pieces_left : _) × (rooms.records ≤ 4096) × (rooms.pieces ≤ 4096)
-        × (length records.now ≡ rooms.records) × (length pieces.now ≡ rooms.pieces) × F.post answer records pieces r left pieces_left) }
+    ensures { MatchOption result (TooLargeFor rooms)
+        (λ r. (records : _) × (pieces : _) × (left : _) × (pieces_left : _) × FitsIn rooms × (length records.now ≡ rooms.records) × (length pieces.now ≡ rooms.pieces) × F.post answer records pieces r left pieces_left) }
 {
     let mut records = numbers();
     let mut pieces = numbers();

@@ -1,5 +1,6 @@
 // The outcome of a replay, counted and printed.
-ghost use Rattle.std.specs.Prelude.{◌≡◌};
+ghost use Rattle.std.specs.Prelude.{◌≡◌, Bool, Option, MatchOption};
+ghost use Rattle.replay.specs.Case.{returned_of, rooms_of, TooLargeFor, FitsIn};
 ghost use Rattle.replay.specs.Tally.{judged_of, verdict_of, counted_of, closed_of, after_of};
 
 use crate::case::{Case, case_of, in_rooms};
@@ -51,12 +52,14 @@ pub fn verdict_of(case: Case<'_>, same: Option<bool>) -> Verdict
     same.map_or(Verdict::TooLarge, judged)
 }
 
-// The verdict on a case that is answered over its two rooms, of records and of pieces.
+// The verdict on a case that is answered over its two rooms, of records and of pieces: what the answer says, unless the original has none or
+// there is no room for so many. Nothing is said of the answer, which is the caller's.
 pub fn verdict_in_rooms<F: FnOnce(Case<'_>, &mut [u32], &mut [u32]) -> bool>(
     bytes: &[u8],
     answer: F,
 ) -> Verdict
     requires { F.IsAlwaysCallable answer }
+    ensures { (same : Option Bool) × (result ≡ verdict_of (returned_of bytes.now) same) × MatchOption same (TooLargeFor (rooms_of bytes.now)) (λ r. FitsIn (rooms_of bytes.now)) }
 {
     let case = case_of(bytes);
     let same = in_rooms(case.rooms, |records, pieces| answer(case, records, pieces));

@@ -18,16 +18,7 @@ is_mapping Mapping = true
 -- the innermost open collection has a child more, which starts at byte i; an array's items and a hash's keys and values alike (N2)
 abbrev pub with_child : ℕ → List Open → List Open
 with_child i [] = []
-with_child i (o ∷ os) =
-    record {
-      collection = o.collection;
-      start = o.start;
-      suffix = o.suffix;
-      children = o.children + 1;
-      first = option_or o.first (Some i);
-      before = o.before;
-    }
-    ∷ os
+with_child i (o ∷ os) = record o { children = o.children + 1; first = option_or o.first (Some i) } ∷ os
 
 -- whether the next node is the value of the innermost mapping's last key
 abbrev pub awaits_value : List Open → Bool
