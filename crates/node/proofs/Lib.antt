@@ -19,5 +19,5 @@ mod Alike
 pub mod GrowthLaws
 -- and the accessors give it back: `read_back`
 pub mod ReadBackLaws
--- whether a scalar's span was measured, by the accessor
-pub mod FlagLaws
+-- a scalar's span by the accessors: where it lies, and whether it was measured
+pub mod ScalarSpanLaws

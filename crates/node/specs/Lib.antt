@@ -24,8 +24,8 @@ pub mod Growth
 -- Statements: theorems and laws that a caller may use, and worked cases. Proved; nothing here is to be believed.
 -- what the accessors give back of a tree: the theorem on trees
 pub mod ReadBack
--- whether a scalar's span was measured, by the accessor
-pub mod Flag
+-- a scalar's span by the accessors: where it lies, and whether it was measured
+pub mod ScalarSpan
 -- reading is the inverse of laying out
 pub mod RecordLaws
 -- the nodes of every run are the tree of its events

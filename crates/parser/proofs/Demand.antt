@@ -27,7 +27,6 @@ use Rattle.schema.specs.Record.{truth}
 use Rattle.schema.specs.declared.plain.Resolved.{Resolved}
 use Rattle.measure.specs.Scalar.{scalar_measure}
 use Rattle.measure.proofs.MeasuredLaws.{scalar_says}
-use Rattle.measure.specs.declared.length.Measure.{Measure}
 use Rattle.utf8.specs.Ascii.{Bytes}
 use Rattle.event.specs.Read.{events_limit, part, part_of, read_event}
 use Rattle.event.specs.Encode.{Tag, untagged, tagged, YamlEvent, sequence_start, sequence_end, mapping_start, mapping_end, scalar, alias, encode_tag, encode_event}
@@ -51,7 +50,7 @@ use Rattle.provenance.proofs.DemandLaws.{listed_only, listed_if, demand3}
 use Rattle.provenance.specs.declared.step.Step.{Step}
 use Rattle.provenance.specs.declared.walk.Walked.{Walked}
 use Rattle.provenance.specs.declared.walk.Walked.TheVariants.{Listed, NoRoom, NoList}
-use Rattle.records.specs.Record.{absent, extent, no_tag, no_list, piece_list, with_list, with_parent}
+use Rattle.records.specs.Record.{absent, no_tag, no_list, piece_list, with_list, with_parent}
 use Rattle.records.specs.Parent.{holder, or_absent, parented}
 use Rattle.spans.specs.Scalar.{Mark, mark, start_at, scalar_at, walk_first, suffix_of, tag_info, resolved_by, span_measure, scalar_over, scalar_node, event_node}
 use Rattle.spans.specs.Collection.{awaits_value, closes}
@@ -70,7 +69,7 @@ use Rattle.records.specs.declared.record.PieceList.{PieceList}
 use Rattle.spans.specs.declared.open.Collection.{Collection}
 use Rattle.spans.specs.declared.open.Collection.TheVariants.{Sequence, Mapping}
 use Rattle.spans.specs.declared.open.Open.{Open}
-use Rattle.spans.proofs.SpanLaws.{start_boundary, span_from, node_measured, pieces_are, measured_list, measured_pieces_end}
+use Rattle.spans.proofs.SpanLaws.{no_start_outside, pieces_are, measured_list, measured_pieces_end}
 use Rattle.parser.proofs.Pieces.{filled_none}
 use Rattle.parser.proofs.EventRun.{go_is, stop_is, refused_not_built, in_order_lem, events_as_list, over_through, passing, StoppedAt, stopped_at}
 use Rattle.parser.proofs.Growths.{gate, past_root, past_room, Grown, reached_grown, run_grown}
@@ -92,16 +91,13 @@ module _ (text : List ℕ) (sound : AdmittedText text) (awaited : Bool) (m : Mar
   entry_says place t r x e =
       record {
         kind = ap (λ (y : Node). y.kind) e;
-        span =
-            ap (λ (y : Node). y.extent) e
-            ∙ ap (λ (k : Measure). extent (start_at text awaited m value) (start_at text awaited m value + k.len))
-            (span_from text (scalar_at text awaited m value place) (start_boundary text sound.utf8 awaited m value));
+        span = (ap (λ (y : Node). y.extent) e, rw (ap (λ (y : Node). y.extent) e) (no_start_outside text sound.utf8 awaited m value));
         tag = ap (λ (y : Node). y.tag) e;
         subtree = ap (λ (y : Node). y.subtree) e;
         payload = ap (λ (y : Node). y.payload) e;
         measured = (
           (scalar_measure (drop (start_at text awaited m value) text) value m.style m.empty m.column).measured,
-          ap (λ (y : Node). y.measured) e ∙ node_measured text (scalar_at text awaited m value place) t r (start_boundary text sound.utf8 awaited m value),
+          ap (λ (y : Node). y.measured) e,
           scalar_says (drop (start_at text awaited m value) text) value m.style m.empty m.column,
         );
       }
@@ -269,7 +265,7 @@ module _ (text : List ℕ) (sound : AdmittedText text) (m : Mark) (value : List 
   unfolding scalar_call one_scalar scalar_kept event_node tag_info resolved_by
   scalar_is =
       rw (both_admitted text value sound value_sound, le-ltb folded m.style known)
-      (ap (kept_alone size alone_node) (pieces_are text sound.utf8 false m value 0))
+      (ap (kept_alone size alone_node) (pieces_are text false m value 0))
 
   alone_no_list : alone_node.list ≡ no_list
   unfolding scalar_over
@@ -324,13 +320,12 @@ module _ (text : List ℕ) (sound : AdmittedText text) (m : Mark) (value : List 
   measured_plain is_plain xs ps e one =
       let x = scalar_at text false m value 0 in
       let flag : (span_measure text x).measured ≡ true = truth_one (span_measure text x).measured (sym (ap (λ (y : Node). y.measured) (record_is xs ps e)) ∙ one) in
-      let on = start_boundary text sound.utf8 false m value in
-      let are = pieces_are text sound.utf8 false m value 0 in
+      let on = no_start_outside text sound.utf8 false m value in
+      let are = pieces_are text false m value 0 in
       let walked : walked_by (record_of (scalar_call text m value size)).list ≡ answer_of (piece_room size) (found text sound false m value) =
       rw e (rw e at kept_alone_lem.answer) in
       let a = answered (record_of (scalar_call text m value size)).list (piece_room size) (found text sound false m value) walked in
-      let ends = ap (λ (k : Extent). k.end) (scalar_record.entry xs ps e).span in
-      let len = ap (λ (k : Measure). k.len) (span_from text x on) in
+      let ends = ap (λ (k : Extent). k.end) (scalar_record.entry xs ps e).span.0 in
       record {
         list = a.list ∙ ap is_some (sym are) ∙ measured_list text sound.utf8 x on flag value_sound.utf8 is_plain;
         end = λ h.
@@ -517,7 +512,7 @@ module _ (text events : List ℕ) (sound : AdmittedText text) (room most : ℕ) 
   unfolding scalar_kept event_node
   kept_is =
       ap₂ (λ (n : Mark) (v : List ℕ). scalar_kept text events most (scalar_at text awaited n v value_at) tag_at st) (mark_read events i m tag value stands) (value_found events i m tag value stands)
-      ∙ ap (λ (o : Option (List Piece)). keeping most node_here o st) (pieces_are text sound.utf8 awaited m value value_at)
+      ∙ ap (λ (o : Option (List Piece)). keeping most node_here o st) (pieces_are text awaited m value value_at)
 
   abbrev step_here : Next
   step_here = on_read text events room most (Ok (placed i (scalar_of m tag value))) st

@@ -35,7 +35,7 @@ use Rattle.event.specs.Encode.{encode_string, encode_tag, encode_rest, encode_bo
 use Rattle.event.specs.Read.{read_string, read_tag, read_start_tag, read_scalar, read_body, read_event}
 use Rattle.records.specs.Record.{absent, extent, no_tag, no_list, piece_list}
 use Rattle.records.specs.Parent.{holder, parented}
-use Rattle.spans.specs.Scalar.{step_past, scalar_start, span_measure, list_at, tag_info, resolved_by, scalar_over, event_node, mark}
+use Rattle.spans.specs.Scalar.{step_past, scalar_start, tag_info, resolved_by, scalar_over, event_node, mark}
 use Rattle.spans.specs.Collection.{closes, collection_end, collection_start, members, collection_over, collection_node}
 use Rattle.parser.specs.Machine.{Outcome, built, root_done, before_root, within_depth, within_room, completed, on_start, ended, keeping, scalar_kept, on_scalar, ending, run, run_all}
 use Rattle.parser.specs.Call.{building, one_scalar, scalar_call}
@@ -154,7 +154,7 @@ unfolding scalar_call one_scalar admission_of_both admission is_ascii is_utf8 al
     step_past scalar_start tag_info resolved_by scalar_over event_node closes collection_end collection_start members collection_over collection_node high_first
     number_at encode_string encode_tag encode_rest encode_body encode_event read_string read_tag read_start_tag read_scalar read_body read_event
     standard_tag_suffix resolve_scalar untagged core_schema table first_match accepts derivative nullable held in_range signed_value positional
-    digit_value byte_length chars_before with_word tokens tokens_before openings property span_of decide first_tag tag_before guess tag_span span_measure list_at
+    digit_value byte_length chars_before with_word tokens tokens_before openings property span_of decide first_tag tag_before guess tag_span
     is_boundary scalar_measure style_measure plain_measure plain_reach takes_run begins_with is_fold holds_newline after_run white_space_run is_white_space is_in
     white_space passed_together to_closing quoted_len quoted_measure block_measure lines is_blank trimmed_len ends_block later_reach block_reach block_len scalar_list
     list_from walk_start header_end before_newline at_empty_block_header pieces_if pieces_of joined step_pieces reading_of read_by step end_step equal_step

@@ -31,6 +31,7 @@ use Rattle.parser.specs.EventRun.{completed_by, reached}
 use Rattle.records.specs.Layout.{record_room, piece_room}
 use Rattle.parser.specs.Call as call
 use Rattle.parser.specs.Call.{record_of, building}
+use Rattle.records.specs.declared.record.Extent.{Extent}
 use Rattle.records.specs.declared.record.TagInfo.{TagInfo}
 use Rattle.records.specs.declared.record.Node.{Node}
 use Rattle.records.specs.declared.record.PieceList.{PieceList}
@@ -46,19 +47,25 @@ resolved_as (tagged handle suffix) value style = resolve_scalar value style (Som
 abbrev pub scalar_of : Mark → Tag → List ℕ → YamlEvent
 scalar_of m tag value = scalar m.index m.column m.style m.empty tag value
 
+-- e is the scalar's span: it starts at its marker, or past its colon, and is as long as its measure says; the start is a character of the text or its
+-- end (02, (g))
+abbrev pub SpanSays : List ℕ → Bool → Mark → List ℕ → Extent → Type 0
+SpanSays text awaited m value e =
+    (e
+    ≡ extent (start_at text awaited m value)
+    (start_at text awaited m value + scalar_len (drop (start_at text awaited m value) text) value m.style m.empty m.column))
+    × Boundary text e.start
+
 -- n tells whether the scalar's span was measured: document 02's sentence, from the start on
 abbrev pub FlagSays : List ℕ → Bool → Mark → List ℕ → ℕ → Type 0
 FlagSays text awaited m value n = (t : Bool) × (n ≡ truth t) × SaysMeasured (drop (start_at text awaited m value) text) value m.style t
 
--- the scalar starts at its marker, is as long as its measure says, and is of this kind; its value stands at `place` of the event bytes, and its
--- record tells whether its span was measured
+-- the scalar's record: it is of this kind, its value stands at `place` of the event bytes, and it tells where its span lies and whether that was
+-- measured
 pub record EntrySays (text : List ℕ) (awaited : Bool) (m : Mark) (value : List ℕ)
     (r : Resolved) (place : ℕ) (t : TagInfo) (x : Node) : Type 0 where
   pub kind : x.kind ≡ kind_number r
-  pub span :
-      x.extent
-      ≡ extent (start_at text awaited m value)
-      (start_at text awaited m value + scalar_len (drop (start_at text awaited m value) text) value m.style m.empty m.column)
+  pub span : SpanSays text awaited m value x.extent
   pub tag : x.tag ≡ t
   pub subtree : x.subtree ≡ 1
   pub payload : x.payload ≡ payload_of r place (length value)

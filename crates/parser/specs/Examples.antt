@@ -30,7 +30,7 @@ use Rattle.event.specs.Number.{number_at}
 use Rattle.event.specs.Read.{events_limit, read_string, read_tag, read_start_tag, read_scalar, read_body, read_event}
 use Rattle.records.specs.Record.{absent, extent, no_tag, no_list, piece_list, with_parent, alias_node}
 use Rattle.records.specs.Parent.{holder, parented}
-use Rattle.spans.specs.Scalar.{Mark, step_past, scalar_start, span_measure, list_at, tag_info, resolved_by, scalar_over, event_node, mark}
+use Rattle.spans.specs.Scalar.{Mark, step_past, scalar_start, tag_info, resolved_by, scalar_over, event_node, mark}
 use Rattle.spans.specs.Collection.{closes, collection_end, collection_start, members, collection_over, collection_node}
 use Rattle.parser.specs.Machine.{Outcome, built, refused, root_done, before_root, within_depth, within_room, completed, on_start, ended, on_alias, keeping, scalar_kept, on_scalar, ending, run, run_all}
 use Rattle.records.specs.Layout.{piece_room}
@@ -133,7 +133,7 @@ pub rows : Rows
 unfolding building parented holder run_all run ending root_done before_root within_depth within_room completed on_start ended on_alias keeping scalar_kept on_scalar step_past
     scalar_start tag_info resolved_by scalar_over event_node closes collection_end collection_start members collection_over collection_node admission is_ascii
     is_utf8 all_some byte_offset number_at read_string read_tag read_start_tag read_scalar read_body read_event resolve_scalar untagged core_schema table
-    first_match accepts derivative nullable held in_range signed_value positional digit_value span_measure list_at is_boundary scalar_measure style_measure plain_measure
+    first_match accepts derivative nullable held in_range signed_value positional digit_value is_boundary scalar_measure style_measure plain_measure
     plain_reach takes_run begins_with is_fold holds_newline after_run white_space_run is_white_space is_in white_space codes chars_after first_char char_of
     multi_byte encode encode_all passed_together to_closing quoted_len quoted_measure block_measure lines is_blank trimmed_len ends_block later_reach block_reach
     block_len scalar_list list_from walk_start header_end before_newline at_empty_block_header pieces_if pieces_of joined step_pieces reading_of read_by step
@@ -229,7 +229,7 @@ unfolding scalar_call one_scalar admission_of_both building parented holder run_
     on_alias keeping scalar_kept on_scalar step_past scalar_start tag_info resolved_by scalar_over event_node closes collection_end collection_start members
     collection_over collection_node admission is_ascii is_utf8 all_some byte_offset number_at read_string read_tag read_start_tag read_scalar read_body
     read_event resolve_scalar untagged core_schema table first_match accepts derivative nullable held in_range signed_value positional digit_value
-    span_measure list_at is_boundary scalar_measure style_measure plain_measure plain_reach takes_run begins_with is_fold holds_newline after_run white_space_run is_white_space
+    is_boundary scalar_measure style_measure plain_measure plain_reach takes_run begins_with is_fold holds_newline after_run white_space_run is_white_space
     is_in white_space codes chars_after first_char char_of multi_byte two_bytes encode encode_all passed_together to_closing quoted_len quoted_measure block_measure lines
     is_blank trimmed_len ends_block later_reach block_reach block_len scalar_list list_from walk_start header_end before_newline at_empty_block_header
     pieces_if pieces_of joined step_pieces reading_of read_by step end_step equal_step break_step opens_break break_pair same_bytes escapes_of

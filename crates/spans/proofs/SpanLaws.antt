@@ -1,5 +1,5 @@
 -- Where spans start and end: at boundaries, within the text. And a scalar's pieces are those of the walk from document 01's first byte.
-use Rattle.std.specs.Prelude.{◌≡◌, refl, Bool, true, false, ◌&&◌, not, cond, ℕ, ◌+◌, ◌-◌, ◌≤◌, ◌<◌, eqb, List, length, get_or, drop}
+use Rattle.std.specs.Prelude.{◌≡◌, refl, Bool, true, false, ◌&&◌, not, cond, ℕ, ◌+◌, ◌≤◌, ◌<◌, eqb, List, length, get_or, drop}
 use Rattle.std.specs.Prelude.{Option, None, Some, IfSome, is_some, unwrap_or}
 use Rattle.std.proofs.Common.{sym, ◌∙◌, subst, arith, lt-ltb, eqb-true, length-drop, length-take, drop-cons, get_or-drop}
 use Rattle.std.proofs.Math.Path.{ap}
@@ -8,19 +8,15 @@ use Rattle.std.proofs.Math.ListN.{get_or-eq_default}
 use Rattle.utf8.specs.Utf8.{Utf8}
 use Rattle.utf8.specs.Characters.{codes, first_char, char_of}
 use Rattle.utf8.specs.Class.{is_continuation}
-use Rattle.utf8.specs.Boundary.{Boundary, is_boundary}
-use Rattle.utf8.proofs.Utf8Laws.{char_at, boundary_splits, boundary_is}
+use Rattle.utf8.specs.Boundary.{Boundary}
+use Rattle.utf8.proofs.Utf8Laws.{char_at, boundary_splits}
 use Rattle.text.specs.Offset.{byte_offset}
 use Rattle.text.proofs.OffsetLaws.{offset_boundary}
 use Rattle.text.specs.Admission.{text_limit}
 use Rattle.text.specs.Admitted.{AdmittedText}
-use Rattle.schema.specs.Record.{truth}
-use Rattle.schema.specs.declared.plain.Resolved.{Resolved}
-use Rattle.measure.specs.Length.{assumed}
 use Rattle.measure.specs.Scalar.{plain, scalar_measure}
 use Rattle.measure.specs.Plain.{reaches, plain_reach}
 use Rattle.measure.proofs.MeasuredLaws.{measured_boundary, scalar_reaches}
-use Rattle.measure.specs.declared.length.Measure.{Measure}
 use Rattle.event.specs.Read.{events_limit, part_of}
 use Rattle.event.specs.Proved.{TextPart, TextParts}
 use Rattle.event.specs.declared.string.Part.{Part}
@@ -30,12 +26,12 @@ use Rattle.provenance.specs.Reading.{Piece}
 use Rattle.provenance.specs.Start.{list_from, scalar_list}
 use Rattle.provenance.specs.Alike.{reads_alike, past_span, pieces_end}
 use Rattle.provenance.proofs.Measured.{pieces_list, pieces_end_at}
-use Rattle.spans.specs.Scalar.{Mark, ScalarAt, step_past, colon, scalar_start, start_at, scalar_at, span_measure, span_len, list_at, walk_first}
-use Rattle.spans.specs.Scalar.{scalar_over, scalar_node, event_node}
+use Rattle.spans.specs.Scalar.{Mark, ScalarAt, step_past, colon, scalar_start, scalar_at, span_measure, span_len, list_at, walk_first}
+use Rattle.spans.specs.Scalar.{scalar_over, event_node}
+use Rattle.spans.specs.Start.{NoStartOutside}
 use Rattle.spans.specs.Collection.{is_mapping, open_brace, close_brace, close_bracket}
 use Rattle.spans.specs.Collection.{collection_start, collection_end, collection_over, collection_node}
 use Rattle.spans.specs.Fits.{TagFits}
-use Rattle.records.specs.declared.record.TagInfo.{TagInfo}
 use Rattle.spans.specs.declared.open.Collection.{Collection}
 use Rattle.spans.specs.declared.open.Collection.TheVariants.{Sequence, Mapping}
 use Rattle.spans.specs.declared.open.Open.{Open}
@@ -81,6 +77,9 @@ offset_start text u value style awaited i b = go (awaited && (eqb style plain &&
     go true = step_boundary text colon i u (omega arith) (omega arith) b
     go false = b
 
+pub no_start_outside : NoStartOutside
+no_start_outside text u awaited m value = offset_start text u value m.style awaited (byte_offset text m.index) (offset_boundary u m.index)
+
 pub collection_start_boundary : (text : List ℕ) (o : Open) → Boundary text o.start → IfSome o.first (Boundary text)
     → Boundary text (collection_start text o)
 unfolding collection_start
@@ -97,13 +96,8 @@ collection_start_boundary text o a b = go (is_mapping o.collection && not (eqb (
 -- ---- spans
 
 pub span_within : (text : List ℕ) (x : ScalarAt) → x.start ≤ length text → x.start + span_len text x ≤ length text
-unfolding span_measure scalar_measure
-span_within text x h = go (is_boundary text x.start)
-  where
-    go : (t : Bool)
-        → x.start + (cond t (scalar_measure (drop x.start text) x.value x.style x.empty_span x.column) (assumed 0)).len ≤ length text
-    go true = let l : length (drop x.start text) ≡ length text - x.start = length-drop x.start text in omega arith
-    go false = omega arith
+unfolding scalar_measure
+span_within text x h = let l = length-drop x.start text in omega arith
 
 pub end_within : (text : List ℕ) (collection : Collection) (i : ℕ) → i ≤ length text → collection_end text collection i ≤ length text
 unfolding collection_end
@@ -138,37 +132,13 @@ value_sound events v p few = record { within = part_few events v text_limit few;
 
 -- ---- the walk
 
--- from a boundary on, a scalar's list is that of its span
-pub list_from_lem : (text : List ℕ) (x : ScalarAt) → Boundary text x.start
-    → list_at text x ≡ scalar_list text x.start (span_len text x) x.value x.style x.column
-unfolding list_at
-list_from_lem text x on = rw (boundary_is on) refl
-
-pub span_from : (text : List ℕ) (x : ScalarAt) → Boundary text x.start
-    → span_measure text x ≡ scalar_measure (drop x.start text) x.value x.style x.empty_span x.column
-unfolding span_measure
-span_from text x on = rw (boundary_is on) refl
-
-module _ (text : List ℕ) (utf8 : Utf8 text) (awaited : Bool) (m : Mark) (value : List ℕ) where
-  pub start_boundary : Boundary text (start_at text awaited m value)
-  start_boundary = offset_start text utf8 value m.style awaited (byte_offset text m.index) (offset_boundary utf8 m.index)
-
-  -- the pieces are those of the walk from document 01's first byte on
-  pub pieces_are : (place : ℕ)
-      → list_at text (scalar_at text awaited m value place) ≡ list_from (rules_of m.style m.column) text (walk_first text awaited m value) value
-  unfolding scalar_list walk_first
-  pieces_are place =
-      let x = scalar_at text awaited m value place in
-      list_from_lem text x start_boundary
-      ∙ ap (λ (k : Measure). scalar_list text x.start k.len x.value x.style x.column) (span_from text x start_boundary)
+-- the pieces are those of the walk from document 01's first byte on
+pub pieces_are : (text : List ℕ) (awaited : Bool) (m : Mark) (value : List ℕ) (place : ℕ)
+    → list_at text (scalar_at text awaited m value place) ≡ list_from (rules_of m.style m.column) text (walk_first text awaited m value) value
+unfolding scalar_list walk_first
+pieces_are text awaited m value place = refl
 
 -- ---- measured (02, (b), (c))
-
--- whether a scalar's span was measured, as its record says, is what its measure says from its start on
-pub node_measured : (text : List ℕ) (x : ScalarAt) (tag : TagInfo) (r : Resolved) → Boundary text x.start
-    → (scalar_node text x tag r).measured ≡ truth (scalar_measure (drop x.start text) x.value x.style x.empty_span x.column).measured
-unfolding scalar_over
-node_measured text x tag r on = ap (λ (k : Measure). truth k.measured) (span_from text x on)
 
 -- a boundary of what is left of a text is one of the text
 boundary_later : {text : List ℕ} {i n : ℕ} → Boundary text i → Boundary (drop i text) n → Boundary text (i + n)
@@ -182,11 +152,7 @@ module _ (text : List ℕ) (utf8 : Utf8 text) (x : ScalarAt) (on : Boundary text
     (measured : (span_measure text x).measured ≡ true) where
   -- what is measured ends at a boundary of the text
   pub measured_ends : Boundary text (x.start + span_len text x)
-  measured_ends =
-      let is = span_from text x on in
-      let k = sym (ap (λ (k : Measure). k.measured) is) ∙ measured in
-      let b = measured_boundary (boundary_splits utf8 on).back x.value x.style x.empty_span x.column k in
-      boundary_later on (subst (λ (k : Measure). Boundary (drop x.start text) k.len) (sym is) b)
+  measured_ends = boundary_later on (measured_boundary (boundary_splits utf8 on).back x.value x.style x.empty_span x.column measured)
 
   module _ (value_utf8 : Utf8 x.value) (is_plain : x.style ≡ plain) where
     abbrev rest : List ℕ
@@ -194,13 +160,10 @@ module _ (text : List ℕ) (utf8 : Utf8 text) (x : ScalarAt) (on : Boundary text
 
     reaches_span : plain_reach (codes x.value) (codes rest) ≡ reaches (span_len text x)
     reaches_span =
-        let is : span_measure text x ≡ scalar_measure rest x.value plain x.empty_span x.column =
-        span_from text x on ∙ ap (λ (s : ℕ). scalar_measure rest x.value s x.empty_span x.column) is_plain in
-        scalar_reaches (boundary_splits utf8 on).back x.value x.empty_span x.column (sym (ap (λ (k : Measure). k.measured) is) ∙ measured)
-        ∙ ap (λ (k : Measure). reaches k.len) (sym is)
+        rw is_plain (scalar_reaches (boundary_splits utf8 on).back x.value x.empty_span x.column (rw is_plain at measured))
 
     list_is : list_at text x ≡ scalar_list text x.start (span_len text x) x.value plain x.column
-    list_is = list_from_lem text x on ∙ ap (λ (s : ℕ). scalar_list text x.start (span_len text x) x.value s x.column) is_plain
+    list_is = rw is_plain refl
 
     -- a plain scalar that is measured has a list just if its walk goes along with its measure
     pub measured_list : is_some (list_at text x) ≡ reads_alike (codes x.value) (codes rest)

@@ -1,5 +1,5 @@
 -- A scalar by any number for its style: a number that no style has goes as the style by which `style_of` takes it.
-use Rattle.std.specs.Prelude.{◌≡◌, refl, ℕ, Bool, cond, List, drop, length, Option, None}
+use Rattle.std.specs.Prelude.{◌≡◌, refl, ℕ, Bool, List, drop, length, Option}
 use Rattle.std.proofs.Common.{ap, ◌∙◌, arith}
 use Rattle.std.proofs.lemmas.Bool.{ne_eqb}
 use Rattle.style.specs.Style.{style_number, style_of}
@@ -11,14 +11,13 @@ use Rattle.provenance.specs.NumberLaws as provenance
 use Rattle.provenance.specs.Start.{scalar_list}
 use Rattle.provenance.specs.Reading.{Piece}
 use Rattle.measure.specs.declared.length.Measure.{Measure}
-use Rattle.utf8.specs.Boundary.{is_boundary}
 use Rattle.records.specs.declared.record.TagInfo.{TagInfo}
 use Rattle.event.specs.declared.tag.YamlTag.{YamlTag}
 use Rattle.records.specs.declared.record.Node.{Node}
 use Rattle.provenance.specs.Layout.{answer_of}
 use Rattle.provenance.specs.declared.walk.Walked.{Walked}
 use Rattle.spans.specs.declared.scalar.ScalarEntry.{ScalarEntry}
-use Rattle.spans.specs.Scalar.{ScalarAt, scalar_start, span_measure, list_at, scalar_over, scalar_node, resolved_by}
+use Rattle.spans.specs.Scalar.{ScalarAt, scalar_start, span_measure, span_len, list_at, scalar_over, scalar_node, resolved_by}
 use Rattle.spans.specs.Fits.{scalar_entry}
 
 -- the scalar with its style's number in the place of any
@@ -48,8 +47,7 @@ any_number_resolves events value n tag = schema.any_number value n _
 
 -- how long it is
 pub any_number_spans : (text : List ℕ) (x : ScalarAt) → span_measure text x ≡ span_measure text (as_read x)
-unfolding span_measure
-any_number_spans text x = rw (measure.any_number (drop x.start text) x.value x.style x.empty_span x.column) refl
+any_number_spans text x = measure.any_number (drop x.start text) x.value x.style x.empty_span x.column
 
 listed : (text : List ℕ) (start len : ℕ) (value : List ℕ) (n column : ℕ)
     → scalar_list text start len value n column ≡ scalar_list text start len value (style_number (style_of n)) column
@@ -59,11 +57,9 @@ listed text start len value n column =
 
 -- its pieces
 pub any_number_lists : (text : List ℕ) (x : ScalarAt) → list_at text x ≡ list_at text (as_read x)
-unfolding list_at
 any_number_lists text x =
-    ap (λ (m : Measure). cond (is_boundary text x.start) (scalar_list text x.start m.len x.value x.style x.column) None) (any_number_spans text x)
-    ∙ ap (λ (l : Option (List Piece)). cond (is_boundary text x.start) l None)
-    (listed text x.start (span_measure text (as_read x)).len x.value x.style x.column)
+    ap (λ (m : Measure). scalar_list text x.start m.len x.value x.style x.column) (any_number_spans text x)
+    ∙ listed text x.start (span_len text (as_read x)) x.value x.style x.column
 
 abbrev entry : Node → Walked → ScalarEntry
 entry node walked = record { node = node; walked = walked }

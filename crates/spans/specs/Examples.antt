@@ -77,6 +77,10 @@ pub record Starts : Type 0 where
   pub comma : scalar_start (bytes ",") 0 [] plain true ≡ 0
   -- `é: a`: index 3 is byte 4
   pub marker : start_at (0xc3 ∷ 0xa9 ∷ bytes ": a") false (mark 3 3 plain false) (bytes "a") ≡ 4
+  -- an awaited empty value on the last colon starts at the text's end, and so does one past the text; on a character of two bytes it stays
+  pub end : start_at (bytes "a:") true (mark 1 1 plain false) [] ≡ 2
+  pub past : start_at (bytes "a:") true (mark 9 9 plain false) [] ≡ 2
+  pub wide : start_at (0x61 ∷ 0xc3 ∷ 0xa9 ∷ []) true (mark 1 1 plain false) [] ≡ 1
   -- a tag that is found, and one that is guessed (K12)
   pub found : tag_info (bytes "[!tag a]") 6 (Some (record { place = 27; len = 3 })) ≡ record { start = 1; end = 5; suffix = 27; len = 3 }
   pub guessed : tag_info (bytes "[a,!t b]") 6 (Some (record { place = 42; len = 1 })) ≡ record { start = 6; end = 8; suffix = 42; len = 1 }
@@ -85,4 +89,4 @@ pub starts : Starts
 unfolding scalar_start step_past tag_info byte_offset codes chars_after first_char char_of multi_byte two_bytes encode encode_all
     byte_length chars_before with_word tokens tokens_before openings property span_of decide first_tag tag_before guess tag_span
     is_white_space is_in white_space
-starts = record { value = refl; key = refl; quoted = refl; comma = refl; marker = refl; found = refl; guessed = refl }
+starts = record { value = refl; key = refl; quoted = refl; comma = refl; marker = refl; end = refl; past = refl; wide = refl; found = refl; guessed = refl }

@@ -5,7 +5,9 @@
 pub mod Scalar
 -- open collections, and the record of one that ends
 pub mod Collection
--- Statements: worked cases. Proved; nothing here is to be believed.
+-- Statements: theorems that a caller may use, and worked cases. Proved; nothing here is to be believed.
+-- no scalar starts outside its text
+pub mod Start
 -- worked scalars, tags and collections
 pub mod Examples
 -- Arguments: what inner calls ask and promise; cited by their contracts only.

@@ -1,13 +1,11 @@
 -- A scalar: where it starts (S1), how far it reaches, its tag, its pieces, and its record without them (E2). Measures, walk, resolution and
 -- tag search are cited from the layers below.
 use Rattle.std.specs.Prelude.{ℕ, ◌+◌, Bool, ◌&&◌, cond, List, eqb, length, get_or, drop, Option, Some, None, option_map}
-use Rattle.utf8.specs.Boundary.{is_boundary}
 use Rattle.style.specs.Style.{style_number}
 use Rattle.text.specs.Offset.{byte_offset}
 use Rattle.schema.specs.Tag.{resolve_scalar}
 use Rattle.schema.specs.Record.{truth, kind_number, payload_of}
 use Rattle.schema.specs.declared.plain.Resolved.{Resolved}
-use Rattle.measure.specs.Length.{assumed}
 use Rattle.measure.specs.Scalar.{plain, scalar_measure, scalar_len}
 use Rattle.measure.specs.declared.length.Measure.{Measure}
 use Rattle.tag.specs.Tag.{tag_span}
@@ -74,20 +72,18 @@ start_at text awaited m value = scalar_start text (byte_offset text m.index) val
 abbrev pub scalar_at : List ℕ → Bool → Mark → List ℕ → ℕ → ScalarAt
 scalar_at text awaited m value place = scalar_from (start_at text awaited m value) m value place
 
--- ---- span and pieces: no length and no list where the start is past the text or inside a character (S1)
+-- ---- span and pieces
 
 -- its span: how long it is, and whether that was measured (02, (b))
-unfoldable pub span_measure : List ℕ → ScalarAt → Measure
-span_measure text x =
-    cond (is_boundary text x.start) (scalar_measure (drop x.start text) x.value x.style x.empty_span x.column) (assumed 0)
+abbrev pub span_measure : List ℕ → ScalarAt → Measure
+span_measure text x = scalar_measure (drop x.start text) x.value x.style x.empty_span x.column
 
 abbrev pub span_len : List ℕ → ScalarAt → ℕ
 span_len text x = (span_measure text x).len
 
 -- its pieces, if its walk gives a list
-unfoldable pub list_at : List ℕ → ScalarAt → Option (List Piece)
-list_at text x =
-    cond (is_boundary text x.start) (scalar_list text x.start (span_len text x) x.value x.style x.column) None
+abbrev pub list_at : List ℕ → ScalarAt → Option (List Piece)
+list_at text x = scalar_list text x.start (span_len text x) x.value x.style x.column
 
 -- the first byte of its walk, from the marker index on (P1, S1, S14); the span decides only where a block header has no newline
 unfoldable pub walk_first : List ℕ → Bool → Mark → List ℕ → ℕ

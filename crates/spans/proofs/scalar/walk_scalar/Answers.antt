@@ -9,7 +9,7 @@ use Rattle.records.specs.declared.record.TagInfo.{TagInfo}
 use Rattle.records.specs.declared.record.Node.{Node}
 use Rattle.spans.specs.Scalar.{mark_of, ScalarAt, scalar_from, span_measure, scalar_over, list_at}
 use Rattle.spans.specs.Fits.{scalar_entry}
-use Rattle.spans.proofs.SpanLaws.{span_within, span_from, list_from_lem}
+use Rattle.spans.proofs.SpanLaws.{span_within}
 use Rattle.spans.proofs.scalar.walk_scalar.Goals as goal
 use Rattle.spans.proofs.scalar.walk_scalar.Goals.{After-scalar_len-span}
 
@@ -22,9 +22,7 @@ module _ (c : After-scalar_len-span) where
   scalar_now = let a = c.args in scalar_from a.start.at (mark_of a.m) a.value.bytes.now a.place
 
   measure_is : c.scalar_len-span.result ≡ span_measure text_now scalar_now
-  measure_is =
-      rw (c.rest_from-rest.ensures, c.utf8-2.ensures, c.utf8-2-2.ensures) at c.scalar_len-span.ensures
-      ∙ sym (span_from text_now scalar_now c.args.start.boundary)
+  measure_is = rw (c.rest_from-rest.ensures, c.utf8-2.ensures, c.utf8-2-2.ensures) at c.scalar_len-span.ensures
 
   ends_within : scalar_now.start + c.scalar_len-span.result.len ≤ length text_now
   ends_within =
@@ -34,10 +32,7 @@ module _ (c : After-scalar_len-span) where
   list_is :
       list_at text_now scalar_now
       ≡ scalar_list text_now scalar_now.start c.scalar_len-span.result.len scalar_now.value scalar_now.style scalar_now.column
-  list_is =
-      list_from_lem text_now scalar_now c.args.start.boundary
-      ∙ ap (λ (k : Measure). scalar_list text_now scalar_now.start k.len scalar_now.value scalar_now.style scalar_now.column)
-      (sym measure_is)
+  list_is = ap (λ (k : Measure). scalar_list text_now scalar_now.start k.len scalar_now.value scalar_now.style scalar_now.column) (sym measure_is)
 
 pub scalar_node-node-requires : goal.scalar_node-node-requires
 scalar_node-node-requires c =
