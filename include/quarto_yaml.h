@@ -44,8 +44,9 @@
  *     12     the record of its parent, always a higher number than its own; QUARTO_YAML_NONE for the root and in a call on one scalar
  *     13     1 if its span was measured, 0 if it was assumed; 1 for every collection and alias
  *
- * A scalar's span is measured if it was found in the text; a block's always is. That of a plain scalar whose value cannot be followed
- * through the text, and of a quoted one without both its marks, is assumed: as long as the value, cut to the text left.
+ * A scalar's span starts at a character of the text or at its end, whatever its event says: an index past the text stands for its end.
+ * It is measured if it was found in the text; a block's always is. That of a plain scalar whose value cannot be followed through the
+ * text, and of a quoted one without both its marks, is assumed: as long as the value, cut to the text left.
  *
  * The children of a hash are its keys and values in turn; every pair is kept, equal keys too. An alias is a null of span length 0. A
  * scalar whose pieces cannot be found has no list. One with an empty value has a list of no pieces, if its walk can start: a quoted

@@ -306,6 +306,30 @@ static void documents(void) {
     CHECK(told(quarto_yaml_build(NULL, 0, BYTES(ALIAS("\0")), NULL, 0, NULL, 0), QUARTO_YAML_NO_RECORD_ROOM, 0, 0));
 }
 
+/* ---- no scalar starts past the text or inside a character */
+
+#define SCALAR0(at) "\5\0\13\0\0\0" at "\0\0\0\0\0\0\0" /* plain, no tag, no value */
+
+/* The value of `{a: }` without a text of its own, its marker at `at`: where it starts. */
+#define VALUE_STARTS(text, at, start)                                                                                                  \
+    (told(build(BYTES(text), BYTES(MAP_START("\0") SCALAR1("\0", "a") SCALAR0(at) MAP_END("\2")), 42, 4), 0, 3, 1)                      \
+     && quarto_yaml_source_info(records.numbers + GUARD, 42, 1).start == (start))
+
+static void starts(void) {
+    /* each index of `é: a`, its end, past it, and far off: the offset of that character, and from the end on the text's length */
+    static const uint32_t offsets[] = {0, 2, 3, 4, 5, 5, 5};
+    for (uint32_t i = 0; i < 7; i++) {
+        uint32_t index = i < 6 ? i : NONE;
+        CHECK(scalar(BYTES("\xC3\xA9: a"), index, 0, QUARTO_YAML_STYLE_PLAIN, false, BYTES(""), 0, 1, 0));
+        CHECK(scalar_answer.record[QUARTO_YAML_AT_START] == offsets[i] && scalar_answer.record[QUARTO_YAML_AT_END] == offsets[i]);
+        CHECK(scalar_answer.record[QUARTO_YAML_AT_FIRST_PIECE] == 0);
+    }
+    /* a missing value steps past the colon it stands on: to a character, or to the text's end, and never from there */
+    CHECK(VALUE_STARTS("a: ", "\1", 2) && VALUE_STARTS("a:\xC3\xA9", "\1", 2) && VALUE_STARTS("\xC3\xA9:", "\1", 3));
+    CHECK(VALUE_STARTS("a:", "\1", 2) && VALUE_STARTS("a:", "\2", 2) && VALUE_STARTS("a:", "\11", 2));
+    CHECK(VALUE_STARTS("a\xC3\xA9", "\1", 1) && VALUE_STARTS("a\0", "\1", 1) && VALUE_STARTS("a", "\1", 1) && VALUE_STARTS("", "\1", 0));
+}
+
 /* ---- up from a record, and whether its span was measured */
 
 /* In the records that were built: every record but the last is a child of the one that it calls its parent, and of no other. */
@@ -466,6 +490,7 @@ int main(void) {
     measured_and_assumed();
     documents();
     wrong_tags();
+    starts();
     parents();
     errors();
     accessors();

@@ -71,6 +71,34 @@ fn escapes_that_the_grammar_does_not_have() {
     assert_eq!(pieces.map(|pieces| pieces.len()), Some(1));
 }
 
+/// Where a value of `a` starts that is the only one of a mapping.
+fn value_start(text: &str, value: Event<'_>) -> u32 {
+    let events = [Event::MappingStart { index: 0, tag: None }, plain("a"), value, Event::MappingEnd { index: 0 }];
+    let bytes = encode(&events).unwrap();
+    build(text.as_bytes(), &bytes).unwrap().root().get("a").unwrap().span().start
+}
+
+/// Never past the text and never inside a character, wherever the marker stands; a missing value steps past its colon.
+#[test]
+fn every_scalar_starts_at_a_character() {
+    for text in ["", "a", "a:", ":é", "é::", "€:\n", "😀 :", ":\0:", "::€"] {
+        let characters: Vec<usize> = text.char_indices().map(|(byte, _)| byte).collect();
+        for index in (0..characters.len() + 2).chain([u32::MAX as usize]) {
+            let start = characters.get(index).copied().unwrap_or(text.len());
+            for style in [Style::Plain, Style::SingleQuoted, Style::DoubleQuoted, Style::Literal, Style::Folded] {
+                for value in ["", "a"] {
+                    let steps = style == Style::Plain && value.is_empty() && text[start..].starts_with(':');
+                    let alone = read(text, index as u32, 0, style, value).0.start;
+                    let awaited = value_start(text, event(index as u32, style, value));
+                    let expected = [start, start + usize::from(steps)].map(|byte| byte as u32);
+                    assert_eq!([alone, awaited], expected, "{text:?} {index} {style:?} {value:?}");
+                    assert!(text.is_char_boundary(awaited as usize));
+                }
+            }
+        }
+    }
+}
+
 #[test]
 fn the_record_of_one_scalar() {
     let of = |value: &'static str| {
