@@ -69,7 +69,7 @@ use Rattle.records.specs.declared.record.PieceList.{PieceList}
 use Rattle.spans.specs.declared.open.Collection.{Collection}
 use Rattle.spans.specs.declared.open.Collection.TheVariants.{Sequence, Mapping}
 use Rattle.spans.specs.declared.open.Open.{Open}
-use Rattle.spans.proofs.SpanLaws.{no_start_outside, pieces_are, measured_list, measured_pieces_end}
+use Rattle.spans.proofs.SpanLaws.{no_start_outside, node_measured, pieces_are, measured_list, measured_pieces_end}
 use Rattle.parser.proofs.Pieces.{filled_none}
 use Rattle.parser.proofs.EventRun.{go_is, stop_is, refused_not_built, in_order_lem, events_as_list, over_through, passing, StoppedAt, stopped_at}
 use Rattle.parser.proofs.Growths.{gate, past_root, past_room, Grown, reached_grown, run_grown}
@@ -89,15 +89,17 @@ module _ (text : List ℕ) (sound : AdmittedText text) (awaited : Bool) (m : Mar
       → EntrySays text awaited m value r place t x
   unfolding scalar_over
   entry_says place t r x e =
+      let is = node_measured text (scalar_at text awaited m value place) t r in
+      let span = ap (λ (y : Node). y.extent) e ∙ is.0 in
       record {
         kind = ap (λ (y : Node). y.kind) e;
-        span = (ap (λ (y : Node). y.extent) e, rw (ap (λ (y : Node). y.extent) e) (no_start_outside text sound.utf8 awaited m value));
+        span = (span, rw span (no_start_outside text sound.utf8 awaited m value));
         tag = ap (λ (y : Node). y.tag) e;
         subtree = ap (λ (y : Node). y.subtree) e;
         payload = ap (λ (y : Node). y.payload) e;
         measured = (
           (scalar_measure (drop (start_at text awaited m value) text) value m.style m.empty m.column).measured,
-          ap (λ (y : Node). y.measured) e,
+          ap (λ (y : Node). y.measured) e ∙ is.1,
           scalar_says (drop (start_at text awaited m value) text) value m.style m.empty m.column,
         );
       }

@@ -14,7 +14,9 @@ use Rattle.text.specs.Offset.{byte_offset}
 use Rattle.text.proofs.OffsetLaws.{offset_boundary}
 use Rattle.text.specs.Admission.{text_limit}
 use Rattle.text.specs.Admitted.{AdmittedText}
-use Rattle.measure.specs.Scalar.{plain, scalar_measure}
+use Rattle.schema.specs.Record.{truth}
+use Rattle.schema.specs.declared.plain.Resolved.{Resolved}
+use Rattle.measure.specs.Scalar.{plain, scalar_measure, scalar_len}
 use Rattle.measure.specs.Plain.{reaches, plain_reach}
 use Rattle.measure.proofs.MeasuredLaws.{measured_boundary, scalar_reaches}
 use Rattle.event.specs.Read.{events_limit, part_of}
@@ -27,11 +29,13 @@ use Rattle.provenance.specs.Start.{list_from, scalar_list}
 use Rattle.provenance.specs.Alike.{reads_alike, past_span, pieces_end}
 use Rattle.provenance.proofs.Measured.{pieces_list, pieces_end_at}
 use Rattle.spans.specs.Scalar.{Mark, ScalarAt, step_past, colon, scalar_start, scalar_at, span_measure, span_len, list_at, walk_first}
-use Rattle.spans.specs.Scalar.{scalar_over, event_node}
+use Rattle.spans.specs.Scalar.{scalar_over, scalar_node, event_node}
 use Rattle.spans.specs.Start.{NoStartOutside}
 use Rattle.spans.specs.Collection.{is_mapping, open_brace, close_brace, close_bracket}
 use Rattle.spans.specs.Collection.{collection_start, collection_end, collection_over, collection_node}
 use Rattle.spans.specs.Fits.{TagFits}
+use Rattle.records.specs.Record.{extent}
+use Rattle.records.specs.declared.record.TagInfo.{TagInfo}
 use Rattle.spans.specs.declared.open.Collection.{Collection}
 use Rattle.spans.specs.declared.open.Collection.TheVariants.{Sequence, Mapping}
 use Rattle.spans.specs.declared.open.Open.{Open}
@@ -139,6 +143,13 @@ unfolding scalar_list walk_first
 pieces_are text awaited m value place = refl
 
 -- ---- measured (02, (b), (c))
+
+-- a scalar's span, and whether it was measured, as its record says, are what its measure says from its start on
+pub node_measured : (text : List ℕ) (x : ScalarAt) (tag : TagInfo) (r : Resolved)
+    → ((scalar_node text x tag r).extent ≡ extent x.start (x.start + scalar_len (drop x.start text) x.value x.style x.empty_span x.column))
+    × ((scalar_node text x tag r).measured ≡ truth (scalar_measure (drop x.start text) x.value x.style x.empty_span x.column).measured)
+unfolding scalar_over
+node_measured text x tag r = (refl, refl)
 
 -- a boundary of what is left of a text is one of the text
 boundary_later : {text : List ℕ} {i n : ℕ} → Boundary text i → Boundary (drop i text) n → Boundary text (i + n)
