@@ -15,6 +15,13 @@ pub struct Event {
     pub body: Body,
 }
 
+impl Event {
+    /// Whether a node is complete with it: all but the starts of collections.
+    pub fn completes(&self) -> bool {
+        !matches!(self.body, Body::Start(..))
+    }
+}
+
 pub enum Body {
     Start(Collection, Option<Tag>),
     End(Collection),
@@ -59,6 +66,17 @@ pub fn event(bytes: &[u8], place: usize) -> Option<(Event, usize)> {
     };
     let complete = fields.left.is_empty();
     complete.then_some((Event { place, index, body }, header.left.start))
+}
+
+/// The events before the first that row 3 refuses, or all.
+pub fn events(bytes: &[u8]) -> Vec<Event> {
+    let mut events = Vec::new();
+    let mut place = 0;
+    while let Some((event, next)) = event(bytes, place) {
+        place = next;
+        events.push(event);
+    }
+    events
 }
 
 /// The style of a number, or none where row 3 refuses.

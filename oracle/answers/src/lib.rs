@@ -1,6 +1,6 @@
 //! The original's answers in document 01's numbers: the table's rows, written here a second time and as the document
 //! words them, around the unchanged Rust. The last two numbers of a record, which the original does not have, are those of
-//! second implementations.
+//! second implementations. A third one gives where scalars start, and the original's starts are held to it.
 
 pub mod accessors;
 mod admit;
@@ -14,6 +14,7 @@ mod original;
 pub mod parent;
 pub mod record;
 mod scan_errors;
+pub mod start;
 mod tree;
 
 pub use damaged::damaged;
@@ -64,8 +65,10 @@ pub fn answer(case: &Case) -> Answer {
         return refused(refusal.row, refusal.place);
     }
     let places = parent::places(&admitted.events);
-    let flags = measured::flags(text, &case.events, &admitted.events, &places);
-    assert_eq!([places.len(), flags.len()], [originals.len(); 2], "a place and a flag for each node");
+    let starts = start::starts(text, &admitted.events, &places);
+    let flags = measured::flags(text, &case.events, &admitted.events, &starts);
+    assert_eq!([places.len(), starts.len(), flags.len()], [originals.len(); 3], "one of each for each node");
+    assert_eq!(start::differing(&starts, &originals), None, "a scalar that the original starts elsewhere, in {case:?}");
     let last_two = places.iter().zip(flags);
     let records: Vec<Record> = originals
         .into_iter()

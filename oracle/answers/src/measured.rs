@@ -3,36 +3,26 @@
 //! from the words of documents 01 (reading rules, white space) and 02 alone, over characters, and apart from the original's measures
 //! and from the port's.
 
-use crate::decode::{Body, Event, Scalar};
-use crate::parent::Place;
+use crate::decode::{Body, Event};
+use crate::start::{self, Start};
 use saphyr_parser::ScalarStyle;
 
-/// Whether the span of the scalar at a marker's index is measured, in a call on one scalar: nothing awaits it.
+/// Whether the span of the scalar at a marker's index is measured, in a call on one scalar.
 pub fn is_measured(text: &str, index: usize, style: ScalarStyle, value: &str) -> bool {
-    is_found(from_index(text, index), style, value)
+    is_found(&text[start::of_one(text, index)..], style, value)
 }
 
 /// The fourteenth number of each node that admitted events complete, in the order of their records: scalars as they are measured,
 /// collections and aliases yes (document 02 (c)).
-pub fn flags(text: &str, bytes: &[u8], events: &[Event], places: &[Place]) -> Vec<bool> {
-    let starts: Vec<usize> = text.char_indices().map(|(start, _)| start).collect();
-    let completing = events.iter().filter(|event| !matches!(event.body, Body::Start(..)));
-    let flag = |(event, place): (&Event, &Place)| match &event.body {
-        Body::Scalar(scalar) => {
-            let offset = starts.get(event.index as usize).copied().unwrap_or(text.len());
+pub fn flags(text: &str, bytes: &[u8], events: &[Event], starts: &[Option<Start>]) -> Vec<bool> {
+    let flag = |(event, start): (&Event, &Option<Start>)| match (&event.body, start) {
+        (Body::Scalar(scalar), Some(start)) => {
             let value = str::from_utf8(&bytes[scalar.value.clone()]).expect("the reader tests for UTF-8");
-            is_found(&text[start(text, offset, scalar, place)..], scalar.style, value)
+            is_found(&text[start.at.offset..], scalar.style, value)
         }
         _ => true,
     };
-    completing.zip(places).map(flag).collect()
-}
-
-/// Where a document's scalar starts: at the offset of its index, or past the colon there, if it is plain, empty and a mapping's
-/// value. (No flag hangs on that: an empty plain value is matched at any place.)
-fn start(text: &str, offset: usize, scalar: &Scalar, place: &Place) -> usize {
-    let steps = place.awaited && scalar.style == ScalarStyle::Plain && scalar.value.is_empty();
-    if steps && text[offset..].starts_with(':') { offset + 1 } else { offset }
+    events.iter().filter(|event| event.completes()).zip(starts).map(flag).collect()
 }
 
 /// Whether a scalar is found at the beginning of the text that is left.
@@ -48,7 +38,7 @@ fn is_found(rest: &str, style: ScalarStyle, value: &str) -> bool {
 /// The bytes of a plain or quoted span, by the same reading: those found, or the value's, cut to the text left. A block has a
 /// rule of its own, which says nothing about the flag. The original has this number too, so that the two can be held together.
 pub fn length(text: &str, index: usize, style: ScalarStyle, value: &str) -> Option<usize> {
-    let rest = from_index(text, index);
+    let rest = &text[start::of_one(text, index)..];
     let found = match style {
         ScalarStyle::Plain => plain(rest, value),
         ScalarStyle::SingleQuoted => single_quoted(rest),
@@ -56,11 +46,6 @@ pub fn length(text: &str, index: usize, style: ScalarStyle, value: &str) -> Opti
         ScalarStyle::Literal | ScalarStyle::Folded => return None,
     };
     Some(found.unwrap_or(value.len()).min(rest.len()))
-}
-
-/// The text from the character of an index on; nothing past the end.
-fn from_index(text: &str, index: usize) -> &str {
-    text.char_indices().nth(index).map_or("", |(start, _)| &text[start..])
 }
 
 /// The end of the last equal character, if the whole value is matched. Its characters are matched in turn: a blank or newline
@@ -133,7 +118,6 @@ mod tests {
     use crate::{admit, parent};
     use ScalarStyle::{DoubleQuoted, Folded, Literal, Plain, SingleQuoted};
     use framing::event::encode;
-    use std::ops::Range;
 
     fn plain_at(index: usize, text: &str, value: &str) -> bool {
         is_measured(text, index, Plain, value)
@@ -298,7 +282,8 @@ mod tests {
         let bytes = encode(events);
         let admitted = admit::admit(&bytes, usize::MAX);
         assert!(admitted.refusal.is_none());
-        flags(text, &bytes, &admitted.events, &parent::places(&admitted.events))
+        let starts = start::starts(text, &admitted.events, &parent::places(&admitted.events));
+        flags(text, &bytes, &admitted.events, &starts)
     }
 
     #[test]
@@ -339,17 +324,9 @@ mod tests {
         })
     }
 
+    /// The start of a value on its colon is the one behind it.
     #[test]
-    fn awaited_values_step_past_a_colon() {
-        let scalar = |style, value: Range<usize>| Scalar { column: 0, style, empty_span: false, tag: None, value };
-        let place = |awaited| Place { parent: 2, awaited };
-        let empty = scalar(Plain, 5..5);
-        assert_eq!(start("a: b", 1, &empty, &place(true)), 2);
-        assert_eq!(start("a: b", 1, &empty, &place(false)), 1);
-        assert_eq!(start("a: b", 2, &empty, &place(true)), 2);
-        assert_eq!(start("a:", 2, &empty, &place(true)), 2);
-        assert_eq!(start("a: b", 1, &scalar(Plain, 5..6), &place(true)), 1);
-        assert_eq!(start("a: b", 1, &scalar(DoubleQuoted, 5..5), &place(true)), 1);
+    fn flags_of_missing_values() {
         use framing::event::Event::{MappingEnd, MappingStart};
         for (index, style, flag) in
             [(1, 0, true), (2, 0, true), (9, 0, true), (1, 1, false), (1, 2, false), (1, 3, true)]

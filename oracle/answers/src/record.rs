@@ -10,7 +10,8 @@ use yaml_rust2::Yaml;
 const NONE: u32 = u32::MAX;
 
 /// How many numbers of a record the original has. After them stand two that come from a second implementation.
-const ORIGINAL_NUMBERS: usize = 12;
+pub const ORIGINAL_NUMBERS: usize = 12;
+pub const START: usize = 1;
 pub const PARENT: usize = 12;
 pub const MEASURED: usize = 13;
 

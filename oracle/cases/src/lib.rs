@@ -19,6 +19,7 @@ mod scan_errors;
 mod schema;
 pub mod script;
 mod source;
+mod starts;
 mod stretches;
 mod tags;
 mod trees;
@@ -31,7 +32,7 @@ use run::Run;
 pub type Family = fn(&mut Run);
 
 /// The families that `build` answers, by their names.
-pub const FAMILIES: [(&str, Family); 10] = [
+pub const FAMILIES: [(&str, Family); 11] = [
     ("offsets", offsets::write),
     ("schema", schema::write),
     ("measures", measures::write),
@@ -42,6 +43,7 @@ pub const FAMILIES: [(&str, Family); 10] = [
     ("events", events::write),
     ("trees", trees::write),
     ("parents", parents::write),
+    ("starts", starts::write),
 ];
 
 /// Those that the accessors and `scan_error` answer.
@@ -49,7 +51,7 @@ pub const ACCESSOR_FAMILIES: [(&str, Family); 3] =
     [("nodes", nodes::write), ("damaged", damaged::write), ("scan_errors", scan_errors::write)];
 
 /// Puts the next random cases of a family.
-pub const RANDOM: [(&str, Family); 10] = [
+pub const RANDOM: [(&str, Family); 11] = [
     ("offsets", offsets::put_random),
     ("schema", schema::put_random),
     ("measures", measures::put_random),
@@ -60,6 +62,7 @@ pub const RANDOM: [(&str, Family); 10] = [
     ("tags", tags::put_random),
     ("trees", trees::put_random),
     ("parents", parents::put_random),
+    ("starts", starts::put_random),
 ];
 
 /// Sizes at the limits.

@@ -100,10 +100,10 @@ pub fn put_random(run: &mut Run) {
     run.put(&case);
 }
 
-/// White space of all kinds between letters, some of which the value lacks: breaks that few scanners would give.
+/// White space of all kinds between letters, some of which the value lacks: breaks that few scanners would give, and some escaped ones.
 pub fn put_breaks(run: &mut Run) {
     let style = run.rng.pick(&STYLES);
-    let source = run.rng.word(&["a", "b", "\n", "\n", " ", " ", "\t", "\r"], 10);
+    let source = run.rng.word(&["a", "b", "\n", "\n", " ", " ", "\t", "\r", "\\\r"], 10);
     let rng = &mut run.rng;
     let value: String = source.chars().filter(|letter| letter.is_alphabetic() || rng.once_in(2)).collect();
     let open = if style == SINGLE_QUOTED || style == DOUBLE_QUOTED { "'" } else { "" };

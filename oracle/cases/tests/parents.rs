@@ -2,7 +2,7 @@
 //! in the sample of the family `parents`.
 
 use answers::answer;
-use answers::decode::{self, Body};
+use answers::decode::{self, Body, Event};
 use answers::record::{MEASURED, PARENT};
 use cases::rng::Rng;
 use cases::run::Run;
@@ -128,17 +128,10 @@ fn place(records: &[Record], n: usize) -> usize {
 
 /// Another flag for the nodes whose event is of a kind.
 fn with_flag(case: &Case, answer: &Answer, flag: u32, is_of: fn(&Body) -> bool) -> Answer {
-    let mut bodies = Vec::new();
-    let mut at = 0;
-    while let Some((event, next)) = decode::event(&case.events, at) {
-        at = next;
-        if !matches!(event.body, Body::Start(..)) {
-            bodies.push(event.body);
-        }
-    }
+    let completing: Vec<Event> = decode::events(&case.events).into_iter().filter(Event::completes).collect();
     changed(answer, |records, n| {
         let mut record = records[n];
-        if is_of(&bodies[n]) {
+        if is_of(&completing[n].body) {
             record[MEASURED] = flag;
         }
         record

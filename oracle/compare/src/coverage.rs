@@ -1,7 +1,9 @@
-//! Which rows of the table, which steps of the piece grammar, which parents and which flags the answers met.
+//! Which rows of the table, which steps of the piece grammar, which parents, which flags and which starts the answers met.
 
 use answers::decode::{self, Body, Scalar};
+use answers::parent;
 use answers::record::{MEASURED, PARENT};
+use answers::start::{self, Start};
 use framing::{Answer, Case, RECORD_NUMBERS, Record};
 use saphyr_parser::ScalarStyle::{self, DoubleQuoted, Folded, Literal, SingleQuoted};
 
@@ -12,7 +14,7 @@ pub struct Coverage {
 
 const NONE: u32 = u32::MAX;
 
-const NAMES: [&str; 86] = [
+const NAMES: [&str; 97] = [
     "row 0: built",
     "row 1: too long",
     "row 2: text no UTF-8",
@@ -99,10 +101,22 @@ const NAMES: [&str; 86] = [
     "folded, measured",
     "alias, measured",
     "collection, measured",
+    "start: on a character of one byte",
+    "start: on a character of two bytes",
+    "start: on a character of three bytes",
+    "start: on a character of four bytes",
+    "start: at the text's end, by its index",
+    "start: at the text's end, by an index past it",
+    "start: on a colon, not awaited",
+    "start: on a colon, not plain",
+    "start: on a colon, not empty",
+    "start: past a colon, before a character",
+    "start: past a colon, at the text's end",
 ];
 
-/// How the names of parents start.
+/// How the names of parents and of starts begin.
 const PARENTS: &str = "parent: ";
+const STARTS: &str = "start: ";
 
 impl Coverage {
     pub fn new() -> Self {
@@ -140,19 +154,19 @@ impl Coverage {
     /// Records stand in the order of the events that complete them.
     fn add_records(&mut self, case: &Case, answer: &Answer) {
         let (records, _) = answer.records.as_chunks::<RECORD_NUMBERS>();
-        let mut numbered = records.iter().enumerate();
-        let mut place = 0;
-        while let Some((event, next)) = decode::event(&case.events, place) {
-            place = next;
-            if matches!(event.body, Body::Start(..)) {
-                continue;
-            }
-            let (number, record) = numbered.next().expect("a record for each node");
+        let text = str::from_utf8(&case.text).expect("the text of a built document");
+        let events = decode::events(&case.events);
+        let places = parent::places(&events);
+        let starts = start::starts(text, &events, &places);
+        let completing = events.iter().filter(|event| event.completes());
+        for (number, (event, start)) in completing.zip(starts).enumerate() {
+            let record = &records[number];
             self.add_record(record);
             self.add_parent(records, number);
             self.add_flag(&event.body, record[MEASURED]);
-            if let Body::Scalar(scalar) = event.body {
-                self.add_scalar(case, answer, record, &scalar);
+            if let (Body::Scalar(scalar), Some(start)) = (&event.body, start) {
+                self.add_start(event.index, scalar, places[number].awaited, &start);
+                self.add_scalar(case, answer, record, scalar);
             }
         }
     }
@@ -178,17 +192,39 @@ impl Coverage {
         self.met(&format!("{node}, {}", if flag == 1 { "measured" } else { "assumed" }));
     }
 
-    /// How many parents there were, and how many flags of scalars.
-    pub fn last_two(&self) -> [u64; 2] {
-        let [mut parents, mut flags] = [0, 0];
+    /// A colon is told from other characters where all but one thing is there for a step past it.
+    fn add_start(&mut self, index: u32, scalar: &Scalar, awaited: bool, Start { marker, at }: &Start) {
+        let is_plain = scalar.style == ScalarStyle::Plain;
+        self.met(match (marker.letter, [awaited, is_plain, scalar.value.is_empty()]) {
+            (Some(':'), [true, true, true]) if at.letter.is_none() => "start: past a colon, at the text's end",
+            (Some(':'), [true, true, true]) => "start: past a colon, before a character",
+            (Some(':'), [false, true, true]) => "start: on a colon, not awaited",
+            (Some(':'), [true, false, true]) => "start: on a colon, not plain",
+            (Some(':'), [true, true, false]) => "start: on a colon, not empty",
+            (Some(letter), _) => match letter.len_utf8() {
+                1 => "start: on a character of one byte",
+                2 => "start: on a character of two bytes",
+                3 => "start: on a character of three bytes",
+                _ => "start: on a character of four bytes",
+            },
+            (None, _) if index as usize > marker.index => "start: at the text's end, by an index past it",
+            (None, _) => "start: at the text's end, by its index",
+        });
+    }
+
+    /// How many parents there were, how many flags of scalars, and how many starts.
+    pub fn held(&self) -> [u64; 3] {
+        let [mut parents, mut flags, mut starts] = [0; 3];
         for (name, count) in &self.counts {
             if name.starts_with(PARENTS) {
                 parents += count;
+            } else if name.starts_with(STARTS) {
+                starts += count;
             } else if ALL_STYLES.iter().any(|style| is_flag(name, style_name(*style))) {
                 flags += count;
             }
         }
-        [parents, flags]
+        [parents, flags, starts]
     }
 
     fn add_record(&mut self, record: &Record) {

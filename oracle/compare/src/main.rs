@@ -6,7 +6,8 @@
 //! and leaves out what is large. A case that differs is shrunk and printed; the exit status says whether there was one.
 //!
 //! The last two numbers of a record, which the original does not have, are held to second implementations: the parent, and whether a
-//! scalar's span is measured or assumed.
+//! scalar's span is measured or assumed. Where a scalar starts is held to a third, which no start outside of the text can come from: an
+//! original's start that is another stops the program.
 
 mod calls;
 mod coverage;
@@ -194,8 +195,10 @@ impl Comparison {
         if missing > 0 {
             println!("{missing} RULES WERE NEVER MET");
         }
-        let [parents, flags] = self.coverage.last_two();
-        println!("\n{parents} parents and {flags} flags of scalars held to the second implementations");
+        let [parents, flags, starts] = self.coverage.held();
+        println!(
+            "\n{parents} parents, {flags} flags and {starts} starts of scalars held to the second implementations"
+        );
         println!("{} cases, {} of them not answered by the original", self.cases, self.panicked);
         let different = self.different + self.other_calls;
         println!("{different} different");

@@ -4,11 +4,13 @@ use crate::Comparison;
 use crate::calls::{PORT, Readers};
 use crate::held::{Build, Memory, differs};
 use crate::shrink::shrunk;
-use answers::record::{MEASURED, PARENT};
+use answers::record::{MEASURED, PARENT, START};
 use cases::rng::Rng;
 use cases::run::Run;
 use cases::{ACCESSOR_FAMILIES, RANDOM, SEED};
 use framing::{Case, RECORD_NUMBERS, Record};
+
+const STRING: u32 = 5;
 
 /// One too many for the content of each replacement of two bytes.
 fn wrong_piece(text: &[u8], events: &[u8], records: &mut [u32], pieces: &mut [u32]) -> [u32; 3] {
@@ -98,6 +100,31 @@ fn assumed_collections(text: &[u8], events: &[u8], records: &mut [u32], pieces: 
     })
 }
 
+/// Moves some starts of strings by a byte.
+fn with_starts(
+    text: &[u8],
+    events: &[u8],
+    records: &mut [u32],
+    pieces: &mut [u32],
+    is_moved: fn(&[u8], usize) -> bool,
+) -> [u32; 3] {
+    let returned = port::build(text, events, records, pieces);
+    for record in records.as_chunks_mut::<RECORD_NUMBERS>().0.iter_mut().filter(|record| record[0] == STRING) {
+        record[START] += u32::from(is_moved(text, record[START] as usize));
+    }
+    returned
+}
+
+/// A start inside the character, if it has several bytes.
+fn start_inside(text: &[u8], events: &[u8], records: &mut [u32], pieces: &mut [u32]) -> [u32; 3] {
+    with_starts(text, events, records, pieces, |text, start| text.get(start).is_some_and(|byte| *byte >= 0xC0))
+}
+
+/// A start past the text in place of its end.
+fn start_past_the_text(text: &[u8], events: &[u8], records: &mut [u32], pieces: &mut [u32]) -> [u32; 3] {
+    with_starts(text, events, records, pieces, |text, start| start == text.len())
+}
+
 /// A buffer that has room for one record less in fourteens, and would have in twelves.
 fn room_in_twelves(text: &[u8], events: &[u8], records: &mut [u32], pieces: &mut [u32]) -> [u32; 3] {
     let mut wide = vec![0; records.len() / 12 * RECORD_NUMBERS];
@@ -133,7 +160,7 @@ fn the_port_is_the_original() {
 
 #[test]
 fn faults_are_found() {
-    let faulty: [Build; 10] = [
+    let faulty: [Build; 12] = [
         wrong_piece,
         not_cleared,
         wrong_row,
@@ -144,6 +171,8 @@ fn faults_are_found() {
         all_measured,
         assumed_collections,
         room_in_twelves,
+        start_inside,
+        start_past_the_text,
     ];
     for (number, build) in faulty.into_iter().enumerate() {
         assert!(differing(build, "trees").is_some(), "{number}");
@@ -245,12 +274,12 @@ fn right_number(n: u32) -> u32 {
 }
 
 #[test]
-fn parents_and_flags_are_counted() {
+fn parents_flags_and_starts_are_counted() {
     answers::silence_listed_panic();
     let mut comparison = Comparison::new(port::build, Memory::Exact);
     for case in random("trees", 3, 500) {
         comparison.compare(&case);
     }
-    let [parents, flags] = comparison.coverage.last_two();
-    assert!(parents > flags && flags > 500, "{parents} {flags}");
+    let [parents, flags, starts] = comparison.coverage.held();
+    assert!(parents > flags && flags > 500 && flags == starts, "{parents} {flags} {starts}");
 }
