@@ -69,14 +69,14 @@ use Rattle.records.specs.declared.record.PieceList.{PieceList}
 use Rattle.spans.specs.declared.open.Collection.{Collection}
 use Rattle.spans.specs.declared.open.Collection.TheVariants.{Sequence, Mapping}
 use Rattle.spans.specs.declared.open.Open.{Open}
-use Rattle.spans.proofs.SpanLaws.{no_start_outside, node_measured, pieces_are, measured_list, measured_pieces_end}
+use Rattle.spans.proofs.SpanLaws.{no_start_outside, node_extent, node_measured, pieces_are, measured_list, measured_pieces_end}
 use Rattle.parser.proofs.Pieces.{filled_none}
 use Rattle.parser.proofs.EventRun.{go_is, stop_is, refused_not_built, in_order_lem, events_as_list, over_through, passing, StoppedAt, stopped_at}
 use Rattle.parser.proofs.Growths.{gate, past_root, past_room, Grown, reached_grown, run_grown}
 
 -- ---- the walk of a scalar starts where document 01 says
 
-module _ (text : List ℕ) (sound : AdmittedText text) (awaited : Bool) (m : Mark) (value : List ℕ) where
+module _ (text : List ℕ) (awaited : Bool) (m : Mark) (value : List ℕ) where
   abbrev found : Option (List Piece)
   found = list_from (rules_of m.style m.column) text (walk_first text awaited m value) value
 
@@ -85,21 +85,21 @@ module _ (text : List ℕ) (sound : AdmittedText text) (awaited : Bool) (m : Mar
   walk_demand3 most = demand3 (rules_of m.style m.column) (style_fair m.style) text (walk_first text awaited m value) value most
 
   -- a record that differs from the machine's in its list only
-  pub entry_says : (place : ℕ) (t : TagInfo) (r : Resolved) (x : Node) → with_list x absent 0 ≡ with_list (scalar_node text (scalar_at text awaited m value place) t r) absent 0
+  pub entry_says : AdmittedText text → (place : ℕ) (t : TagInfo) (r : Resolved) (x : Node) → with_list x absent 0 ≡ with_list (scalar_node text (scalar_at text awaited m value place) t r) absent 0
       → EntrySays text awaited m value r place t x
   unfolding scalar_over
-  entry_says place t r x e =
-      let is = node_measured text (scalar_at text awaited m value place) t r in
-      let span = ap (λ (y : Node). y.extent) e ∙ is.0 in
+  entry_says sound place t r x e =
+      let s = scalar_at text awaited m value place in
+      let span = ap (λ (y : Node). y.extent) e ∙ node_extent text s t r in
       record {
         kind = ap (λ (y : Node). y.kind) e;
-        span = (span, rw span (no_start_outside text sound.utf8 awaited m value));
+        span = record { lies = span; on_boundary = rw span (no_start_outside text sound.utf8 awaited m value) };
         tag = ap (λ (y : Node). y.tag) e;
         subtree = ap (λ (y : Node). y.subtree) e;
         payload = ap (λ (y : Node). y.payload) e;
         measured = (
           (scalar_measure (drop (start_at text awaited m value) text) value m.style m.empty m.column).measured,
-          ap (λ (y : Node). y.measured) e ∙ is.1,
+          ap (λ (y : Node). y.measured) e ∙ node_measured text s t r,
           scalar_says (drop (start_at text awaited m value) text) value m.style m.empty m.column,
         );
       }
@@ -263,7 +263,7 @@ module _ (text : List ℕ) (sound : AdmittedText text) (m : Mark) (value : List 
   abbrev alone_node : Node
   alone_node = scalar_node text (scalar_at text false m value 0) no_tag (resolve_scalar value m.style None)
 
-  scalar_is : scalar_call text m value size ≡ kept_alone size alone_node (found text sound false m value)
+  scalar_is : scalar_call text m value size ≡ kept_alone size alone_node (found text false m value)
   unfolding scalar_call one_scalar scalar_kept event_node tag_info resolved_by
   scalar_is =
       rw (both_admitted text value sound value_sound, le-ltb folded m.style known)
@@ -278,14 +278,14 @@ module _ (text : List ℕ) (sound : AdmittedText text) (m : Mark) (value : List 
   scalar_demand3 =
       subst (λ (out : Outcome). ScalarDemand3 text m value size out) (sym scalar_is) (of_kept (alone size alone_node alone_no_list _))
     where
-      of_kept : {out : Outcome} → KeptAlone size (found text sound false m value) out → ScalarDemand3 text m value size out
+      of_kept : {out : Outcome} → KeptAlone size (found text false m value) out → ScalarDemand3 text m value size out
       of_kept {out} k =
           record {
             number = k.number;
             demand3 =
                 subst (λ (w : Walked). Demand3 (rules_of m.style m.column) escapes_reach text (walk_first text false m value) value (piece_room size) w (list_in (call.pieces_after size out) (record_of out).list)) (sym k.answer)
-                (subst (λ (l : List Piece). Demand3 (rules_of m.style m.column) escapes_reach text (walk_first text false m value) value (piece_room size) (answer_of (piece_room size) (found text sound false m value)) l) (sym k.finds)
-                (walk_demand3 text sound false m value (piece_room size)));
+                (subst (λ (l : List Piece). Demand3 (rules_of m.style m.column) escapes_reach text (walk_first text false m value) value (piece_room size) (answer_of (piece_room size) (found text false m value)) l) (sym k.finds)
+                (walk_demand3 text false m value (piece_room size)));
             all_numbers = k.all_numbers ∙ ap (laid_pieces size) (sym k.finds);
           }
 
@@ -307,13 +307,13 @@ module _ (text : List ℕ) (sound : AdmittedText text) (m : Mark) (value : List 
   unfolding scalar_over
   scalar_record =
       record {
-        entry = λ xs ps e. entry_says text sound false m value 0 no_tag (resolve_scalar value m.style None) _ (record_is xs ps e);
+        entry = λ xs ps e. entry_says text false m value sound 0 no_tag (resolve_scalar value m.style None) _ (record_is xs ps e);
         parent = λ xs ps e. ap (λ (y : Node). y.parent) (record_is xs ps e);
         zero = λ number place e. ap record_of e;
       }
 
-  kept_alone_lem : KeptAlone size (found text sound false m value) (scalar_call text m value size)
-  kept_alone_lem = subst (λ (out : Outcome). KeptAlone size (found text sound false m value) out) (sym scalar_is) (alone size alone_node alone_no_list _)
+  kept_alone_lem : KeptAlone size (found text false m value) (scalar_call text m value size)
+  kept_alone_lem = subst (λ (out : Outcome). KeptAlone size (found text false m value) out) (sym scalar_is) (alone size alone_node alone_no_list _)
 
   -- what the flag says of a plain scalar's list
   pub measured_plain : m.style ≡ plain → (xs : List Node) (ps : List Piece) → scalar_call text m value size ≡ built xs ps → (record_of (scalar_call text m value size)).measured ≡ 1
@@ -324,10 +324,10 @@ module _ (text : List ℕ) (sound : AdmittedText text) (m : Mark) (value : List 
       let flag : (span_measure text x).measured ≡ true = truth_one (span_measure text x).measured (sym (ap (λ (y : Node). y.measured) (record_is xs ps e)) ∙ one) in
       let on = no_start_outside text sound.utf8 false m value in
       let are = pieces_are text false m value 0 in
-      let walked : walked_by (record_of (scalar_call text m value size)).list ≡ answer_of (piece_room size) (found text sound false m value) =
+      let walked : walked_by (record_of (scalar_call text m value size)).list ≡ answer_of (piece_room size) (found text false m value) =
       rw e (rw e at kept_alone_lem.answer) in
-      let a = answered (record_of (scalar_call text m value size)).list (piece_room size) (found text sound false m value) walked in
-      let ends = ap (λ (k : Extent). k.end) (scalar_record.entry xs ps e).span.0 in
+      let a = answered (record_of (scalar_call text m value size)).list (piece_room size) (found text false m value) walked in
+      let ends = ap (λ (k : Extent). k.end) (scalar_record.entry xs ps e).span.lies in
       record {
         list = a.list ∙ ap is_some (sym are) ∙ measured_list text sound.utf8 x on flag value_sound.utf8 is_plain;
         end = λ h.
@@ -508,7 +508,7 @@ module _ (text events : List ℕ) (sound : AdmittedText text) (room most : ℕ) 
   no_list_yet = refl
 
   abbrev found_here : Option (List Piece)
-  found_here = found text sound awaited m value
+  found_here = found text awaited m value
 
   kept_is : scalar_kept text events most (scalar_at text awaited (as_read m) (part_of events (part value_at (length value))) value_at) tag_at st ≡ keeping most node_here found_here st
   unfolding scalar_kept event_node
@@ -530,7 +530,7 @@ module _ (text events : List ℕ) (sound : AdmittedText text) (room most : ℕ) 
   entry_here x e =
       subst (λ (r : Resolved). EntrySays text awaited m value r value_at (tag_info text (start_at text awaited m value) (suffix_of tag_at)) x)
       (resolved_found events (tag_place i) tag value m.style (tag_found events i m tag value stands))
-      (entry_says text sound awaited m value value_at _ _ x e)
+      (entry_says text awaited m value sound value_at _ _ x e)
 
   tag_here : TagSays text events (start_at text awaited m value) tag (tag_info text (start_at text awaited m value) (suffix_of tag_at))
   tag_here = tag_says text events (start_at text awaited m value) (tag_place i) tag (tag_found events i m tag value stands)
@@ -604,10 +604,10 @@ module _ (text events : List ℕ) (size pieces_size : ℕ) where
     listed : (before : List YamlEvent) (m : Mark) (tag : Tag) (value : List ℕ) (here next : State) (more : ℕ)
         → reached text events records_in most 0 before empty ≡ go here → (stands : StandsAt events (length (encode_events before)) (scalar_of m tag value))
         → Keeps most (node_here text events sound records_in most (room_small pieces_size) (length (encode_events before)) m tag value stands here)
-        (found text sound (awaits_value here.opens) m value) here next → Grown most more next (record { nodes = xs; opens = []; pieces = ps })
+        (found text (awaits_value here.opens) m value) here next → Grown most more next (record { nodes = xs; opens = []; pieces = ps })
         → ScalarListed text events records_in most before m tag value xs (laid_pieces pieces_size ps)
     listed before m tag value here next more to_here stands k g =
-        let o : Option (List Piece) = found text sound (awaits_value here.opens) m value in
+        let o : Option (List Piece) = found text (awaits_value here.opens) m value in
         let room : ℕ = most - length here.pieces in
         let left : List Piece = left_of room o in
         let i : ℕ = length (encode_events before) in
@@ -632,7 +632,7 @@ module _ (text events : List ℕ) (size pieces_size : ℕ) where
           demand3 =
               subst (λ (w : Walked). Demand3 (rules_of m.style m.column) escapes_reach text first value room w (list_in (laid_pieces pieces_size ps) k.node.list)) (sym k.answer)
               (subst (λ (l : List Piece). Demand3 (rules_of m.style m.column) escapes_reach text first value room (answer_of room o) l) (sym finds)
-              (walk_demand3 text sound (awaits_value here.opens) m value room));
+              (walk_demand3 text (awaits_value here.opens) m value room));
         }
 
     each_scalar : (before after : List YamlEvent) (m : Mark) (tag : Tag) (value : List ℕ)

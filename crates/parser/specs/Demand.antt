@@ -47,14 +47,14 @@ resolved_as (tagged handle suffix) value style = resolve_scalar value style (Som
 abbrev pub scalar_of : Mark → Tag → List ℕ → YamlEvent
 scalar_of m tag value = scalar m.index m.column m.style m.empty tag value
 
--- e is the scalar's span: it starts at its marker, or past its colon, and is as long as its measure says; the start is a character of the text or its
--- end (02, (g))
-abbrev pub SpanSays : List ℕ → Bool → Mark → List ℕ → Extent → Type 0
-SpanSays text awaited m value e =
-    (e
-    ≡ extent (start_at text awaited m value)
-    (start_at text awaited m value + scalar_len (drop (start_at text awaited m value) text) value m.style m.empty m.column))
-    × Boundary text e.start
+-- e is the scalar's span: from document 01's start on, as long as its measure says; and the start is at a character of the text or at its end, which
+-- follows (02, (g))
+pub record SpanSays (text : List ℕ) (awaited : Bool) (m : Mark) (value : List ℕ) (e : Extent) : Type 0 where
+  pub lies :
+      e
+      ≡ extent (start_at text awaited m value)
+      (start_at text awaited m value + scalar_len (drop (start_at text awaited m value) text) value m.style m.empty m.column)
+  pub on_boundary : Boundary text e.start
 
 -- n tells whether the scalar's span was measured: document 02's sentence, from the start on
 abbrev pub FlagSays : List ℕ → Bool → Mark → List ℕ → ℕ → Type 0

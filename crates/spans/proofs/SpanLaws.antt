@@ -108,6 +108,12 @@ unfolding collection_end
 end_within text Sequence i h = step_within text close_bracket i (omega arith) h
 end_within text Mapping i h = step_within text close_brace i (omega arith) h
 
+-- a scalar's span, as its record says, goes from its start as far as its measure says from there on
+pub node_extent : (text : List ℕ) (x : ScalarAt) (tag : TagInfo) (r : Resolved)
+    → (scalar_node text x tag r).extent ≡ extent x.start (x.start + scalar_len (drop x.start text) x.value x.style x.empty_span x.column)
+unfolding scalar_over
+node_extent text x tag r = refl
+
 -- ---- the starts of records
 
 pub collection_node_boundary : (text : List ℕ) (o : Open) (i n : ℕ) → Boundary text o.start → IfSome o.first (Boundary text)
@@ -144,12 +150,11 @@ pieces_are text awaited m value place = refl
 
 -- ---- measured (02, (b), (c))
 
--- a scalar's span, and whether it was measured, as its record says, are what its measure says from its start on
+-- whether a scalar's span was measured, as its record says, is what its measure says from its start on
 pub node_measured : (text : List ℕ) (x : ScalarAt) (tag : TagInfo) (r : Resolved)
-    → ((scalar_node text x tag r).extent ≡ extent x.start (x.start + scalar_len (drop x.start text) x.value x.style x.empty_span x.column))
-    × ((scalar_node text x tag r).measured ≡ truth (scalar_measure (drop x.start text) x.value x.style x.empty_span x.column).measured)
+    → (scalar_node text x tag r).measured ≡ truth (scalar_measure (drop x.start text) x.value x.style x.empty_span x.column).measured
 unfolding scalar_over
-node_measured text x tag r = (refl, refl)
+node_measured text x tag r = refl
 
 -- a boundary of what is left of a text is one of the text
 boundary_later : {text : List ℕ} {i n : ℕ} → Boundary text i → Boundary (drop i text) n → Boundary text (i + n)
