@@ -44,7 +44,8 @@
  *     12     the record of its parent, always a higher number than its own; QUARTO_YAML_NONE for the root and in a call on one scalar
  *     13     1 if its span was measured, 0 if it was assumed; 1 for every collection and alias
  *
- * A scalar's span starts at a character of the text or at its end, whatever its event says: an index past the text stands for its end.
+ * A scalar's span starts at its marker, that of a missing value behind the `:` that the marker is on: always at a character of the text
+ * or at its end, whatever the event says, since an index past the text stands for the end.
  * It is measured if it was found in the text; a block's always is. That of a plain scalar whose value cannot be followed through the
  * text, and of a quoted one without both its marks, is assumed: as long as the value, cut to the text left.
  *

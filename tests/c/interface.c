@@ -1,7 +1,7 @@
 /* Every exported call against known numbers: the worked cases K1 to K12 of the scope document, the worked records of
  * crates/node/specs/Examples.antt, each row of the table, what docs/DIFFERENCES.md says that an entry can get wrong and which spans are
- * measured, parents beside children, and the layout of every struct. Lent buffers hold another number beforehand and have guards on both
- * sides. Exit code 0 if all is as expected. */
+ * measured, where scalars start, parents beside children, and the layout of every struct. Lent buffers hold another number beforehand
+ * and have guards on both sides. Exit code 0 if all is as expected. */
 #include "quarto_yaml.h"
 #include <stdio.h>
 #include <stdlib.h>
@@ -310,10 +310,10 @@ static void documents(void) {
 
 #define SCALAR0(at) "\5\0\13\0\0\0" at "\0\0\0\0\0\0\0" /* plain, no tag, no value */
 
-/* The value of `{a: }` without a text of its own, its marker at `at`: where it starts. */
-#define VALUE_STARTS(text, at, start)                                                                                                  \
-    (told(build(BYTES(text), BYTES(MAP_START("\0") SCALAR1("\0", "a") SCALAR0(at) MAP_END("\2")), 42, 4), 0, 3, 1)                      \
-     && quarto_yaml_source_info(records.numbers + GUARD, 42, 1).start == (start))
+/* Of a mapping of one pair, its key an alias and its value missing with a marker at `at`: the byte at which the value starts. */
+#define VALUE_STARTS(text, at, byte)                                                                                                   \
+    (told(build(BYTES(text), BYTES(MAP_START("\0") ALIAS("\0") SCALAR0(at) MAP_END("\0")), 42, 4), 0, 3, 0)                             \
+     && quarto_yaml_source_info(records.numbers + GUARD, 42, 1).start == (byte))
 
 static void starts(void) {
     /* each index of `é: a`, its end, past it, and far off: the offset of that character, and from the end on the text's length */
@@ -324,10 +324,12 @@ static void starts(void) {
         CHECK(scalar_answer.record[QUARTO_YAML_AT_START] == offsets[i] && scalar_answer.record[QUARTO_YAML_AT_END] == offsets[i]);
         CHECK(scalar_answer.record[QUARTO_YAML_AT_FIRST_PIECE] == 0);
     }
-    /* a missing value steps past the colon it stands on: to a character, or to the text's end, and never from there */
+    /* a missing value steps past the colon that its marker is on, to a character or to the text's end */
     CHECK(VALUE_STARTS("a: ", "\1", 2) && VALUE_STARTS("a:\xC3\xA9", "\1", 2) && VALUE_STARTS("\xC3\xA9:", "\1", 3));
-    CHECK(VALUE_STARTS("a:", "\1", 2) && VALUE_STARTS("a:", "\2", 2) && VALUE_STARTS("a:", "\11", 2));
-    CHECK(VALUE_STARTS("a\xC3\xA9", "\1", 1) && VALUE_STARTS("a\0", "\1", 1) && VALUE_STARTS("a", "\1", 1) && VALUE_STARTS("", "\1", 0));
+    CHECK(VALUE_STARTS("a:", "\1", 2));
+    /* and past nothing else: not from the text's end, nor from another character */
+    CHECK(VALUE_STARTS("a:", "\2", 2) && VALUE_STARTS("a:", "\11", 2) && VALUE_STARTS("a", "\1", 1) && VALUE_STARTS("", "\1", 0));
+    CHECK(VALUE_STARTS("a\xC3\xA9", "\1", 1) && VALUE_STARTS("a\0", "\1", 1) && VALUE_STARTS("a,", "\1", 1));
 }
 
 /* ---- up from a record, and whether its span was measured */

@@ -126,8 +126,8 @@ impl<'a> Node<'a> {
     }
 
     /// The bytes of the text that it occupies, as the builder finds them: quotes are counted in, the header of a block scalar only where
-    /// its marker is on it. A scalar's start at a character of the text or at its end. docs/DIFFERENCES.md says where they are not what one
-    /// would expect.
+    /// its marker is on it. A scalar's span starts at a character of the text or at its end. docs/DIFFERENCES.md says where spans are not
+    /// what one would expect.
     pub fn span(self) -> Span {
         let sys::Span { start, end, .. } = sys::source_info(self.tree.records, self.number);
         Span { start, end }

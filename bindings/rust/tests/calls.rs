@@ -71,7 +71,7 @@ fn escapes_that_the_grammar_does_not_have() {
     assert_eq!(pieces.map(|pieces| pieces.len()), Some(1));
 }
 
-/// Where a value of `a` starts that is the only one of a mapping.
+/// Where the value of the key `a` starts.
 fn value_start(text: &str, value: Event<'_>) -> u32 {
     let events = [Event::MappingStart { index: 0, tag: None }, plain("a"), value, Event::MappingEnd { index: 0 }];
     let bytes = encode(&events).unwrap();
