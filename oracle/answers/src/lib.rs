@@ -1,6 +1,6 @@
 //! The original's answers in document 01's numbers: the table's rows, written here a second time and as the document
 //! words them, around the unchanged Rust. The last two numbers of a record, which the original does not have, are those of
-//! second implementations. A third one gives where scalars start, and the original's starts are held to it.
+//! second implementations; and where scalars start is held to one.
 
 pub mod accessors;
 mod admit;

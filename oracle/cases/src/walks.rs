@@ -100,7 +100,8 @@ pub fn put_random(run: &mut Run) {
     run.put(&case);
 }
 
-/// White space of all kinds between letters, some of which the value lacks: breaks that few scanners would give, and some escaped ones.
+/// White space of all kinds between letters, some of which the value lacks: breaks that few scanners would give; and escaped returns, which
+/// hardly any other case has.
 pub fn put_breaks(run: &mut Run) {
     let style = run.rng.pick(&STYLES);
     let source = run.rng.word(&["a", "b", "\n", "\n", " ", " ", "\t", "\r", "\\\r"], 10);

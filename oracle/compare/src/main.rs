@@ -6,7 +6,7 @@
 //! and leaves out what is large. A case that differs is shrunk and printed; the exit status says whether there was one.
 //!
 //! The last two numbers of a record, which the original does not have, are held to second implementations: the parent, and whether a
-//! scalar's span is measured or assumed. Where a scalar starts is held to a third, which no start outside of the text can come from: an
+//! scalar's span is measured or assumed. Where a scalar starts is held to one too, which no start outside of the text can come from: an
 //! original's start that is another stops the program.
 
 mod calls;
