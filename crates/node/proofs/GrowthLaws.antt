@@ -25,8 +25,8 @@ use Rattle.event.specs.declared.tag.YamlTag.{YamlTag}
 use Rattle.records.specs.Record.{absent, with_list, with_parent, alias_node}
 use Rattle.records.specs.Parent.{holder, or_absent, parented}
 use Rattle.spans.specs.Scalar.{ScalarAt, list_at, suffix_of, tag_info, resolved_by, scalar_over, scalar_node, scalar_given, event_scalar, event_node}
-use Rattle.spans.specs.Collection.{with_child, awaits_value, closes, collection_kind, members, collection_over, collection_node}
-use Rattle.parser.specs.Machine.{State, empty, Next, go, stop, Outcome, built, refused, root_done, before_root, within_depth, within_room, completed, opening as opened, on_start, ended, on_end, on_alias, keeping, scalar_kept, on_scalar, on_read, next_place, ending, run, run_all}
+use Rattle.spans.specs.Collection.{with_child, closes, collection_kind, members, collection_over, collection_node}
+use Rattle.parser.specs.Machine.{State, empty, Next, go, stop, Outcome, built, refused, root_done, before_root, within_depth, within_room, completed, opening as opened, on_start, ended, on_end, on_alias, keeping, awaits_value, scalar_kept, on_scalar, on_read, next_place, ending, run, run_all}
 use Rattle.records.specs.Layout.{record_room, piece_room}
 use Rattle.parser.specs.Call.{admitted, building}
 use Rattle.parser.proofs.RunLaws.{run_ended, run_stopped, stop_not_go, parents_built}

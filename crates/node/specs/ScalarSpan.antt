@@ -4,10 +4,9 @@ use Rattle.std.specs.Prelude.{◌≡◌, ℕ, Bool, List, ◌∷◌, ◌++◌, O
 use Rattle.provenance.specs.Reading.{Piece}
 use Rattle.event.specs.Encode.{Tag, YamlEvent}
 use Rattle.spans.specs.Scalar.{Mark}
-use Rattle.spans.specs.Collection.{awaits_value}
 use Rattle.records.specs.Layout.{laid_nodes}
 use Rattle.records.specs.declared.record.Node.{Node}
-use Rattle.parser.specs.EventRun.{completed_by}
+use Rattle.parser.specs.EventRun.{completed_by, awaited_by}
 use Rattle.parser.specs.Demand.{scalar_of, ListsBuilt, SpanSays, FlagSays}
 use Rattle.node.specs.Source.{span_at, is_measured_at}
 
@@ -16,9 +15,9 @@ use Rattle.node.specs.Source.{span_at, is_measured_at}
 abbrev pub OfEachScalar : {A : Type 0} → (List ℕ → ℕ → Option A) → (List ℕ → Bool → Mark → List ℕ → A → Type 0) → Type 0
 OfEachScalar {A} accessor Says =
     (text events : List ℕ) (size pieces_size : ℕ) (xs : List Node) (ps : List Piece) (lists : ListsBuilt text events size pieces_size xs ps)
-    (before after : List YamlEvent) (m : Mark) (tag : Tag) (value : List ℕ) (split : lists.list ≡ before ++ (scalar_of m tag value ∷ after)) →
+    (before after : List YamlEvent) (m : Mark) (tag : Tag) (value : List ℕ) → lists.list ≡ before ++ (scalar_of m tag value ∷ after) →
     (a : A) × (accessor (laid_nodes size xs) (completed_by before) ≡ Some a)
-    × Says text (awaits_value (lists.each before after m tag value split).st.opens) m value a
+    × Says text (awaited_by before) m value a
 
 -- where it lies
 abbrev pub EveryScalarSpan : Type 0

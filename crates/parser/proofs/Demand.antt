@@ -53,9 +53,9 @@ use Rattle.provenance.specs.declared.walk.Walked.TheVariants.{Listed, NoRoom, No
 use Rattle.records.specs.Record.{absent, no_tag, no_list, piece_list, with_list, with_parent}
 use Rattle.records.specs.Parent.{holder, or_absent, parented}
 use Rattle.spans.specs.Scalar.{Mark, mark, start_at, scalar_at, walk_first, suffix_of, tag_info, resolved_by, span_measure, scalar_over, scalar_node, event_node}
-use Rattle.spans.specs.Collection.{awaits_value, closes}
+use Rattle.spans.specs.Collection.{closes}
 use Rattle.parser.specs.Machine.{State, empty, Next, go, stop, Outcome, built, refused, depth_limit, root_done, before_root, within_depth, within_room, completed, on_start, ended, on_end, on_alias, keeping}
-use Rattle.parser.specs.Machine.{scalar_kept, on_scalar, on_read, follow, ending, run, run_all}
+use Rattle.parser.specs.Machine.{awaits_value, scalar_kept, on_scalar, on_read, follow, ending, run, run_all}
 use Rattle.parser.proofs.RunLaws.{stop_not_go, run_stopped, run_enough, parents_built, parents_refused}
 use Rattle.parser.specs.EventRun.{completed_by, reached, run_events, malformed, EventsAsList}
 use Rattle.records.specs.Layout.{record_room, piece_room}
@@ -72,6 +72,7 @@ use Rattle.spans.specs.declared.open.Open.{Open}
 use Rattle.spans.proofs.SpanLaws.{no_start_outside, node_extent, node_measured, pieces_are, measured_list, measured_pieces_end}
 use Rattle.parser.proofs.Pieces.{filled_none}
 use Rattle.parser.proofs.EventRun.{go_is, stop_is, refused_not_built, in_order_lem, events_as_list, over_through, passing, StoppedAt, stopped_at}
+use Rattle.parser.proofs.AwaitedLaws.{awaited_is}
 use Rattle.parser.proofs.Growths.{gate, past_root, past_room, Grown, reached_grown, run_grown}
 
 -- ---- the walk of a scalar starts where document 01 says
@@ -614,7 +615,9 @@ module _ (text events : List ℕ) (size pieces_size : ℕ) where
         let all_pieces : ps ≡ (here.pieces ++ left) ++ g.left = g.pieces ∙ ap (λ (l : List Piece). l ++ g.left) k.pieces in
         let finds : list_in (laid_pieces pieces_size ps) k.node.list ≡ left = ap (λ (l : List Piece). list_in (laid_pieces pieces_size l) k.node.list) all_pieces ∙ k.finds pieces_size g.left in
         let first : ℕ = walk_first text (awaits_value here.opens) m value in
+        let tag_numbers : TagInfo = tag_info text (start_at text (awaits_value here.opens) m value) (suffix_of (placed_tag (tag_place i) tag)) in
         let so_far = reached_grown text events records_in most (room_small pieces_size) 0 before empty here to_here in
+        let awaited_is_here = awaited_is text events records_in most before here to_here in
         let number : completed_by before ≡ length here.nodes = sym so_far.count ∙ sym (ap length so_far.nodes) in
         record {
           st = here;
@@ -626,13 +629,20 @@ module _ (text events : List ℕ) (size pieces_size : ℕ) where
               ∙ drop_front here.nodes k.node g.own xs (g.nodes ∙ ap (λ (l : List Node). l ++ g.own) k.nodes);
           value_place_is = value_place i tag;
           value_there = value_found events i m tag value stands;
-          tag_info_is = tag_info text (start_at text (awaits_value here.opens) m value) (suffix_of (placed_tag (tag_place i) tag));
-          tag_there = tag_here text events sound records_in most (room_small pieces_size) i m tag value stands here;
-          entry = entry_here text events sound records_in most (room_small pieces_size) i m tag value stands here k.node k.same;
+          tag_info_is = tag_numbers;
+          tag_there =
+              subst (λ (a : Bool). TagSays text events (start_at text a m value) tag tag_numbers) awaited_is_here
+              (tag_here text events sound records_in most (room_small pieces_size) i m tag value stands here);
+          entry =
+              subst (λ (a : Bool). EntrySays text a m value (resolved_as tag value m.style) (value_place i tag) tag_numbers k.node) awaited_is_here
+              (entry_here text events sound records_in most (room_small pieces_size) i m tag value stands here k.node k.same);
           demand3 =
-              subst (λ (w : Walked). Demand3 (rules_of m.style m.column) escapes_reach text first value room w (list_in (laid_pieces pieces_size ps) k.node.list)) (sym k.answer)
+              subst
+              (λ (a : Bool). Demand3 (rules_of m.style m.column) escapes_reach text (walk_first text a m value) value room (walked_by k.node.list) (list_in (laid_pieces pieces_size ps) k.node.list))
+              awaited_is_here
+              (subst (λ (w : Walked). Demand3 (rules_of m.style m.column) escapes_reach text first value room w (list_in (laid_pieces pieces_size ps) k.node.list)) (sym k.answer)
               (subst (λ (l : List Piece). Demand3 (rules_of m.style m.column) escapes_reach text first value room (answer_of room o) l) (sym finds)
-              (walk_demand3 text (awaits_value here.opens) m value room));
+              (walk_demand3 text (awaits_value here.opens) m value room)));
         }
 
     each_scalar : (before after : List YamlEvent) (m : Mark) (tag : Tag) (value : List ℕ)
@@ -743,7 +753,7 @@ module _ (text events : List ℕ) (size pieces_size : ℕ) where
               before_root_lem = t.before_root_lem;
               record_room_is = t.record_room_is;
               first = walk_first text (awaits_value s.here.opens) m value;
-              first_is = refl;
+              first_is = ap (λ (a : Bool). walk_first text a m value) (awaited_is text events records_in most s.before s.here s.to_here);
               can_start = t.can_start;
               steps = t.steps;
               reading = t.reading;
@@ -765,14 +775,16 @@ module _ (text events : List ℕ) (size pieces_size : ℕ) where
         let last : ℕ → State → Outcome = (λ (m : ℕ) (st : State). run text events records_in most (length events) i m st) in
         let z : 0 + i ≡ i = omega arith in
         let stand : Stand events 0 n.before i = subst (λ (m : ℕ). Stand events 0 n.before m) z (all_stand events 0 n.before n.rest n.sound n.bytes) in
+        let first_is : n.first ≡ walk_first text (awaits_value n.st.opens) n.mark n.value =
+        n.first_is ∙ sym (ap (λ (a : Bool). walk_first text a n.mark n.value) (awaited_is text events records_in most n.before n.st n.let_through)) in
         let t : TooMany text events n.text_sound records_in most (room_small pieces_size) i n.mark n.tag n.value n.stands n.st =
         record {
           before_root_lem = n.before_root_lem;
           record_room_is = n.record_room_is;
-          can_start = subst (λ (m : ℕ). Boundary text m) n.first_is n.can_start;
+          can_start = subst (λ (m : ℕ). Boundary text m) first_is n.can_start;
           steps = n.steps;
-          reading = subst (λ (m : ℕ). Reading (rules_of n.mark.style n.mark.column) (drop m text) n.value n.steps) n.first_is n.reading;
-          too_many = subst (λ (m : ℕ). most < length n.st.pieces + length (pieces_of m n.steps)) n.first_is n.too_many;
+          reading = subst (λ (m : ℕ). Reading (rules_of n.mark.style n.mark.column) (drop m text) n.value n.steps) first_is n.reading;
+          too_many = subst (λ (m : ℕ). most < length n.st.pieces + length (pieces_of m n.steps)) first_is n.too_many;
         } in
         let stops = too_many_if text events n.text_sound records_in most (room_small pieces_size) i n.mark n.tag n.value n.stands n.st t in
         let read : read_event events i ≡ Ok (placed i x) = sound_is_read events i x n.stands in

@@ -15,6 +15,8 @@ mod Heads
 mod Wholes
 -- the run over a list of events
 pub mod EventRun
+-- whether a node is awaited as a mapping's value, by the events before it
+mod AwaitedLaws
 -- what a step adds to nodes and pieces
 mod Growths
 -- the equations of the run

@@ -25,9 +25,8 @@ use Rattle.provenance.specs.declared.walk.Walked.{Walked}
 use Rattle.provenance.specs.declared.walk.Walked.TheVariants.{Listed, NoRoom, NoList}
 use Rattle.records.specs.Record.{absent, extent, no_tag, no_list, zero_node}
 use Rattle.spans.specs.Scalar.{Mark, start_at, walk_first, with_span}
-use Rattle.spans.specs.Collection.{awaits_value}
 use Rattle.parser.specs.Machine.{State, empty, go, Outcome, built, refused, root_done}
-use Rattle.parser.specs.EventRun.{completed_by, reached}
+use Rattle.parser.specs.EventRun.{completed_by, awaited_by, reached}
 use Rattle.records.specs.Layout.{record_room, piece_room}
 use Rattle.parser.specs.Call as call
 use Rattle.parser.specs.Call.{record_of, building}
@@ -152,11 +151,11 @@ pub record ScalarListed (text events : List ℕ) (room piece_room : ℕ) (before
   pub value_place_is : ℕ
   pub value_there : part_of events (part value_place_is (length value)) ≡ value
   pub tag_info_is : TagInfo
-  pub tag_there : TagSays text events (start_at text (awaits_value st.opens) m value) tag tag_info_is
-  pub entry : EntrySays text (awaits_value st.opens) m value (resolved_as tag value m.style) value_place_is tag_info_is node
+  pub tag_there : TagSays text events (start_at text (awaited_by before) m value) tag tag_info_is
+  pub entry : EntrySays text (awaited_by before) m value (resolved_as tag value m.style) value_place_is tag_info_is node
   -- the record's list finds the pieces of demand 3 in the buffer; those kept so far take up room
   pub demand3 :
-      Demand3 (rules_of m.style m.column) escapes_reach text (walk_first text (awaits_value st.opens) m value) value
+      Demand3 (rules_of m.style m.column) escapes_reach text (walk_first text (awaited_by before) m value) value
       (piece_room - length st.pieces) (walked_by node.list) (list_in p node.list)
 
 -- a document that is built
@@ -190,7 +189,7 @@ pub record NoRoomAt (text events : List ℕ) (size pieces_size k : ℕ) : Type 0
   pub record_room_is : length st.nodes < record_room size
   -- the walk can start, and has a reading whose pieces and those kept so far are more than the room
   pub first : ℕ
-  pub first_is : first ≡ walk_first text (awaits_value st.opens) mark value
+  pub first_is : first ≡ walk_first text (awaited_by before) mark value
   pub can_start : Boundary text first
   pub steps : List Step
   pub reading : Reading (rules_of mark.style mark.column) (drop first text) value steps

@@ -1,7 +1,7 @@
 -- The machine over a list of events (E1, R3): it takes the events in order, and an event's number is its index in the list. That the run
 -- over event bytes is this run over the events that stand in them is `EventsAsList`, and what comes of other bytes `FaultyBytes`; both are
 -- proved in proofs/EventRun.antt.
-use Rattle.std.specs.Prelude.{ℕ, ◌+◌, ◌<◌, ◌≡◌, ◌⊎◌, List, [], ◌∷◌, length, Ok, Err}
+use Rattle.std.specs.Prelude.{ℕ, zero, suc, ◌+◌, ◌%◌, ◌<◌, ◌≡◌, ◌⊎◌, Bool, false, List, [], ◌∷◌, reverse, eqb, length, Ok, Err}
 use Rattle.event.specs.Encode.{YamlEvent, sequence_start, sequence_end, mapping_start, mapping_end, scalar, alias, encode_event}
 use Rattle.event.specs.Meaning.{StandsAt, placed, event_number}
 use Rattle.event.specs.EventList.{encode_events}
@@ -21,6 +21,28 @@ nodes_completed (alias index) = 1
 abbrev pub completed_by : List YamlEvent → ℕ
 completed_by [] = 0
 completed_by (e ∷ es) = nodes_completed e + completed_by es
+
+-- one node more, unless it stands in a collection passed back into
+abbrev pub one_more : ℕ → ℕ → ℕ
+one_more zero n = n + 1
+one_more (suc k) n = n
+
+-- the events from the last to the first, back to the start of the innermost collection that is open: whether that is a mapping with an odd number of
+-- nodes directly in it. So far there were n, and k collections are passed back into whose starts are still to come
+unfoldable pub awaited_back : List YamlEvent → ℕ → ℕ → Bool
+awaited_back [] k n = false
+awaited_back (sequence_start index tag ∷ es) zero n = false
+awaited_back (sequence_start index tag ∷ es) (suc k) n = awaited_back es k n
+awaited_back (mapping_start index tag ∷ es) zero n = eqb (n % 2) 1
+awaited_back (mapping_start index tag ∷ es) (suc k) n = awaited_back es k n
+awaited_back (sequence_end index ∷ es) k n = awaited_back es (suc k) (one_more k n)
+awaited_back (mapping_end index ∷ es) k n = awaited_back es (suc k) (one_more k n)
+awaited_back (scalar index column style empty_span tag value ∷ es) k n = awaited_back es k (one_more k n)
+awaited_back (alias index ∷ es) k n = awaited_back es k (one_more k n)
+
+-- whether the node that comes after the events is awaited as a mapping's value (S1)
+abbrev pub awaited_by : List YamlEvent → Bool
+awaited_by es = awaited_back (reverse es) 0 0
 
 abbrev pub go_on : Next → (State → Next) → Next
 go_on (go st) f = f st

@@ -210,6 +210,12 @@ pub record Lists : Type 0 where
   -- `:` as a key and a value: the value steps past the colon, the key does not; the mapping starts at its key
   pub past_colon : building (bytes ":") (mapping 0 ++ empty 0 ++ empty 0 ++ mapping_end 1) 42 0
       ≡ built (node 1 0 0 1 (piece_list 0 0) 0 0 2 1 ∷ node 1 1 1 1 (piece_list 0 0) 0 0 2 1 ∷ node 8 0 1 3 no_list 1 0 absent 1 ∷ []) []
+  -- and so does the value of the next pair
+  pub past_colon_again : building (bytes ":") (mapping 0 ++ empty 0 ++ empty 0 ++ empty 0 ++ empty 0 ++ mapping_end 1) 70 0
+      ≡ built
+      (node 1 0 0 1 (piece_list 0 0) 0 0 4 1 ∷ node 1 1 1 1 (piece_list 0 0) 0 0 4 1 ∷ node 1 0 0 1 (piece_list 0 0) 0 0 4 1 ∷ node 1 1 1 1 (piece_list 0 0) 0 0 4 1
+      ∷ node 8 0 1 5 no_list 2 0 absent 1 ∷ [])
+      []
   -- a sequence of a sequence, which has an alias, and an alias: the parent of each is the collection it stands in; the root has none
   pub parents : building [] (sequence 0 ++ sequence 0 ++ alias 0 ++ sequence_end 0 ++ alias 0 ++ sequence_end 0) 56 0
       ≡ built
@@ -240,6 +246,7 @@ lists =
       failed_walk = refl;
       next_free = refl;
       past_colon = refl;
+      past_colon_again = refl;
       parents = refl;
       one = refl;
       column_cuts = refl;

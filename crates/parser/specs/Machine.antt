@@ -4,7 +4,7 @@
 -- `room` is how many records fit, `piece_room` how many pieces.
 --
 -- `run` counts down the length of the event bytes, which are more than the events; what a reader expects of it stands in `RunLaws`.
-use Rattle.std.specs.Prelude.{ℕ, zero, suc, ◌+◌, Bool, ◌&&◌, cond, List, [], ◌∷◌, ◌++◌, eqb, ltb, leb, length, Option, Result, Ok, Err, Some, None}
+use Rattle.std.specs.Prelude.{ℕ, zero, suc, ◌+◌, ◌%◌, Bool, false, ◌&&◌, cond, List, [], ◌∷◌, ◌++◌, eqb, ltb, leb, length, Option, Result, Ok, Err, Some, None}
 use Rattle.text.specs.Offset.{byte_offset}
 use Rattle.provenance.specs.Reading.{Piece}
 use Rattle.provenance.specs.Layout.{walked_number}
@@ -17,7 +17,7 @@ use Rattle.event.specs.declared.read.Event.{Event}
 use Rattle.event.specs.declared.read.Event.TheVariants.{SequenceStart, SequenceEnd, MappingStart, MappingEnd, Scalar, Alias}
 use Rattle.records.specs.Record.{with_list, alias_node}
 use Rattle.spans.specs.Scalar.{ScalarAt, scalar_given, list_at, suffix_of, event_node, event_scalar}
-use Rattle.spans.specs.Collection.{with_child, awaits_value, closes, collection_node}
+use Rattle.spans.specs.Collection.{is_mapping, with_child, closes, collection_node}
 use Rattle.records.specs.declared.record.Node.{Node}
 use Rattle.spans.specs.declared.open.Collection.{Collection}
 use Rattle.spans.specs.declared.open.Collection.TheVariants.{Sequence, Mapping}
@@ -108,6 +108,11 @@ keeping piece_room x (Some ps) st =
 unfoldable pub scalar_kept : List ℕ → List ℕ → ℕ → ScalarAt → Option YamlTag → State → Next
 scalar_kept text events piece_room x tag st =
     keeping piece_room (event_node text events x tag) (list_at text x) st
+
+-- whether the next node is the value of the innermost mapping's last key
+abbrev pub awaits_value : List Open → Bool
+awaits_value [] = false
+awaits_value (o ∷ os) = is_mapping o.collection && eqb (o.children % 2) 1
 
 unfoldable pub on_scalar : List ℕ → List ℕ → ℕ → ℕ → ScalarEvent → State → Next
 on_scalar text events room piece_room e st =

@@ -1,6 +1,7 @@
 // The open collections. (01: row 6; N2.)
 ghost use Rattle.std.specs.Prelude.{◌≡◌, ◌≤◌, ◌<◌, [], ◌∷◌, List, take, reverse, length, MatchOption};
-ghost use Rattle.spans.specs.Collection.{with_child, awaits_value};
+ghost use Rattle.spans.specs.Collection.{with_child};
+ghost use Rattle.parser.specs.Machine.{awaits_value};
 ghost use Rattle.spans.specs.declared.open.Open.{Open};
 ghost use Rattle.parser.specs.Opens.{Countable};
 ghost use Rattle.parser.specs.Machine.{depth_limit};

@@ -20,11 +20,6 @@ abbrev pub with_child : ℕ → List Open → List Open
 with_child i [] = []
 with_child i (o ∷ os) = record o { children = o.children + 1; first = option_or o.first (Some i) } ∷ os
 
--- whether the next node is the value of the innermost mapping's last key
-abbrev pub awaits_value : List Open → Bool
-awaits_value [] = false
-awaits_value (o ∷ os) = is_mapping o.collection && eqb (o.children % 2) 1
-
 -- whether an end of this kind ends the collection: it is of that kind, and no key is without its value (R4)
 unfoldable pub closes : Collection → Open → Bool
 closes Sequence o = not (is_mapping o.collection)

@@ -10,8 +10,7 @@ use Rattle.style.specs.Style.{style_number}
 use Rattle.event.specs.Read.{part_of}
 use Rattle.spans.specs.Scalar.{list_at, event_scalar, event_node}
 use Rattle.spans.proofs.SpanLaws.{offset_start, event_node_boundary}
-use Rattle.spans.specs.Collection.{awaits_value}
-use Rattle.parser.specs.Machine.{scalar_kept, on_scalar}
+use Rattle.parser.specs.Machine.{awaits_value, scalar_kept, on_scalar}
 use Rattle.parser.proofs.Pieces.{put_tail, free_zero, free_len}
 use Rattle.parser.proofs.Starts.{cursor_offset, cursor_boundary}
 use Rattle.parser.proofs.Turns.{root_refused, past_root, room_refused, in_room, moved_cursor, walk_counted, event_node_leaf}
