@@ -80,17 +80,19 @@ extern "C" {
 #define QUARTO_YAML_RECORD_WIDTH 14
 #define QUARTO_YAML_PIECE_WIDTH 4
 
-/* The largest text, or value of a call on one scalar, and the largest event bytes, in bytes; open collections; pieces in all. */
+/* The largest text, or value of a call on one scalar, and the largest event bytes, in bytes; open collections; pieces in all; markers of
+ * `quarto_yaml_cursor_travel`. */
 #define QUARTO_YAML_TEXT_LIMIT 1048576
 #define QUARTO_YAML_EVENTS_LIMIT 4194304
 #define QUARTO_YAML_DEPTH_LIMIT 64
 #define QUARTO_YAML_PIECE_LIMIT 4294967294u
+#define QUARTO_YAML_MARKERS_LIMIT 1048576
 
 /* What a call answers, and the place that comes with it: of 3 to 8 the number of the event, from 0. Sizes and UTF-8 come first, then
  * the events in order, each tested from 3 upward. There is no other number. */
 enum {
     QUARTO_YAML_OK = 0,
-    QUARTO_YAML_TOO_LONG = 1,        /* text, value or events above their limit. Place 0 */
+    QUARTO_YAML_TOO_LONG = 1,        /* text, value, events or markers above their limit. Place 0 */
     QUARTO_YAML_NOT_UTF8 = 2,        /* the text or the value. Place 0 */
     QUARTO_YAML_MALFORMED = 3,       /* unknown event or style, flag above 1, cut off, body short or overlong, not UTF-8 */
     QUARTO_YAML_MISMATCHED = 4,      /* an end that does not match the innermost open collection, or a key without value */
@@ -188,6 +190,27 @@ quarto_yaml_scalar_answer quarto_yaml_scalar(const uint8_t *text, size_t text_le
  * the text's length at or past its end). Otherwise 1 or 2, 0, 0.
  */
 quarto_yaml_answer quarto_yaml_scan_error(const uint8_t *text, size_t text_len, uint32_t index);
+
+/* ---- what a document costs */
+
+/* code 0 and what the call counts; otherwise a number of the table, and 0. */
+typedef struct {
+    uint32_t code;
+    uint64_t count;
+} quarto_yaml_count;
+
+/*
+ * How far the cursor travels: the character steps from one marker to the next. An index past the text stands for the text's end. The
+ * cursor starts at the text's start and goes straight from each index to the next, forward or back, a character a step; a text that is
+ * ASCII needs no cursor, and no step. Answers 0 and the steps, at most 2^40; with markers that never go back at most the text's
+ * characters. Otherwise 1 (the text, or more than QUARTO_YAML_MARKERS_LIMIT markers) or 2, and 0.
+ *
+ * The markers of a document are the marker indices of all its events in order, starts and ends too: `quarto_yaml_build` takes its cursor
+ * to each. Its time there is at most in proportion to the steps, and far less on the way forward, which it goes by 32 bytes at a time;
+ * back it takes each step. docs/PERFORMANCE.md has the time for a step. This call moves no cursor: its time is that of a look at each
+ * byte and each marker, however high the count.
+ */
+quarto_yaml_count quarto_yaml_cursor_travel(const uint8_t *text, size_t text_len, const uint32_t *markers, size_t markers_len);
 
 /*
  * ---- reading

@@ -6,6 +6,7 @@ use Rattle.parser.specs.Machine.{Outcome}
 use Rattle.parser.specs.Call.{table_row, records_after, pieces_after, record_of, building, scalar_call}
 use Rattle.quarto_yaml.specs.declared.build.Answered.{Answered}
 use Rattle.quarto_yaml.specs.declared.build.AnsweredScalar.{AnsweredScalar}
+use Rattle.quarto_yaml.specs.declared.count.Counted.{Counted}
 
 -- a row of the table as three numbers: a refusal has 0 after its place
 abbrev pub three : List ℕ → List ℕ
@@ -31,3 +32,7 @@ pub record ToldScalar (text : List ℕ) (index column style : ℕ) (empty_span :
   pub answer : answer_numbers r.answer ≡ three (table_row (scalar_outcome text index column style empty_span value lent_pieces))
   pub one_record : r.record ≡ node_numbers (record_of (scalar_outcome text index column style empty_span value lent_pieces))
   pub all_pieces : pieces ≡ pieces_after (length lent_pieces) (scalar_outcome text index column style empty_span value lent_pieces)
+
+-- a call that counts, as two numbers
+abbrev pub count_numbers : Counted → List ℕ
+count_numbers r = r.code ∷ r.count ∷ []
