@@ -1,4 +1,4 @@
-//! A file's one document, built.
+//! A file's one document: its events, and what the library builds of them.
 
 use crate::convert;
 use crate::failure::{Failure, Position};
@@ -28,8 +28,9 @@ pub struct Stretch<'a> {
     pub content: &'a str,
 }
 
-/// Builds the document of a file and hands it on.
-pub fn with_document<T>(bytes: &[u8], then: impl FnOnce(&Document) -> T) -> Result<T, Failure> {
+/// Parses the one document of a file, and hands on its text and its events. These end early, with the start of a collection that is one
+/// too deep, if there is one.
+pub fn with_events<T>(bytes: &[u8], then: impl FnOnce(&str, &[Event]) -> Result<T, Failure>) -> Result<T, Failure> {
     if bytes.len() > TEXT_LIMIT {
         return Err(Failure::new("too large: more than 1,048,576 bytes"));
     }
@@ -42,9 +43,16 @@ pub fn with_document<T>(bytes: &[u8], then: impl FnOnce(&Document) -> T) -> Resu
     if events.is_empty() {
         return Err(Failure::new("no document: the file is empty or has nothing but comments"));
     }
-    let bytes = encode(&events).map_err(|too_long| Failure::of_too_long(&too_long, text, &events))?;
-    let catalogue = build(text.as_bytes(), &bytes).map_err(|refusal| Failure::of_refusal(refusal, text, &events))?;
-    Ok(then(&Document::new(text, &catalogue, &events)))
+    then(text, &events)
+}
+
+/// Builds the document of a file and hands it on.
+pub fn with_document<T>(bytes: &[u8], then: impl FnOnce(&Document) -> T) -> Result<T, Failure> {
+    with_events(bytes, |text, events| {
+        let bytes = encode(events).map_err(|too_long| Failure::of_too_long(&too_long, text, events))?;
+        let catalogue = build(text.as_bytes(), &bytes).map_err(|refusal| Failure::of_refusal(refusal, text, events))?;
+        Ok(then(&Document::new(text, &catalogue, events)))
+    })
 }
 
 impl<'a> Document<'a> {

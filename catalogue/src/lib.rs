@@ -3,9 +3,11 @@
 pub mod convert;
 pub mod document;
 pub mod failure;
+pub mod input;
 pub mod json;
 pub mod libyaml;
 pub mod marked;
 pub mod quote;
 pub mod table;
 pub mod visible;
+pub mod words;

@@ -3,6 +3,7 @@
 use std::borrow::Cow;
 use std::ffi::OsStr;
 use std::fmt::Write;
+use std::io::{self, Write as _};
 
 /// Whether a terminal obeys a character or shows nothing of it: controls, separators of lines, format characters with those that set the
 /// direction, and the rest that Unicode lets a program leave out (Cc, Zl, Zp, Cf, Default_Ignorable_Code_Point). White space is shown.
@@ -38,6 +39,11 @@ pub fn visible_name(name: &OsStr) -> String {
         }
     }
     out
+}
+
+/// A line of the command on standard error, if that takes it.
+pub fn say(words: &str) {
+    let _ = writeln!(io::stderr(), "catalogue: {}", visible(words));
 }
 
 #[cfg(test)]

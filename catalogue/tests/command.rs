@@ -1,5 +1,7 @@
-//! The command as a user runs it: the shipped chapter in every form, and what it says of files that have no catalogue.
+//! The command as a user runs it: the shipped chapter in every form, how far the cursor travels, what it says of files that have no
+//! catalogue, and its words.
 
+use catalogue::convert::parse;
 use std::fs;
 use std::io::Write;
 use std::path::PathBuf;
@@ -18,7 +20,11 @@ fn run(arguments: &[&str]) -> Output {
 /// What it writes on standard output.
 #[track_caller]
 fn shown(arguments: &[&str]) -> String {
-    let output = run(arguments);
+    written(run(arguments))
+}
+
+#[track_caller]
+fn written(output: Output) -> String {
     assert!(output.status.success() && output.stderr.is_empty(), "{output:?}");
     String::from_utf8(output.stdout).unwrap()
 }
@@ -50,13 +56,24 @@ fn file(name: &str, bytes: &[u8]) -> String {
     path.into_os_string().into_string().unwrap()
 }
 
-/// Exit status 1, nothing on standard output, and one line on standard error: what follows the file's name.
+/// The forms of `show`.
+const FORMS: [&str; 3] = ["--table", "--json", "--marked"];
+
+/// Exit status 1, nothing on standard output, and one line on standard error, by every word: what follows the file's name.
 #[track_caller]
 fn refused(name: &str, bytes: &[u8]) -> String {
+    let words = refused_after(&["travel"], name, bytes);
+    assert_eq!(refused_after(&FORMS, name, bytes), words);
+    words
+}
+
+/// The same after each of these first arguments.
+#[track_caller]
+fn refused_after(firsts: &[&str], name: &str, bytes: &[u8]) -> String {
     let path = file(name, bytes);
     let mut words = Vec::new();
-    for form in ["--table", "--json", "--marked"] {
-        let output = run(&[form, &path]);
+    for first in firsts {
+        let output = run(&[first, &path]);
         assert_eq!(output.status.code(), Some(1));
         assert!(output.stdout.is_empty());
         let line = String::from_utf8(output.stderr).unwrap();
@@ -75,7 +92,9 @@ fn the_chapter_as_a_table() {
     let golden = include_str!("golden/chapter.table.txt");
     assert_eq!(shown_without_file(&[], b""), golden);
     assert_eq!(shown_without_file(&["--table"], b""), golden);
+    assert_eq!(shown_without_file(&["show"], b""), golden);
     assert_eq!(shown(&[CHAPTER]), golden);
+    assert_eq!(shown(&["show", "--table", CHAPTER]), golden);
 }
 
 #[test]
@@ -83,6 +102,7 @@ fn the_chapter_as_json_lines() {
     let golden = include_str!("golden/chapter.jsonl");
     assert_eq!(shown_without_file(&["--json"], b""), golden);
     assert_eq!(shown(&[CHAPTER, "--json"]), golden);
+    assert_eq!(shown(&["show", CHAPTER, "--json"]), golden);
 }
 
 #[test]
@@ -90,6 +110,7 @@ fn the_chapter_marked() {
     let golden = include_str!("golden/chapter.marked.txt");
     assert_eq!(shown_without_file(&["--marked"], b""), golden);
     assert_eq!(shown(&["--marked", "--", CHAPTER]), golden);
+    assert_eq!(shown(&["show", "--marked", "--", CHAPTER]), golden);
 }
 
 /// Two blank lines inside a plain scalar: its span is the value's length, four bytes of the seven.
@@ -144,6 +165,60 @@ fn standard_input() {
 fn standard_input_without_a_file() {
     assert_eq!(shown_without_file(&[], b"7"), include_str!("golden/chapter.table.txt"));
     assert_eq!(shown_without_file(&["--json"], b"["), include_str!("golden/chapter.jsonl"));
+}
+
+/// The distances from one marker of a text's events to the next, from the text's start, and its characters.
+fn travel_of(text: &str) -> String {
+    let parsed = parse(text).unwrap();
+    let (mut at, mut steps) = (0, 0);
+    for event in parsed.events() {
+        steps += u64::from(event.index().abs_diff(at));
+        at = event.index();
+    }
+    format!("{steps} steps, {} characters\n", text.chars().count())
+}
+
+#[test]
+fn the_travel_of_the_chapter() {
+    let text = fs::read_to_string(CHAPTER).unwrap();
+    let line = travel_of(&text);
+    assert_eq!(line, "713 steps, 699 characters\n");
+    assert_eq!(shown(&["travel", CHAPTER]), line);
+    assert_eq!(shown_without_file(&["travel"], b"7"), line);
+}
+
+/// What is expected is read off the text by the conventions: marker by marker the distances, and the characters.
+#[test]
+fn the_travel_of_a_file() {
+    let files = [
+        ("é: a", 1 + 1 + 3 + 1, 4),
+        ("é: ü\n€: 😀", 1 + 1 + 3 + 2 + 3 + 1, 9),
+        ("[é, {b: c}]", 1 + 3 + 1 + 3 + 1 + 1, 11),
+        ("é:\n  b: c\n", 1 + 1 + 6 + 1 + 3 + 2, 10),
+        ("- &x é\n- *x\n", 5 + 4 + 3, 12),
+        ("\u{feff}a: b", 2 + 1 + 3 + 1, 5),
+        ("é", 0, 1),
+    ];
+    for (i, (text, steps, characters)) in files.into_iter().enumerate() {
+        let line = format!("{steps} steps, {characters} characters\n");
+        assert_eq!(travel_of(text), line, "{text}");
+        assert_eq!(shown(&["travel", &file(&format!("travel-{i}.yaml"), text.as_bytes())]), line);
+        assert_eq!(written(run_with_input(&["travel", "-"], text.as_bytes())), line);
+    }
+    let ascii = "a:\n  b: c\n";
+    assert_eq!(travel_of(ascii), "14 steps, 10 characters\n");
+    assert_eq!(shown(&["travel", &file("travel-ascii.yaml", ascii.as_bytes())]), "0 steps, 10 characters\n");
+}
+
+#[cfg(target_os = "linux")]
+#[test]
+fn standard_output_that_is_full() {
+    for arguments in [&["--help"][..], &["show", CHAPTER], &["travel", CHAPTER]] {
+        let full = fs::File::options().write(true).open("/dev/full").unwrap();
+        let output = command(arguments).stdout(full).stderr(Stdio::piped()).output().unwrap();
+        let line = "catalogue: standard output: No space left on device (os error 28)\n";
+        assert_eq!((output.status.code(), String::from_utf8(output.stderr).unwrap().as_str()), (Some(1), line));
+    }
 }
 
 #[test]
@@ -207,13 +282,30 @@ fn sizes() {
     assert!(shown(&[&file("largest.yaml", &bytes)]).contains("2 scalars"));
     bytes.push(b'x');
     assert_eq!(refused("larger.yaml", &bytes), " too large: more than 1,048,576 bytes");
-    assert_eq!(
-        refused("events.yaml", &b"-\n".repeat(300_000)),
-        " too large: its events take more than 4,194,304 bytes"
-    );
-    let long = format!("a: b\nc: '{}'\n", "d".repeat(70_000));
+}
+
+/// Of events that a build does not take the markers still have their travel.
+#[test]
+fn sizes_of_events() {
+    let words = " too large: its events take more than 4,194,304 bytes";
+    assert_eq!(refused_after(&FORMS, "events.yaml", &b"-\n".repeat(300_000)), words);
+    assert_eq!(shown(&["travel", &file("events.yaml", &b"-\n".repeat(300_000))]), "0 steps, 600000 characters\n");
+    let long = format!("é: b\nc: '{}'\n", "d".repeat(70_000));
     let words = "2:4: a value or tag here takes 70011 bytes of its event, which has room for 65,535";
-    assert_eq!(refused("value.yaml", long.as_bytes()), words);
+    assert_eq!(refused_after(&FORMS, "value.yaml", long.as_bytes()), words);
+    // to the first colon, back, and on to the end: 70,011 characters
+    assert_eq!(shown(&["travel", &file("value.yaml", long.as_bytes())]), "70013 steps, 70011 characters\n");
+}
+
+/// Five events in four characters: as many as the library takes, and one more. The markers never fall, so the steps are the way to the
+/// last one, on the bracket at the end.
+#[test]
+fn as_many_events_as_there_can_be() {
+    let text = |rest: &str| format!("[é,{}{rest}]", "[]:,".repeat(209_714));
+    let most = file("most.yaml", text("a,a,a").as_bytes());
+    assert_eq!(shown(&["travel", &most]), "838864 steps, 838865 characters\n");
+    let words = " too large: it has more than 1,048,576 events";
+    assert_eq!(refused_after(&["travel"], "more.yaml", text("a,a,a,a").as_bytes()), words);
 }
 
 #[test]
@@ -240,17 +332,81 @@ fn files_that_cannot_be_read() {
     assert!(String::from_utf8(folder.stderr).unwrap().ends_with(": cannot be read: Is a directory (os error 21)\n"));
 }
 
+/// Exit status 2, nothing on standard output, and the words of one line on standard error.
+#[track_caller]
+fn wrong(arguments: &[&str]) -> String {
+    let output = run(arguments);
+    assert_eq!((output.status.code(), output.stdout.len()), (Some(2), 0), "{output:?}");
+    let line = String::from_utf8(output.stderr).unwrap();
+    let words = line.strip_prefix("catalogue: ").and_then(|rest| rest.strip_suffix(" says more\n")).expect(&line);
+    assert!(!words.contains('\n'));
+    words.to_string()
+}
+
 #[test]
 fn arguments() {
-    let refused = |arguments: &[&str]| {
-        let output = run(arguments);
-        assert_eq!((output.status.code(), output.stdout.len()), (Some(2), 0));
-        String::from_utf8(output.stderr).unwrap()
-    };
-    assert_eq!(refused(&["--csv"]), "catalogue: unknown option --csv; --help says more\n");
-    assert_eq!(refused(&["--\x1b[2J\n"]), "catalogue: unknown option --<U+001B>[2J<U+000A>; --help says more\n");
-    assert_eq!(refused(&["a", "b"]), "catalogue: more than one file; --help says more\n");
-    let forms = "catalogue: more than one of --table, --json and --marked; --help says more\n";
-    assert_eq!(refused(&["--json", "--table"]), forms);
-    assert!(shown(&["--help"]).starts_with("usage: catalogue "));
+    assert_eq!(wrong(&["--csv"]), "unknown option --csv; --help");
+    assert_eq!(wrong(&["--\x1b[2J\n"]), "unknown option --<U+001B>[2J<U+000A>; --help");
+    assert_eq!(wrong(&["a", "b"]), "more than one file; --help");
+    assert_eq!(wrong(&["--json", "--table"]), "more than one of --table, --json and --marked; --help");
+}
+
+#[test]
+fn arguments_of_a_word() {
+    assert_eq!(wrong(&["travel", "--json", "a"]), "travel has no option --json; travel --help");
+    assert_eq!(wrong(&["travel", "a", "--\u{202e}"]), "travel has no option --<U+202E>; travel --help");
+    assert_eq!(wrong(&["show", "--csv"]), "show has no option --csv; show --help");
+    assert_eq!(wrong(&["travel", "a", "b"]), "more than one file; travel --help");
+    assert_eq!(wrong(&["show", "a", "b"]), "more than one file; show --help");
+    assert_eq!(wrong(&["show", "--json", "--json"]), "more than one of --table, --json and --marked; show --help");
+}
+
+#[test]
+fn a_word_that_does_not_come_first() {
+    let words = |name| format!("{name} is a word, and a word comes first; a file of this name is ./{name}; --help");
+    assert_eq!(wrong(&["--json", "travel"]), words("travel"));
+    assert_eq!(wrong(&[CHAPTER, "travel"]), words("travel"));
+    assert_eq!(wrong(&["--table", "show", CHAPTER]), words("show"));
+    assert_eq!(wrong(&["--csv", "travel"]), "unknown option --csv; --help");
+}
+
+#[test]
+fn files_that_have_the_name_of_a_word() {
+    let folder = PathBuf::from(env!("CARGO_TARGET_TMPDIR")).join("words");
+    fs::create_dir_all(&folder).unwrap();
+    for name in ["show", "travel", "--json", "-"] {
+        fs::write(folder.join(name), format!("é {name}")).unwrap();
+    }
+    let run = |arguments: &[&str]| written(command(arguments).current_dir(&folder).output().unwrap());
+    for name in ["show", "travel", "--json", "-"] {
+        let (path, content) = (format!("./{name}"), format!("= 0..{}", name.len() + 3));
+        assert!(run(&["show", &path]).contains(&content) && run(&[&path]).contains(&content));
+        assert_eq!(run(&["travel", &path]), format!("0 steps, {} characters\n", name.len() + 2));
+    }
+    // behind a word each name is a file's, and behind -- an option's as well
+    for name in ["show", "travel"] {
+        for (given, as_path) in [("show", "show"), ("--", "show"), ("travel", "travel")] {
+            assert_eq!(run(&[given, name]), run(&[as_path, &format!("./{name}")]));
+        }
+        assert_eq!(run(&["--json", "--", name]), run(&["show", "--json", name]));
+    }
+    assert_eq!(run(&["travel", "--", "--json"]), "0 steps, 8 characters\n");
+    assert_eq!(run(&["--", "--json"]), run(&["show", "./--json"]));
+}
+
+#[test]
+fn help() {
+    let general = shown(&["--help"]);
+    let (show, travel) = ("catalogue [show] [--table | --json | --marked] [FILE]\n", "catalogue travel [FILE]\n");
+    assert!(general.starts_with(&format!("usage: {show}       {travel}\n  show      the ")), "{general}");
+    assert!(general.contains("\n  travel    how "), "{general}");
+    for arguments in [&["-h"][..], &["--json", "--help"], &[CHAPTER, "-h"], &["--help", "travel"]] {
+        assert_eq!(shown(arguments), general);
+    }
+    for (word, usage, options) in [("show", show, &FORMS[..]), ("travel", travel, &[])] {
+        let own = shown(&[word, "--help"]);
+        assert!(own.starts_with(&format!("usage: {usage}\n")), "{own}");
+        assert!(options.iter().all(|option| own.contains(&format!("\n  {option} "))), "{own}");
+        assert_eq!(shown(&[word, CHAPTER, "-h"]), own);
+    }
 }

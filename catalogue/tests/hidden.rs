@@ -22,9 +22,9 @@ fn path(name: impl AsRef<OsStr>) -> PathBuf {
     PathBuf::from(env!("CARGO_TARGET_TMPDIR")).join(name.as_ref())
 }
 
-fn run(form: &str, file: &OsStr) -> Output {
+fn run(first: &str, file: &OsStr) -> Output {
     let mut command = Command::new(env!("CARGO_BIN_EXE_catalogue"));
-    command.arg(form).arg(file).stdin(Stdio::null()).output().unwrap()
+    command.arg(first).arg(file).stdin(Stdio::null()).output().unwrap()
 }
 
 /// What is dangerous, as a list of its own beside the command's.
@@ -98,6 +98,15 @@ fn in_the_marked_file() {
     assert_eq!(out.lines().take(expected.len()).collect::<Vec<_>>(), expected);
 }
 
+/// The line on standard output has numbers alone.
+#[test]
+fn in_the_travel() {
+    let out = shown("travel", NASTY);
+    let numbers = out.strip_suffix(" characters\n").and_then(|rest| rest.split_once(" steps, ")).unwrap();
+    assert!([numbers.0, numbers.1].iter().all(|number| number.bytes().all(|byte| byte.is_ascii_digit())), "{out:?}");
+    assert_eq!(numbers.1, NASTY.chars().count().to_string());
+}
+
 /// In colours, as on a terminal: no escape but those that set a colour.
 #[test]
 fn in_colours() {
@@ -115,8 +124,8 @@ fn in_colours() {
 
 #[track_caller]
 fn refused(name: &OsStr, expected: &str) {
-    for form in ["--table", "--json", "--marked"] {
-        let output = run(form, name);
+    for first in ["--table", "--json", "--marked", "travel"] {
+        let output = run(first, name);
         assert_eq!((output.status.code(), output.stdout.len()), (Some(1), 0));
         let line = String::from_utf8(output.stderr).unwrap();
         assert!(line.ends_with(expected), "{line:?}");
@@ -158,4 +167,16 @@ fn in_a_name_that_is_no_utf8() {
     use std::os::unix::ffi::OsStringExt;
     let name = path(OsString::from_vec(b"\xE9\x1b".to_vec()));
     refused(name.as_os_str(), "/<E9><U+001B>: cannot be read: No such file or directory (os error 2)\n");
+}
+
+#[cfg(unix)]
+#[test]
+fn in_an_option_that_is_no_utf8() {
+    use std::os::unix::ffi::OsStringExt;
+    for word in ["show", "travel"] {
+        let output = run(word, &OsString::from_vec(b"-\xE9\x1b".to_vec()));
+        assert_eq!((output.status.code(), output.stdout.len()), (Some(2), 0));
+        let line = format!("catalogue: {word} has no option -<E9><U+001B>; {word} --help says more\n");
+        assert_eq!(String::from_utf8(output.stderr).unwrap(), line);
+    }
 }

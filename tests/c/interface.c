@@ -1,13 +1,13 @@
 /* Every exported call against known numbers: the worked cases K1 to K12 of the scope document, the worked records of
  * crates/node/specs/Examples.antt, each row of the table, what docs/DIFFERENCES.md says that an entry can get wrong and which spans are
- * measured, where scalars start, parents beside children, and the layout of every struct. Lent buffers hold another number beforehand
- * and have guards on both sides. Exit code 0 if all is as expected. */
+ * measured, where scalars start, parents beside children, how far the cursor travels, and the layout of every struct. Lent buffers hold
+ * another number beforehand and have guards on both sides. Exit code 0 if all is as expected. */
 #include "quarto_yaml.h"
 #include <stdio.h>
 #include <stdlib.h>
 #include <string.h>
 
-/* ---- layout: the fields in their order, each four bytes, nothing between them */
+/* ---- layout: the fields in their order, each four bytes, nothing between them; a count has eight, from byte 8 */
 
 #define FIELD(type, field, place) _Static_assert(offsetof(type, field) == 4 * (place), #type "." #field)
 #define SIZE(type, numbers) _Static_assert(sizeof(type) == 4 * (numbers), #type)
@@ -43,6 +43,9 @@ SIZE(quarto_yaml_piece_list, 3);
 FIELD(quarto_yaml_piece_list, present, 0);
 FIELD(quarto_yaml_piece_list, first, 1);
 FIELD(quarto_yaml_piece_list, count, 2);
+SIZE(quarto_yaml_count, 4);
+FIELD(quarto_yaml_count, code, 0);
+FIELD(quarto_yaml_count, count, 2);
 
 /* ---- the means */
 
@@ -390,6 +393,71 @@ static void errors(void) {
     CHECK(told(quarto_yaml_scan_error(NULL, 0, 0), 0, 0, 0));
 }
 
+/* ---- quarto_yaml_cursor_travel */
+
+_Static_assert(QUARTO_YAML_MARKERS_LIMIT == 1048576, "QUARTO_YAML_MARKERS_LIMIT");
+
+/* The call on copies of text and markers (none of NULL), which it leaves as they are, and what stands before and after them. */
+static bool travels(const uint8_t *text, size_t text_len, const uint32_t *markers, size_t markers_len, uint32_t code,
+                    uint64_t count) {
+    static uint8_t bytes[1 + QUARTO_YAML_TEXT_LIMIT + 2];
+    static uint32_t numbers[1 + QUARTO_YAML_MARKERS_LIMIT + 2];
+    uint8_t *t = bytes + 1;
+    uint32_t *m = numbers + 1;
+    memcpy(t, text == NULL ? bytes : text, text_len);
+    memcpy(m, markers == NULL ? numbers : markers, markers_len * sizeof *m);
+    bytes[0] = t[text_len] = 0xA5;
+    numbers[0] = m[markers_len] = BEFORE;
+    quarto_yaml_count a = quarto_yaml_cursor_travel(text == NULL ? NULL : t, text_len, markers == NULL ? NULL : m, markers_len);
+    bool text_kept = bytes[0] == 0xA5 && t[text_len] == 0xA5 && (text == NULL || memcmp(t, text, text_len) == 0);
+    bool markers_kept = numbers[0] == BEFORE && m[markers_len] == BEFORE
+                        && (markers == NULL || memcmp(m, markers, markers_len * sizeof *m) == 0);
+    return text_kept && markers_kept && a.code == code && a.count == count;
+}
+
+static void steps(void) {
+    /* `é: a`: forward, back, where it stands; an index past the text is its end; the markers of its events */
+    CHECK(travels(BYTES("\xC3\xA9: a"), NUMBERS(3), 0, 3) && travels(BYTES("\xC3\xA9: a"), NUMBERS(0, 1, 3, 4), 0, 4));
+    CHECK(travels(BYTES("\xC3\xA9: a"), NUMBERS(3, 1), 0, 5) && travels(BYTES("\xC3\xA9: a"), NUMBERS(3, 3, 3), 0, 3));
+    CHECK(travels(BYTES("\xC3\xA9: a"), NUMBERS(4, 0, 4, 0), 0, 16));
+    CHECK(travels(BYTES("\xC3\xA9: a"), NUMBERS(9, 4, NONE), 0, 4));
+    CHECK(travels(BYTES("\xC3\xA9: a"), NUMBERS(NONE, 1, 9), 0, 10));
+    CHECK(travels(BYTES("\xC3\xA9: a"), NUMBERS(1, 0, 3, 4), 0, 6));
+    /* characters of 2, 3 and 4 bytes, the smallest and largest among them */
+    CHECK(travels(BYTES("\xC2\x80"), NUMBERS(1, 0), 0, 2) && travels(BYTES("\xEF\xBB\xBF"), NUMBERS(1, 0, 7), 0, 3));
+    CHECK(travels(BYTES("\xE2\x82\xAC\xF4\x8F\xBF\xBF"), NUMBERS(2, 1, 2), 0, 4));
+    /* ASCII needs no cursor; no markers, no text, and neither */
+    CHECK(travels(BYTES("ab: c"), NUMBERS(5, 0, 3, NONE), 0, 0) && travels(BYTES("\x7F"), NUMBERS(1, 0), 0, 0));
+    CHECK(travels(BYTES("\xC3\xA9: a"), NULL, 0, 0, 0) && travels(NULL, 0, NUMBERS(0, 5, 0, NONE), 0, 0));
+    CHECK(travels(NULL, 0, NULL, 0, 0, 0));
+    /* not UTF-8: a byte that goes on, a character cut off, a byte that is in none, a surrogate */
+    CHECK(travels(BYTES("\x80"), NUMBERS(1, 0), QUARTO_YAML_NOT_UTF8, 0));
+    CHECK(travels(BYTES("\xC3"), NULL, 0, QUARTO_YAML_NOT_UTF8, 0));
+    CHECK(travels(BYTES("a\xFF"), NUMBERS(1), QUARTO_YAML_NOT_UTF8, 0));
+    CHECK(travels(BYTES("\xED\xA0\x80"), NULL, 0, QUARTO_YAML_NOT_UTF8, 0));
+}
+
+/* The longest text and the most markers, and one more; sizes come before UTF-8. */
+static void most_steps(void) {
+    static uint8_t text[QUARTO_YAML_TEXT_LIMIT + 1];
+    static uint32_t to_and_fro[QUARTO_YAML_MARKERS_LIMIT + 1];
+    const size_t longest = QUARTO_YAML_TEXT_LIMIT, most = QUARTO_YAML_MARKERS_LIMIT;
+    memset(text, 'a', sizeof text);
+    for (size_t i = 0; i < most; i += 2)
+        to_and_fro[i] = NONE;
+    CHECK(travels(text, longest, to_and_fro, most, 0, 0));
+    CHECK(travels(text, longest + 1, NULL, 0, QUARTO_YAML_TOO_LONG, 0));
+    CHECK(travels(NULL, 0, to_and_fro, most + 1, QUARTO_YAML_TOO_LONG, 0));
+    memcpy(text, "\xC3\xA9", 2);
+    CHECK(travels(text, longest, to_and_fro, most, 0, UINT64_C(1048576) * 1048575));
+    CHECK(travels(text, longest, to_and_fro, most + 1, QUARTO_YAML_TOO_LONG, 0));
+    CHECK(travels(text, longest + 1, to_and_fro, most, QUARTO_YAML_TOO_LONG, 0));
+    text[longest] = text[longest - 1] = 0xFF;
+    CHECK(travels(text, longest, to_and_fro, most, QUARTO_YAML_NOT_UTF8, 0));
+    CHECK(travels(text, longest, to_and_fro, most + 1, QUARTO_YAML_TOO_LONG, 0));
+    CHECK(travels(text, longest + 1, to_and_fro, most, QUARTO_YAML_TOO_LONG, 0));
+}
+
 /* ---- the accessors, over the records of `k: [x, y]` and `k: z` as one hash, the span of `y` an assumed one */
 
 #define UP(parent, measured, kind, start, end, subtree, p, q)                                                                            \
@@ -495,6 +563,8 @@ int main(void) {
     starts();
     parents();
     errors();
+    steps();
+    most_steps();
     accessors();
     printf("%d checked, %d failed\n", checked, failed);
     return failed == 0 ? EXIT_SUCCESS : EXIT_FAILURE;

@@ -1,4 +1,4 @@
-//! The calls that build.
+//! The calls that are given a text.
 
 use crate::event::Style;
 use crate::record::{PIECE_WIDTH, PieceList, Pieces, RECORD_WIDTH, Record, Span};
@@ -12,6 +12,8 @@ pub const TEXT_LIMIT: usize = 1_048_576;
 pub const EVENTS_LIMIT: usize = 4_194_304;
 /// The most collections that can be open at once.
 pub const DEPTH_LIMIT: usize = 64;
+/// The most markers of [`cursor_travel`].
+pub const MARKERS_LIMIT: usize = 1_048_576;
 
 /// How many nodes and pieces a build left at the front of the buffers.
 #[derive(Clone, Copy, Debug, PartialEq, Eq)]
@@ -177,9 +179,49 @@ pub fn scan_error(text: &[u8], index: u32) -> Result<Span, Refusal> {
     Ok(Span { start: answer.first, end: answer.second })
 }
 
+/// How far the cursor of a build travels: the character steps from one marker to the next.
+///
+/// An index past the text stands for the text's end. The cursor starts at the text's start and goes straight from each index to the next,
+/// forward or back, a character a step; a text that is ASCII needs no cursor, and no step. With markers that never go back there are at
+/// most as many steps as the text has characters.
+///
+/// The markers of a document are the indices of all its events in order, the ends of collections too: [`build`] takes its cursor to each.
+/// This call moves no cursor: its time is that of a look at each byte and each marker.
+///
+/// ```
+/// use quarto_yaml::cursor_travel;
+/// use quarto_yaml::event::{Event, Style};
+///
+/// let text = "é: a";
+/// let scalar = |index, value| {
+///     Event::Scalar { index, column: index, style: Style::Plain, empty_span: false, tag: None, value }
+/// };
+/// let events = [
+///     Event::MappingStart { index: 1, tag: None },
+///     scalar(0, "é"),
+///     scalar(3, "a"),
+///     Event::MappingEnd { index: 4 },
+/// ];
+/// let markers: Vec<u32> = events.iter().map(Event::index).collect();
+///
+/// // To the colon, back to the key, on to the value, and to the end.
+/// assert_eq!(cursor_travel(text.as_bytes(), &markers)?, 1 + 1 + 3 + 1);
+/// # Ok::<(), quarto_yaml::Refusal>(())
+/// ```
+pub fn cursor_travel(text: &[u8], markers: &[u32]) -> Result<u64, Refusal> {
+    let sys::Count { code, count } = sys::cursor_travel(text, markers);
+    accepted(code, 0)?;
+    Ok(count)
+}
+
 fn answered(answer: sys::Answer) -> Result<sys::Answer, Refusal> {
-    match answer.code {
-        0 => Ok(answer),
-        code => Err(Refusal::new(code, answer.first).expect("the table has the numbers 0 to 9")),
+    accepted(answer.code, answer.first)?;
+    Ok(answer)
+}
+
+fn accepted(code: u32, place: u32) -> Result<(), Refusal> {
+    match code {
+        0 => Ok(()),
+        code => Err(Refusal::new(code, place).expect("the table has the numbers 0 to 9")),
     }
 }

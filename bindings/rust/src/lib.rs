@@ -3,7 +3,7 @@
 //! From the text of a YAML file and the events of a YAML parser, [`build`] makes a record for each node (what it is, which bytes of the
 //! file it occupies, where its tag is written, which node is its parent) and the pieces of each scalar: from which bytes of the file every
 //! stretch of its value came. Nothing is assumed of the input: what is no sound document is refused with a [`Refusal`]. [`tree`] has an
-//! example of going up and down.
+//! example of going up and down; [`cursor_travel`] counts beforehand how far the cursor of a build goes.
 //!
 //! ```
 //! use quarto_yaml::event::{Event, Style, encode};
@@ -46,7 +46,7 @@ pub mod refusal;
 mod sys;
 pub mod tree;
 
-pub use call::{Built, Catalogue, Scalar, ScalarEvent, build, build_in, scalar, scalar_in, scan_error};
+pub use call::{Built, Catalogue, Scalar, ScalarEvent, build, build_in, cursor_travel, scalar, scalar_in, scan_error};
 pub use event::{Event, Style, Tag};
 pub use record::{Kind, Payload, Piece, PieceKind, Pieces, Record, Span, TagInfo};
 pub use refusal::Refusal;

@@ -6,7 +6,7 @@ use std::fmt;
 /// Why a call was refused, with its place. Events are counted from 0.
 #[derive(Clone, Copy, Debug, PartialEq, Eq)]
 pub enum Refusal {
-    /// 1: the text, or the value of a call on one scalar, or the events are above their limit.
+    /// 1: the text, the value of a call on one scalar, the events, or the markers of a call on the cursor's travel are above their limit.
     TooLong,
     /// 2: the text, or the value of a call on one scalar, is not UTF-8.
     NotUtf8,
@@ -97,7 +97,9 @@ impl Refusal {
 impl fmt::Display for Refusal {
     fn fmt(&self, f: &mut fmt::Formatter<'_>) -> fmt::Result {
         match self {
-            Refusal::TooLong => f.write_str("text or value above 1,048,576 bytes, or events above 4,194,304 bytes"),
+            Refusal::TooLong => f.write_str(
+                "text or value above 1,048,576 bytes, events above 4,194,304 bytes, or more than 1,048,576 markers",
+            ),
             Refusal::NotUtf8 => f.write_str("text or value is not UTF-8"),
             Refusal::Malformed { event } => write!(f, "event {event} is malformed"),
             Refusal::Mismatched { event } => {

@@ -19,6 +19,13 @@ pub(crate) struct ScalarAnswer {
     pub(crate) record: [u32; RECORD_WIDTH],
 }
 
+/// `code` 0 and what the call counts, or a number of the table and 0.
+#[repr(C)]
+pub(crate) struct Count {
+    pub(crate) code: u32,
+    pub(crate) count: u64,
+}
+
 #[repr(C)]
 pub(crate) struct Entry {
     pub(crate) present: u32,
@@ -79,6 +86,7 @@ unsafe extern "C" {
         pieces_len: usize,
     ) -> ScalarAnswer;
     fn quarto_yaml_scan_error(text: *const u8, text_len: usize, index: u32) -> Answer;
+    fn quarto_yaml_cursor_travel(text: *const u8, text_len: usize, markers: *const u32, markers_len: usize) -> Count;
     fn quarto_yaml_root(records: *const u32, records_len: usize, nodes: u32) -> u32;
     fn quarto_yaml_is_scalar(records: *const u32, records_len: usize, n: u32) -> u32;
     fn quarto_yaml_is_array(records: *const u32, records_len: usize, n: u32) -> u32;
@@ -149,6 +157,11 @@ pub(crate) fn scalar(
 pub(crate) fn scan_error(text: &[u8], index: u32) -> Answer {
     // SAFETY: the pointer goes with the length of its slice, which is only read.
     unsafe { quarto_yaml_scan_error(text.as_ptr(), text.len(), index) }
+}
+
+pub(crate) fn cursor_travel(text: &[u8], markers: &[u32]) -> Count {
+    // SAFETY: each pointer goes with the length of its slice, and both slices are only read.
+    unsafe { quarto_yaml_cursor_travel(text.as_ptr(), text.len(), markers.as_ptr(), markers.len()) }
 }
 
 /// An accessor over the records alone.

@@ -1,10 +1,10 @@
-//! The building calls through the archive: cases of the scope document, every refusal, and the room that is lent.
+//! The calls over a text through the archive: cases of the scope document, every refusal, the room that is lent, and the cursor's travel.
 
-use quarto_yaml::call::{EVENTS_LIMIT, TEXT_LIMIT, piece_room, record_room};
+use quarto_yaml::call::{EVENTS_LIMIT, MARKERS_LIMIT, TEXT_LIMIT, piece_room, record_room};
 use quarto_yaml::event::{Event, Style, Tag, encode};
 use quarto_yaml::record::NONE;
 use quarto_yaml::{
-    Kind, Payload, PieceKind, Refusal, ScalarEvent, Span, build, build_in, scalar, scalar_in, scan_error,
+    Kind, Payload, PieceKind, Refusal, ScalarEvent, Span, build, build_in, cursor_travel, scalar, scalar_in, scan_error,
 };
 
 fn event(index: u32, style: Style, value: &str) -> Event<'_> {
@@ -274,4 +274,78 @@ fn the_character_at_a_marker() {
     assert_eq!(scan_error(text, 9), Ok(span(5, 5)));
     assert_eq!(scan_error(b"\x80", 0), Err(Refusal::NotUtf8));
     assert_eq!(scan_error(&vec![b'a'; TEXT_LIMIT + 1], 0), Err(Refusal::TooLong));
+}
+
+#[test]
+fn the_travel_of_the_cursor() {
+    let steps = |text: &str, markers: &[u32]| cursor_travel(text.as_bytes(), markers).unwrap();
+    // forward, back, and where it stands
+    assert_eq!(steps("é: a", &[]), 0);
+    assert_eq!(steps("é: a", &[3]), 3);
+    assert_eq!(steps("é: a", &[0, 1, 3, 4]), 4);
+    assert_eq!(steps("é: a", &[3, 3, 3]), 3);
+    assert_eq!(steps("é: a", &[3, 1]), 3 + 2);
+    assert_eq!(steps("é: a", &[4, 0, 4, 0]), 16);
+    // the markers of its events: of the mapping, the key, the value and the end
+    assert_eq!(steps("é: a", &[1, 0, 3, 4]), 1 + 1 + 3 + 1);
+    // an index past the text is its end, so these three are one place
+    assert_eq!(steps("é: a", &[9, 4, u32::MAX]), 4);
+    assert_eq!(steps("é: a", &[u32::MAX, 1, 9]), 4 + 3 + 3);
+    // characters, not bytes
+    assert_eq!(steps("€😀", &[2, 1, 2]), 2 + 1 + 1);
+    assert_eq!(steps("\u{feff}", &[1, 0, 7]), 1 + 1 + 1);
+    // a text that is ASCII needs no cursor
+    assert_eq!(steps("ab: c", &[5, 0, 3, u32::MAX]), 0);
+    assert_eq!(steps("\u{7f}", &[1, 0]), 0);
+    assert_eq!(steps("\u{80}", &[1, 0]), 2);
+    assert_eq!(steps("", &[0, 5, 0, u32::MAX]), 0);
+    assert_eq!(steps("", &[]), 0);
+}
+
+/// Every sequence of three markers, up to two past the text.
+#[test]
+fn the_travel_is_the_sum_of_the_distances() {
+    for text in ["é", "aé", "é: a", "日本: ü", "a: \"\u{10ffff}\""] {
+        let end = text.chars().count() as u32;
+        let markers: Vec<u32> = (0..end + 3).collect();
+        for first in &markers {
+            for second in &markers {
+                for third in &markers {
+                    let [at, then, last] = [first, second, third].map(|marker| (*marker).min(end));
+                    let expected = at + at.abs_diff(then) + then.abs_diff(last);
+                    let found = cursor_travel(text.as_bytes(), &[*first, *second, *third]);
+                    assert_eq!(found, Ok(expected.into()), "{text:?} {first} {second} {third}");
+                    assert!(expected <= end || first > second || second > third);
+                }
+            }
+        }
+    }
+}
+
+/// The longest text and the most markers, to and fro: a count of 40 bits.
+#[test]
+fn the_longest_travel() {
+    let mut text = "é".as_bytes().to_vec();
+    text.resize(TEXT_LIMIT, b'a');
+    let end = TEXT_LIMIT as u32 - 1;
+    let markers: Vec<u32> = [end, 0].into_iter().cycle().take(MARKERS_LIMIT).collect();
+    assert_eq!(cursor_travel(&text, &markers), Ok(1_048_576 * 1_048_575));
+    assert_eq!(cursor_travel(&text, &vec![end; MARKERS_LIMIT]), Ok(1_048_575));
+}
+
+#[test]
+fn the_travel_is_refused() {
+    let (long, many) = (vec![b'a'; TEXT_LIMIT + 1], vec![0; MARKERS_LIMIT + 1]);
+    assert_eq!((long.len(), many.len()), (1_048_577, 1_048_577));
+    assert_eq!(cursor_travel(&long[1..], &many[1..]), Ok(0));
+    assert_eq!(cursor_travel(&long, &[]), Err(Refusal::TooLong));
+    assert_eq!(cursor_travel(b"", &many), Err(Refusal::TooLong));
+    assert_eq!(cursor_travel("é".as_bytes(), &many), Err(Refusal::TooLong));
+    for text in [&b"\x80"[..], b"\xC3", b"a\xFF", b"\xED\xA0\x80"] {
+        assert_eq!(cursor_travel(text, &[]), Err(Refusal::NotUtf8));
+        assert_eq!(cursor_travel(text, &[1, 0]), Err(Refusal::NotUtf8));
+        assert_eq!(cursor_travel(text, &many), Err(Refusal::TooLong), "sizes come first");
+    }
+    assert_eq!(cursor_travel(&vec![0xFF; TEXT_LIMIT + 1], &[]), Err(Refusal::TooLong));
+    assert_eq!(cursor_travel(&vec![0xFF; TEXT_LIMIT], &[]), Err(Refusal::NotUtf8));
 }

@@ -1,4 +1,5 @@
--- The calls that read a text, in 32-bit numbers: document 01's number and two values, always three, and every lent number afterwards.
+-- The calls that read a text, in numbers: document 01's number with two values, always three, or with a count; and every lent number
+-- afterwards.
 use Rattle.std.specs.Prelude.{◌≡◌, ℕ, Bool, List, [], ◌∷◌, ◌++◌, length, take}
 use Rattle.records.specs.Record.{node_numbers}
 use Rattle.spans.specs.Scalar.{mark}

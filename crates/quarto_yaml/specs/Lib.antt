@@ -4,7 +4,7 @@
 pub mod None
 -- several numbers, or none
 pub mod Found
--- the three numbers of an answer, and what the calls that read a text promise
+-- the numbers of an answer, and what the calls that read a text promise
 pub mod Answer
 -- Arguments: the lemmas behind the statements.
 -- what fits 32 bits
