@@ -1,7 +1,7 @@
 -- The cursor by single steps: there is a way from any place to any other, and every way has as many steps as they are apart. And a marker
 -- that moves by one.
 use Rattle.std.specs.Prelude.{◌≡◌, refl, List, [], ◌∷◌, ◌++◌, ℕ, zero, suc, ◌+◌, ◌-◌, ◌≤◌, ◌<◌, min, cond, Bool, true, false, ltb, map, length, take, drop, get_or}
-use Rattle.std.proofs.Common.{sym, ◌∙◌, ap, subst, arith, take-suc, take-append-drop, drop-cons, append-nil}
+use Rattle.std.proofs.Common.{sym, ◌∙◌, ap, subst, arith, add-one, take-suc, take-append-drop, drop-cons, append-nil}
 use Rattle.utf8.specs.Utf8.{ScalarValue, ScalarValues, Utf8, encode, encode_all}
 use Rattle.utf8.specs.Characters.{codes}
 use Rattle.utf8.specs.Tests.{by_order}
@@ -132,12 +132,9 @@ encode_few c = few (ltb c 0x80) _ _ (omega arith) (few (ltb c 0x800) _ _ (omega 
 pub moves_by_one : EveryMarker
 moves_by_one s u k = by_order k (length (codes s)) inside outside
   where
-    one : (k : ℕ) → k + 1 ≡ suc k
-    one k = omega arith
-
     inside : k < length (codes s) → MovesByOne s k
     inside h =
-        let next : byte_offset s (k + 1) ≡ byte_offset s k + length (encode (get_or (codes s) k 0)) = rw (one k) (offset_next s k h) in
+        let next : byte_offset s (k + 1) ≡ byte_offset s k + length (encode (get_or (codes s) k 0)) = rw (add-one k) (offset_next s k h) in
         let few = encode_few (get_or (codes s) k 0) in
         let some = encode_some (get_or (codes s) k 0) (scalar_at u k h) in
         record { most = omega arith; least = λ l. omega arith; at_end = λ l. absurd (omega arith) }

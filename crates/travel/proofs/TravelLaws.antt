@@ -1,6 +1,6 @@
 -- The laws of the distances between successive indices, and of how many characters a text has.
 use Rattle.std.specs.Prelude.{◌≡◌, List, [], ◌∷◌, ℕ, zero, suc, ◌+◌, ◌-◌, ◌≤◌, ◌<◌, map, length, drop, get_or}
-use Rattle.std.proofs.Common.{sym, ◌∙◌, ap, arith, drop-cons, drop_of_length-le}
+use Rattle.std.proofs.Common.{sym, ◌∙◌, ap, arith, add-one, drop-cons, drop_of_length-le}
 use Rattle.std.proofs.Math.ListN.{length-map}
 use Rattle.utf8.specs.Characters.{first_char, codes, chars_after}
 use Rattle.utf8.specs.declared.utf8.Char.{Char}
@@ -31,10 +31,7 @@ pub distances_at : (chars k : ℕ) (ms : List ℕ) (i : ℕ) → i < length ms
 unfolding distances
 distances_at chars k ms i h =
     ap (λ (l : List ℕ). distances k (map (clamped chars) l)) (drop-cons ms i 0 h)
-    ∙ ap (λ (j : ℕ). distance k (clamped chars (get_or ms i 0)) + distances (clamped chars (get_or ms i 0)) (map (clamped chars) (drop j ms))) (sym (one i))
-  where
-    one : (i : ℕ) → i + 1 ≡ suc i
-    one i = omega arith
+    ∙ ap (λ (j : ℕ). distance k (clamped chars (get_or ms i 0)) + distances (clamped chars (get_or ms i 0)) (map (clamped chars) (drop j ms))) (sym (add-one i))
 
 -- none is left
 pub distances_end : (chars k : ℕ) (ms : List ℕ) (i : ℕ) → length ms ≤ i → distances k (map (clamped chars) (drop i ms)) ≡ 0

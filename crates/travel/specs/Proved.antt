@@ -1,4 +1,4 @@
--- What is proved of the cursor's travel: the types of the theorems in proofs/TravelLaws.antt and proofs/StepLaws.antt.
+-- What is proved of the cursor's travel: the types of the theorems in proofs/CountLaws.antt, and of `moves_by_one` (proofs/StepLaws.antt).
 use Rattle.std.specs.Prelude.{ℕ, ◌+◌, ◌^◌, ◌<◌, ◌≤◌, ◌≡◌, true, false, List, [], ◌∷◌, map, length, Ok}
 use Rattle.utf8.specs.Utf8.{Utf8, is_ascii}
 use Rattle.utf8.specs.Characters.{codes}
