@@ -17,7 +17,7 @@ const FARTHEST: usize = usize::MAX;
 /// answer are the answers about every record number of the buffer, two past it and two far off. Its pieces are the keys, as
 /// places and lengths in the event bytes.
 pub fn damaged(case: &Case) -> Answer {
-    let numbers: Vec<u32> = case.text.as_chunks().0.iter().map(|bytes| u32::from_be_bytes(*bytes)).collect();
+    let numbers = framing::numbers(&case.text);
     let buffer = Buffer { records: numbers.as_chunks().0, events: &case.events };
     let parts = keys(&buffer);
     let keys: Vec<&[u8]> = parts.iter().map(|part| &case.events[part.clone()]).collect();

@@ -1,6 +1,6 @@
 //! The original's answers in document 01's numbers: the table's rows, written here a second time and as the document
 //! words them, around the unchanged Rust. The last two numbers of a record, which the original does not have, are those of
-//! second implementations; and where scalars start is held to one.
+//! second implementations; and where scalars start is held to one. The steps of the cursor are those of another.
 
 pub mod accessors;
 mod admit;
@@ -15,6 +15,7 @@ pub mod parent;
 pub mod record;
 mod scan_errors;
 pub mod start;
+pub mod travel;
 mod tree;
 
 pub use damaged::damaged;
@@ -25,6 +26,7 @@ pub use nodes::nodes;
 use original::Panicked;
 pub use original::{Received, silence_listed_panic};
 pub use scan_errors::scan_errors;
+pub use travel::travels;
 
 const TEXT_LIMIT: usize = 1_048_576;
 const EVENTS_LIMIT: usize = 4_194_304;

@@ -13,6 +13,7 @@ fn main() -> io::Result<()> {
         Some("damaged") => answers::damaged,
         Some("measured") => answers::measured,
         Some("scan_errors") => answers::scan_errors,
+        Some("travels") => answers::travels,
         _ => answers::answer,
     };
     let mut input = BufReader::new(io::stdin().lock());

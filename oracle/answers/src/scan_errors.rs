@@ -14,8 +14,7 @@ pub fn scan_errors(case: &Case) -> Answer {
     };
     let mut before = None;
     let mut records = Vec::new();
-    for bytes in case.events.as_chunks().0 {
-        let index = u32::from_be_bytes(*bytes);
+    for index in framing::numbers(&case.events) {
         records.extend(original::scan_error(text, before, index));
         before = Some(index);
     }

@@ -1,4 +1,5 @@
-//! `bench [REPEATS]`: the port beside the unchanged original, and a plain sum over the same bytes, in one process.
+//! `bench [REPEATS]`: the port beside the unchanged original, and a plain sum over the same bytes, in one process. `bench travel [REPEATS]`:
+//! what a step of the cursor costs.
 //!
 //! - Port: one call on ready bytes into ready buffers. That is the UTF-8 test of text and events, the reading of the
 //!   events, the tree, the pieces, and the clearing of both buffers.
@@ -9,6 +10,7 @@
 //! The three take turns. A ratio is of one turn; it is given as the median of all turns with the quartiles.
 
 mod timing;
+mod travel;
 
 use answers::Received;
 use cases::chapter::{self, Shape};
@@ -27,7 +29,12 @@ const SIZES: [usize; 5] = [50_000, 100_000, 200_000, 500_000, 1_000_000];
 const SIZE: usize = 200_000;
 
 fn main() {
-    let repeats = env::args().nth(1).map_or(REPEATS, |count| count.parse().expect("a count of repeats"));
+    let mut arguments = env::args().skip(1).peekable();
+    let travels = arguments.next_if(|argument| argument == "travel").is_some();
+    let repeats = arguments.next().map_or(REPEATS, |count| count.parse().expect("a count of repeats"));
+    if travels {
+        return travel::travels(repeats);
+    }
     println!("{repeats} turns, seed {SEED}. Times are medians; a ratio has its quartiles.");
     scripts(repeats);
     growth(repeats);

@@ -51,7 +51,7 @@ impl<'a> Bench<'a> {
         figures
     }
 
-    fn turn(&mut self, figures: &mut Figures) {
+    pub fn turn(&mut self, figures: &mut Figures) {
         figures.port.push(timed(|| {
             black_box(port::build(&self.case.text, &self.case.events, &mut self.records, &mut self.pieces));
         }));
@@ -103,9 +103,18 @@ impl Figures {
         median(&self.ratios())
     }
 
+    /// Those of the port.
+    pub fn port(&self) -> &[f64] {
+        &self.port
+    }
+
+    /// Those of the original, its drop counted in.
+    pub fn original(&self) -> Vec<f64> {
+        self.build.iter().zip(&self.drop).map(|(build, drop)| build + drop).collect()
+    }
+
     fn ratios(&self) -> Vec<f64> {
-        let original = self.build.iter().zip(&self.drop).map(|(build, drop)| build + drop);
-        original.zip(&self.port).map(|(original, port)| original / port).collect()
+        self.original().iter().zip(&self.port).map(|(original, port)| original / port).collect()
     }
 }
 
@@ -113,7 +122,7 @@ fn holds(buffer: &[u32], expected: &[u32]) -> bool {
     buffer.starts_with(expected) && buffer[expected.len()..].iter().all(|number| *number == 0)
 }
 
-fn timed(run: impl FnOnce()) -> f64 {
+pub fn timed(run: impl FnOnce()) -> f64 {
     let start = Instant::now();
     run();
     start.elapsed().as_nanos() as f64
@@ -123,7 +132,7 @@ fn sum(bytes: &[u8]) -> u64 {
     bytes.iter().map(|byte| u64::from(*byte)).sum()
 }
 
-fn median(times: &[f64]) -> f64 {
+pub fn median(times: &[f64]) -> f64 {
     quartiles(times)[1]
 }
 

@@ -5,7 +5,7 @@ use crate::rng::Rng;
 use crate::run::{Run, ample};
 use crate::trees;
 use framing::event::{Event, Scalar, Tag, encode};
-use framing::{Case, RECORD_NUMBERS};
+use framing::{Case, RECORD_NUMBERS, number_bytes};
 
 const NO_TAG: Tag = None;
 
@@ -169,6 +169,5 @@ fn put_damaged(run: &mut Run) {
 }
 
 fn put(run: &mut Run, buffer: &[u32], events: &[u8]) {
-    let text = buffer.iter().flat_map(|number| number.to_be_bytes()).collect();
-    run.put(&ample(text, events.to_vec(), 0, 0));
+    run.put(&ample(number_bytes(buffer), events.to_vec(), 0, 0));
 }

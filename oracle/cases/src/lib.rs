@@ -22,6 +22,7 @@ mod source;
 mod starts;
 mod stretches;
 mod tags;
+mod travels;
 mod trees;
 mod walks;
 mod words;
@@ -46,9 +47,13 @@ pub const FAMILIES: [(&str, Family); 11] = [
     ("starts", starts::write),
 ];
 
-/// Those that the accessors and `scan_error` answer.
-pub const ACCESSOR_FAMILIES: [(&str, Family); 3] =
-    [("nodes", nodes::write), ("damaged", damaged::write), ("scan_errors", scan_errors::write)];
+/// Those that the accessors, `scan_error` and `cursor_travel` answer.
+pub const ACCESSOR_FAMILIES: [(&str, Family); 4] = [
+    ("nodes", nodes::write),
+    ("damaged", damaged::write),
+    ("scan_errors", scan_errors::write),
+    ("travels", travels::write),
+];
 
 /// Puts the next random cases of a family.
 pub const RANDOM: [(&str, Family); 11] = [
@@ -65,8 +70,12 @@ pub const RANDOM: [(&str, Family); 11] = [
     ("starts", starts::put_random),
 ];
 
-/// Sizes at the limits.
+/// Puts the next random case of the family `travels`.
+pub const RANDOM_TRAVEL: Family = travels::put_random;
+
+/// Sizes at the limits, of documents and of the family `travels`.
 pub const LIMITS: Family = trees::put_limits;
+pub const TRAVEL_LIMITS: Family = travels::put_limits;
 
 /// The seed of the committed lists.
 pub const SEED: u64 = 20_261_008;

@@ -8,7 +8,8 @@ use std::io::{self, BufWriter, Write};
 use std::process::ExitCode;
 
 const USAGE: &str = "usage: cases FAMILY sample|full [SEED]
-families: offsets schema measures measured walks classes tags events trees parents starts nodes damaged scan_errors";
+families: offsets schema measures measured walks classes tags events trees parents starts nodes damaged
+          scan_errors travels";
 
 fn main() -> ExitCode {
     answers::silence_listed_panic();

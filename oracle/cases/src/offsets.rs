@@ -2,9 +2,8 @@
 //! index, and all of them go through one cursor.
 
 use crate::rng::Rng;
-use crate::run::{Run, ample, characters};
+use crate::run::{Run, aliases, characters};
 use crate::words;
-use framing::event::{Event, encode};
 
 /// Characters of one to four bytes.
 pub const SHORT: [&str; 4] = ["a", "é", "€", "😀"];
@@ -58,8 +57,5 @@ pub fn random_indices(rng: &mut Rng, text: &str, count: usize) -> Vec<u32> {
 }
 
 fn put(run: &mut Run, text: &str, indices: &[u32]) {
-    let mut events = vec![Event::SequenceStart(0, None)];
-    events.extend(indices.iter().map(|index| Event::Alias(*index)));
-    events.push(Event::SequenceEnd(0));
-    run.put(&ample(text.into(), encode(&events), indices.len() + 1, 0));
+    run.put(&aliases(text, indices, 0));
 }

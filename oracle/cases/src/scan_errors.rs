@@ -2,10 +2,9 @@
 
 use crate::offsets::{LETTERS, SHORT, orders, random_indices};
 use crate::rng::Rng;
-use crate::run::{Run, ample, characters};
+use crate::run::{Run, TEXT_LIMIT, ample, characters};
 use crate::words;
-
-const TEXT_LIMIT: usize = 1_048_576;
+use framing::number_bytes;
 
 const FAR: [u32; 7] = [u32::MAX, 0, u32::MAX - 1, 1, 0x8000_0000, 2, 0x7FFF_FFFF];
 
@@ -65,6 +64,5 @@ fn put(run: &mut Run, text: &str, indices: &[u32]) {
 }
 
 fn put_bytes(run: &mut Run, text: Vec<u8>, indices: &[u32]) {
-    let events = indices.iter().flat_map(|index| index.to_be_bytes()).collect();
-    run.put(&ample(text, events, 0, 0));
+    run.put(&ample(text, number_bytes(indices), 0, 0));
 }

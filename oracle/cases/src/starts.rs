@@ -2,7 +2,9 @@
 //! characters of each length. Documents are written a letter for each event.
 
 use crate::rng::Rng;
-use crate::run::{DOUBLE_QUOTED, FOLDED, LITERAL, PLAIN, Run, SINGLE_QUOTED, ample, characters};
+use crate::run::{
+    DOUBLE_QUOTED, EDGES, FOLDED, LITERAL, PLAIN, Run, SINGLE_QUOTED, Thinned, ample, characters, filled, indices,
+};
 use crate::words;
 use framing::Case;
 use framing::event::{Event, Scalar, Tag};
@@ -126,15 +128,14 @@ fn put_characters(run: &mut Run) {
     }
 }
 
-/// Texts of about a multiple of 32 bytes, which the port counts together, with a colon and characters of each length at and across the edge:
-/// behind characters of one length, and before others.
+/// Texts of about a multiple of 32 bytes, with a colon and characters of each length at and across the edge: behind characters of one
+/// length, and before others.
 fn put_edges(run: &mut Run) {
     let mut thinned = Thinned::new(run, 11);
     for unit in ["a", "é", "€", "😀"] {
-        for bytes in [24..37, 57..68, 122..131, 254..258, 1_021..1_026] {
+        for bytes in EDGES {
             for size in bytes {
-                // Some of one byte, so that all sizes are met.
-                let before = format!("{}{}", "a".repeat(size % unit.len()), unit.repeat(size / unit.len()));
+                let before = filled(unit, size);
                 for middle in [":", "é:", "€:", "😀:", ":é", ":😀:", "::", ":\0", "\n:"] {
                     for after in ["", "a", "€", "bcdefghijklmnopqrstuvwxyz, aé: bcdefghijklmnopqrstuvwxyz"] {
                         let text = format!("{before}{middle}{after}");
@@ -191,30 +192,6 @@ fn collection(rng: &mut Rng) -> String {
     let [start, end] = around;
     let bodies: String = (0..=rng.below(3)).map(|_| rng.pick(bodies)).collect();
     format!("{start}{bodies}{end}")
-}
-
-/// Of a sample every so many.
-struct Thinned {
-    step: usize,
-    seen: usize,
-}
-
-impl Thinned {
-    fn new(run: &Run, sample: usize) -> Self {
-        Self { step: run.sized(sample, 1), seen: 0 }
-    }
-
-    fn put(&mut self, run: &mut Run, case: impl FnOnce() -> Case) {
-        if self.seen.is_multiple_of(self.step) {
-            run.put(&case());
-        }
-        self.seen += 1;
-    }
-}
-
-/// Every index of a text, two past its end, and the largest.
-fn indices(text: &str) -> Vec<u32> {
-    (0..characters(text) + 3).chain([0x8000_0000, u32::MAX]).collect()
 }
 
 fn orders(text: &str) -> [Vec<u32>; 2] {

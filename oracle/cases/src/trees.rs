@@ -1,12 +1,11 @@
 //! Whole documents: trees, damaged event lists, rooms and limits.
 
 use crate::rng::Rng;
-use crate::run::{DOUBLE_QUOTED, PLAIN, Run, STYLES, ample, characters, one_scalar, record_room};
+use crate::run::{DOUBLE_QUOTED, NOT_UTF8, PLAIN, Run, STYLES, TEXT_LIMIT, ample, characters, one_scalar, record_room};
 use crate::source;
 use framing::event::{Event, Scalar, Tag, encode};
 use framing::{Case, corpus};
 
-const TEXT_LIMIT: usize = 1_048_576;
 const EVENTS_LIMIT: usize = 4_194_304;
 const DEPTH_LIMIT: usize = 64;
 
@@ -48,17 +47,7 @@ pub fn whole(text: Vec<u8>, events: Vec<u8>) -> Case {
 
 /// Texts, values, handles and suffixes that are not UTF-8.
 fn put_not_utf8(run: &mut Run) {
-    let parts: [&[u8]; 8] = [
-        b"\x80",
-        b"a\xc3",
-        b"\xc0\xaf",
-        b"\xe0\x80\x80",
-        b"\xed\xa0\x80",
-        b"\xf4\x90\x80\x80",
-        b"\xff",
-        b"\xf0\x9f\x98",
-    ];
-    for part in parts {
+    for part in NOT_UTF8 {
         // Row 2 comes before all that events are refused for.
         run.put(&ample(part.to_vec(), encode(&[Event::Alias(0)]), 1, 0));
         run.put(&ample(part.to_vec(), vec![UNKNOWN_EVENT], 1, 0));

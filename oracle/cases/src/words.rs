@@ -1,19 +1,25 @@
 //! Words over an alphabet, numbered with the shorter ones first.
 
 /// How many words there are up to a length.
-pub fn count(alphabet: &[&str], length: u32) -> usize {
+pub fn count<T>(alphabet: &[T], length: u32) -> usize {
     (0..=length).map(|length| alphabet.len().pow(length)).sum()
 }
 
 /// The word of a number.
-pub fn word(alphabet: &[&str], mut number: usize) -> String {
+pub fn word(alphabet: &[&str], number: usize) -> String {
+    list(alphabet, number).concat()
+}
+
+/// The letters of that word.
+pub fn list<T: Copy>(alphabet: &[T], mut number: usize) -> Vec<T> {
     let mut letters = Vec::new();
     while number > 0 {
         number -= 1;
         letters.push(alphabet[number % alphabet.len()]);
         number /= alphabet.len();
     }
-    letters.into_iter().rev().collect()
+    letters.reverse();
+    letters
 }
 
 #[cfg(test)]

@@ -47,7 +47,7 @@ impl Readers {
 
     /// The first record of a case's buffer, one of the family `damaged`, that they do not read as the second reader does.
     pub fn differing_in_buffer(&self, case: &Case, memory: Memory) -> Option<u32> {
-        let numbers: Vec<u32> = case.text.as_chunks().0.iter().map(|bytes| u32::from_be_bytes(*bytes)).collect();
+        let numbers = framing::numbers(&case.text);
         let buffer = Buffer { records: numbers.as_chunks().0, events: &case.events };
         let mut lent = Lent::new(&numbers, BEFORE, memory);
         let asked = buffer.records.len() as u32 + 2;

@@ -1,9 +1,12 @@
-//! Which rows of the table, which steps of the piece grammar, which parents, which flags and which starts the answers met.
+//! Which rows of the table, which steps of the piece grammar, which parents, which flags, which starts and which travels of the cursor the
+//! answers met.
 
+use crate::travels::Travel;
 use answers::decode::{self, Body, Scalar};
 use answers::parent;
 use answers::record::{MEASURED, PARENT};
 use answers::start::{self, Start};
+use answers::travel::travel;
 use framing::{Answer, Case, RECORD_NUMBERS, Record};
 use saphyr_parser::ScalarStyle::{self, DoubleQuoted, Folded, Literal, SingleQuoted};
 
@@ -14,7 +17,7 @@ pub struct Coverage {
 
 const NONE: u32 = u32::MAX;
 
-const NAMES: [&str; 97] = [
+const NAMES: [&str; 117] = [
     "row 0: built",
     "row 1: too long",
     "row 2: text no UTF-8",
@@ -112,11 +115,39 @@ const NAMES: [&str; 97] = [
     "start: on a colon, not empty",
     "start: past a colon, before a character",
     "start: past a colon, at the text's end",
+    "travel: refused, a text too long",
+    "travel: refused, too many markers",
+    "travel: refused, both too long",
+    "travel: refused, too long and no UTF-8 either",
+    "travel: refused, no UTF-8",
+    "travel: ASCII, no markers",
+    "travel: ASCII, with markers",
+    "travel: not ASCII, no markers",
+    "travel: not ASCII, markers that never fall",
+    "travel: not ASCII, markers that fall",
+    "travel: in a text with characters of two bytes",
+    "travel: in a text with characters of three bytes",
+    "travel: in a text with characters of four bytes",
+    "travel: 2^32 steps and more",
+    "travel: a marker back",
+    "travel: a marker standing still",
+    "travel: a marker forward",
+    "travel: a marker at an index of the text",
+    "travel: a marker at the text's end, by its index",
+    "travel: a marker at the text's end, by an index past it",
 ];
 
 /// How the names of parents and of starts begin.
 const PARENTS: &str = "parent: ";
 const STARTS: &str = "start: ";
+
+/// Where a marker lies from the one before it, and from the text's end: before, there or behind.
+const WAYS: [&str; 3] = ["travel: a marker back", "travel: a marker standing still", "travel: a marker forward"];
+const PLACES: [&str; 3] = [
+    "travel: a marker at an index of the text",
+    "travel: a marker at the text's end, by its index",
+    "travel: a marker at the text's end, by an index past it",
+];
 
 impl Coverage {
     pub fn new() -> Self {
@@ -210,6 +241,65 @@ impl Coverage {
             (None, _) if index as usize > marker.index => "start: at the text's end, by an index past it",
             (None, _) => "start: at the text's end, by its index",
         });
+    }
+
+    /// What a travel of the cursor is answered with: a row or the steps.
+    pub fn add_travel(&mut self, travel: &Travel, (row, steps): (u32, u64)) {
+        let text = match str::from_utf8(&travel.text) {
+            Ok(text) if row == 0 => text,
+            other => return self.add_refused_travel(travel, row, other.is_ok()),
+        };
+        self.met(match (text.is_ascii(), &travel.markers[..]) {
+            (true, []) => "travel: ASCII, no markers",
+            (true, _) => "travel: ASCII, with markers",
+            (false, []) => "travel: not ASCII, no markers",
+            (false, markers) if markers.is_sorted() => "travel: not ASCII, markers that never fall",
+            (false, _) => "travel: not ASCII, markers that fall",
+        });
+        if text.is_ascii() {
+            return;
+        }
+        for (bytes, number) in [(2, "two"), (3, "three"), (4, "four")] {
+            if steps > 0 && text.chars().any(|letter| letter.len_utf8() == bytes) {
+                self.met(&format!("travel: in a text with characters of {number} bytes"));
+            }
+        }
+        if steps >> 32 > 0 {
+            self.met("travel: 2^32 steps and more");
+        }
+        self.add_markers(text, &travel.markers);
+    }
+
+    fn add_refused_travel(&mut self, Travel { text, markers }: &Travel, row: u32, is_utf8: bool) {
+        if row == 2 {
+            return self.met("travel: refused, no UTF-8");
+        }
+        let too_long = |(row, _)| row == 1;
+        self.met(match [travel(text, &[]), travel(&[], markers)].map(too_long) {
+            [true, false] => "travel: refused, a text too long",
+            [false, true] => "travel: refused, too many markers",
+            _ => "travel: refused, both too long",
+        });
+        if !is_utf8 {
+            self.met("travel: refused, too long and no UTF-8 either");
+        }
+    }
+
+    /// Each kind of marker counts once.
+    fn add_markers(&mut self, text: &str, markers: &[u32]) {
+        let end = text.chars().count();
+        let [mut ways, mut places] = [[false; 3]; 2];
+        let mut before = 0;
+        for marker in markers {
+            let index = *marker as usize;
+            ways[third(index.min(end), before)] = true;
+            places[third(index, end)] = true;
+            before = index.min(end);
+        }
+        let kinds = WAYS.into_iter().zip(ways).chain(PLACES.into_iter().zip(places));
+        for (name, _) in kinds.filter(|(_, is_met)| *is_met) {
+            self.met(name);
+        }
     }
 
     /// How many parents there were, how many flags of scalars, and how many starts.
@@ -334,6 +424,11 @@ impl Coverage {
             self.met("step 1: block break cut by the column");
         }
     }
+}
+
+/// 0 for less, 1 for as much, 2 for more.
+fn third(index: usize, other: usize) -> usize {
+    1 + usize::from(index > other) - usize::from(index < other)
 }
 
 /// A piece's part of the text; it can end past it.

@@ -6,8 +6,8 @@
 //! and leaves out what is large. A case that differs is shrunk and printed; the exit status says whether there was one.
 //!
 //! The last two numbers of a record, which the original does not have, are held to second implementations: the parent, and whether a
-//! scalar's span is measured or assumed. Where a scalar starts is held to one too, which no start outside of the text can come from: an
-//! original's start that is another stops the program.
+//! scalar's span is measured or assumed. So is the count of `cursor_travel`, on a family of its own and on every document. Where a scalar
+//! starts is held to one too, which no start outside of the text can come from: an original's start that is another stops the program.
 
 mod calls;
 mod coverage;
@@ -16,17 +16,19 @@ mod show;
 mod shrink;
 #[cfg(test)]
 mod tests;
+mod travels;
 
 use cases::chapter::{self, Shape};
 use cases::rng::Rng;
 use cases::run::Run;
 use cases::script::SCRIPTS;
-use cases::{ACCESSOR_FAMILIES, FAMILIES, LIMITS, RANDOM, SEED};
+use cases::{ACCESSOR_FAMILIES, FAMILIES, Family, LIMITS, RANDOM, RANDOM_TRAVEL, SEED, TRAVEL_LIMITS};
 use coverage::Coverage;
 use framing::{Answer, Case};
 use held::{Build, Memory, outcome};
 use std::env;
 use std::process::ExitCode;
+use travels::Travel;
 
 const CASES: u64 = 2_000_000;
 
@@ -42,9 +44,12 @@ struct Options {
 
 struct Comparison {
     build: Build,
+    travel: travels::Call,
     memory: Memory,
     coverage: Coverage,
     cases: u64,
+    /// Those that are no documents, but a text and markers.
+    travels: u64,
     panicked: u64,
     different: u64,
     /// Cases on which one of the other calls differs.
@@ -60,8 +65,10 @@ fn main() -> ExitCode {
     let mut comparison = Comparison::new(port::build, options.memory);
     comparison.families(options.full);
     comparison.buffers(options.full);
+    comparison.travels("travels", family_of_other_calls("travels"), options.full);
     if options.memory == Memory::Guarded {
         comparison.family("limits", LIMITS, false, SEED);
+        comparison.travels("limits of travels", TRAVEL_LIMITS, false);
         comparison.chapters(options.seed);
     }
     println!("random cases, seed {}", options.seed);
@@ -90,7 +97,17 @@ fn options() -> Option<Options> {
 
 impl Comparison {
     fn new(build: Build, memory: Memory) -> Self {
-        Self { build, memory, coverage: Coverage::new(), cases: 0, panicked: 0, different: 0, other_calls: 0 }
+        Self {
+            build,
+            travel: port::cursor_travel,
+            memory,
+            coverage: Coverage::new(),
+            cases: 0,
+            travels: 0,
+            panicked: 0,
+            different: 0,
+            other_calls: 0,
+        }
     }
 
     fn families(&mut self, full: bool) {
@@ -99,7 +116,7 @@ impl Comparison {
         }
     }
 
-    fn family(&mut self, name: &str, family: cases::Family, full: bool, seed: u64) {
+    fn family(&mut self, name: &str, family: Family, full: bool, seed: u64) {
         let before = self.cases;
         family(&mut Run::new(full, Rng::new(seed), &mut |case| self.compare(case)));
         println!("{:9} cases of {name}, seed {seed}", self.cases - before);
@@ -107,7 +124,7 @@ impl Comparison {
 
     /// The buffers of the family `damaged`, read by the calls that read any buffer.
     fn buffers(&mut self, full: bool) {
-        let (_, family) = ACCESSOR_FAMILIES.iter().find(|(name, _)| *name == "damaged").expect("the family");
+        let family = family_of_other_calls("damaged");
         let mut buffers = 0;
         let mut hold = |case: &Case| {
             buffers += 1;
@@ -123,6 +140,13 @@ impl Comparison {
         println!("{buffers:9} buffers of damaged, seed {SEED}");
     }
 
+    /// Texts and markers of the family `travels`.
+    fn travels(&mut self, name: &str, family: Family, full: bool) {
+        let before = self.travels;
+        family(&mut Run::new(full, Rng::new(SEED), &mut |case| self.compare_travel_case(case)));
+        println!("{:9} cases of {name}, seed {SEED}", self.travels - before);
+    }
+
     fn chapters(&mut self, seed: u64) {
         for shape in [Shape::Short, Shape::Mixed, Shape::Long] {
             for script in &SCRIPTS {
@@ -134,10 +158,11 @@ impl Comparison {
         println!("{:9} chapters, seed {seed}", 9 * SCRIPTS.len());
     }
 
-    /// Random cases of the families in turn, and now and then one of them with its text damaged.
+    /// Random cases of the families in turn, and with each one of the family `travels`; now and then also with their text damaged.
     fn random(&mut self, cases: u64, seed: u64) {
         let end = self.cases + cases;
         let mut rng = Rng::new(seed);
+        let mut travels = Rng::new(seed);
         while self.cases < end {
             let (_, put) = rng.pick(&RANDOM);
             let damaged = rng.once_in(16);
@@ -147,6 +172,12 @@ impl Comparison {
                 self.compare(case);
                 if damaged && !case.text.is_empty() {
                     self.compare(&with_damaged_text(case, &mut damage));
+                }
+            }));
+            RANDOM_TRAVEL(&mut Run::new(true, Rng::new(travels.number()), &mut |case| {
+                self.compare_travel_case(case);
+                if damaged && !case.text.is_empty() {
+                    self.compare_travel_case(&with_damaged_text(case, &mut damage));
                 }
             }));
         }
@@ -173,10 +204,30 @@ impl Comparison {
                 show::print(case, &found, &answer);
             }
         }
+        self.compare_travel(&Travel::of_document(case));
         if !same {
             self.different += 1;
             if self.different <= PRINTED {
                 self.print(case);
+            }
+        }
+    }
+
+    fn compare_travel_case(&mut self, case: &Case) {
+        self.travels += 1;
+        self.compare_travel(&Travel::of(case));
+    }
+
+    /// The call on a text and markers.
+    fn compare_travel(&mut self, travel: &Travel) {
+        let (call, memory) = (self.travel, self.memory);
+        self.coverage.add_travel(travel, travel.expected());
+        if travels::differs(call, travel, memory) {
+            self.other_calls += 1;
+            if self.other_calls <= PRINTED {
+                let small = shrink::shrunk_travel(travel, |travel| travels::differs(call, travel, memory));
+                println!("cursor_travel differs; its case made smaller:");
+                show::print_travel(&small, &travels::outcome(call, &small, memory));
             }
         }
     }
@@ -200,10 +251,17 @@ impl Comparison {
             "\n{parents} parents, {flags} flags and {starts} starts of scalars held to the second implementations"
         );
         println!("{} cases, {} of them not answered by the original", self.cases, self.panicked);
+        println!("{} more of a text and markers alone", self.travels);
         let different = self.different + self.other_calls;
         println!("{different} different");
         if different == 0 { ExitCode::SUCCESS } else { ExitCode::FAILURE }
     }
+}
+
+/// A family that other calls than `build` answer.
+fn family_of_other_calls(name: &str) -> Family {
+    let (_, family) = ACCESSOR_FAMILIES.iter().find(|(other, _)| *other == name).expect("the family");
+    *family
 }
 
 /// The case with one byte of its text changed, which is often no UTF-8.

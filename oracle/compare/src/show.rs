@@ -1,6 +1,7 @@
 //! A case in a form to paste.
 
 use crate::held::Outcome;
+use crate::travels::{self, Travel};
 use answers::decode::{self, Body};
 use framing::{Answer, Case, RECORD_NUMBERS};
 
@@ -17,9 +18,23 @@ pub fn print(case: &Case, outcome: &Outcome, answer: &Answer) {
 
 /// A buffer of a case of the family `damaged`, a record on each line.
 pub fn print_buffer(case: &Case) {
-    let numbers: Vec<u32> = case.text.as_chunks().0.iter().map(|bytes| u32::from_be_bytes(*bytes)).collect();
+    let numbers = framing::numbers(&case.text);
     for (row, record) in numbers.chunks(RECORD_NUMBERS).enumerate() {
         println!("  record {row}: {record:?}");
+    }
+}
+
+/// So many bytes of a text and so many markers are printed.
+const SHOWN: usize = 100;
+
+pub fn print_travel(travel: &Travel, outcome: &travels::Outcome) {
+    let Travel { text, markers } = travel;
+    let [shown_text, shown_markers] = [text.len(), markers.len()].map(|length| length.min(SHOWN));
+    println!("  text    {} bytes: b\"{}\"", text.len(), text[..shown_text].escape_ascii());
+    println!("  markers {}: {:?}", markers.len(), &markers[..shown_markers]);
+    println!("  returned: second implementation {:?}, port {:?}", travel.expected(), outcome.returned);
+    if !outcome.kept {
+        println!("  a guard, the text or the markers were written to");
     }
 }
 

@@ -1,5 +1,6 @@
 //! A case made smaller while something stays true of it.
 
+use crate::travels::Travel;
 use answers::decode;
 use framing::Case;
 use std::iter;
@@ -8,16 +9,67 @@ use std::ops::Range;
 /// At most one less events in a row are left out at once.
 const ROW: usize = 24;
 
-/// The smallest case that is found, going on from `case` with one change at a time.
+/// Of a long text with its markers so few changes are tried that they come to about so many bytes, but of each kind some.
+const BYTES: usize = 1_000_000;
+const TRIES: usize = 64;
+
 pub fn shrunk(case: &Case, is_kept: impl Fn(&Case) -> bool) -> Case {
-    let mut case = case.clone();
-    loop {
-        let places = events(&case.events);
-        let Some(smaller) = smaller(&case, &places).find(&is_kept) else {
-            return case;
-        };
-        case = smaller;
+    smallest(case, |case| smaller(case, &events(&case.events)).find(&is_kept))
+}
+
+pub fn shrunk_travel(travel: &Travel, is_kept: impl Fn(&Travel) -> bool) -> Travel {
+    smallest(travel, |travel| smaller_travels(travel).find(&is_kept))
+}
+
+/// The smallest that is found, going on from one with one change at a time.
+fn smallest<T: Clone>(from: &T, smaller: impl Fn(&T) -> Option<T>) -> T {
+    let mut smallest = from.clone();
+    while let Some(smaller) = smaller(&smallest) {
+        smallest = smaller;
     }
+    smallest
+}
+
+/// With fewer markers, with less text, then with the markers lowered by what is left out too, or with one lower marker.
+fn smaller_travels(travel: &Travel) -> impl Iterator<Item = Travel> {
+    let Travel { text, markers } = travel;
+    let tries = (BYTES / (text.len() + 4 * markers.len() + 1)).max(TRIES);
+    let fewer = parts(markers.len()).take(tries);
+    let fewer = fewer.map(|part| Travel { markers: without(markers, &part), ..travel.clone() });
+    let shorter = parts_of_text(text).take(tries).flat_map(move |part| {
+        let taken = characters(&text[part.clone()]);
+        let text = without(text, &part);
+        let lowered = markers.iter().map(|marker| marker.saturating_sub(taken)).collect();
+        [Travel { text: text.clone(), markers: lowered }, Travel { text, ..travel.clone() }]
+    });
+    let lower = (0..markers.len()).take(tries).flat_map(move |place| {
+        let index = markers[place];
+        let lower = [index / 2, index.saturating_sub(1)].into_iter().filter(move |lower| *lower < index);
+        lower.map(move |lower| {
+            let mut travel = travel.clone();
+            travel.markers[place] = lower;
+            travel
+        })
+    });
+    fewer.chain(shorter).chain(lower)
+}
+
+/// Parts of whole characters, or of bytes if it is no UTF-8.
+fn parts_of_text(text: &[u8]) -> impl Iterator<Item = Range<usize>> {
+    let mut places: Vec<usize> = (0..=text.len()).collect();
+    if let Ok(text) = str::from_utf8(text) {
+        places.retain(|place| text.is_char_boundary(*place));
+    }
+    parts(places.len() - 1).map(move |part| places[part.start]..places[part.end])
+}
+
+/// How many characters begin in some bytes.
+fn characters(bytes: &[u8]) -> u32 {
+    bytes.iter().filter(|byte| !(0x80..0xC0).contains(*byte)).count() as u32
+}
+
+fn without<T: Copy>(list: &[T], part: &Range<usize>) -> Vec<T> {
+    [&list[..part.start], &list[part.end..]].concat()
 }
 
 /// Cases that are smaller by one change, the largest changes first.
@@ -42,17 +94,16 @@ fn fewer_events<'a>(case: &'a Case, places: &'a [usize]) -> impl Iterator<Item =
 }
 
 fn without_events(case: &Case, part: Range<usize>) -> Case {
-    Case { events: [&case.events[..part.start], &case.events[part.end..]].concat(), ..case.clone() }
+    Case { events: without(&case.events, &part), ..case.clone() }
 }
 
 fn without_text(case: &Case, part: &Range<usize>) -> Case {
-    Case { text: [&case.text[..part.start], &case.text[part.end..]].concat(), ..case.clone() }
+    Case { text: without(&case.text, part), ..case.clone() }
 }
 
 /// Without a part of the text, the markers behind it moved by as many characters.
 fn with_markers_moved(case: &Case, places: &[usize], part: &Range<usize>) -> Case {
     let mut case = case.clone();
-    let characters = |bytes: &[u8]| bytes.iter().filter(|byte| !(0x80..0xC0).contains(*byte)).count() as u32;
     let (before, taken) = (characters(&case.text[..part.start]), characters(&case.text[part.clone()]));
     for place in &places[..places.len() - 1] {
         let index: &mut [u8; 4] = (&mut case.events[place + 3..place + 7]).try_into().expect("four bytes");

@@ -1,13 +1,15 @@
-//! A faulty builder is told from the original, and its case is made small; a faulty call on a record is told from the second reader.
+//! A faulty builder is told from the original, and its case is made small; a faulty call on a record is told from the second reader, and a
+//! faulty `cursor_travel` from the second implementation.
 
-use crate::Comparison;
 use crate::calls::{PORT, Readers};
 use crate::held::{Build, Memory, differs};
-use crate::shrink::shrunk;
+use crate::shrink::{shrunk, shrunk_travel};
+use crate::travels::{self, Travel};
+use crate::{Comparison, family_of_other_calls};
 use answers::record::{MEASURED, PARENT, START};
 use cases::rng::Rng;
 use cases::run::Run;
-use cases::{ACCESSOR_FAMILIES, RANDOM, SEED};
+use cases::{Family, RANDOM, RANDOM_TRAVEL, SEED};
 use framing::{Case, RECORD_NUMBERS, Record};
 
 const STRING: u32 = 5;
@@ -137,6 +139,10 @@ fn room_in_twelves(text: &[u8], events: &[u8], records: &mut [u32], pieces: &mut
 
 fn random(family: &str, seed: u64, count: usize) -> Vec<Case> {
     let (_, put) = RANDOM.iter().find(|(name, _)| *name == family).expect("a family");
+    random_of(*put, seed, count)
+}
+
+fn random_of(put: Family, seed: u64, count: usize) -> Vec<Case> {
     let mut cases = Vec::new();
     let mut sink = |case: &Case| cases.push(case.clone());
     let mut run = Run::new(true, Rng::new(seed), &mut sink);
@@ -206,10 +212,9 @@ fn readers_agree(readers: Readers) -> bool {
 
 /// Whether they agree on damaged buffers.
 fn readers_agree_on_buffers(readers: Readers) -> bool {
-    let (_, family) = ACCESSOR_FAMILIES.iter().find(|(name, _)| *name == "damaged").expect("the family");
     let mut agree = true;
     let mut hold = |case: &Case| agree &= readers.differing_in_buffer(case, Memory::Guarded).is_none();
-    family(&mut Run::new(false, Rng::new(SEED), &mut hold));
+    family_of_other_calls("damaged")(&mut Run::new(false, Rng::new(SEED), &mut hold));
     agree
 }
 
@@ -282,4 +287,71 @@ fn parents_flags_and_starts_are_counted() {
     }
     let [parents, flags, starts] = comparison.coverage.held();
     assert!(parents > flags && flags > 500 && flags == starts, "{parents} {flags} {starts}");
+}
+
+/// The answer of the port to another sequence of markers.
+fn with_markers(text: &[u8], markers: &[u32], change: fn(&mut Vec<u32>)) -> (u32, u64) {
+    let mut markers = markers.to_vec();
+    change(&mut markers);
+    port::cursor_travel(text, &markers)
+}
+
+/// A step too many for a marker past the text's end.
+fn not_clamped(text: &[u8], markers: &[u32]) -> (u32, u64) {
+    let end = text.iter().filter(|byte| !(0x80..0xC0).contains(*byte)).count();
+    let (row, steps) = port::cursor_travel(text, markers);
+    (row, steps + u64::from(steps > 0 && markers.iter().any(|marker| *marker as usize > end)))
+}
+
+const FAULTY_TRAVELS: [travels::Call; 4] = [
+    |text, markers| with_markers(text, markers, |markers| _ = markers.pop()),
+    |text, markers| with_markers(text, markers, |markers| markers.sort_unstable()),
+    |text, markers| with_markers(text, markers, |markers| markers.push(0)),
+    not_clamped,
+];
+
+fn travels(cases: Vec<Case>) -> impl Iterator<Item = Travel> {
+    cases.into_iter().map(|case| Travel::of(&case))
+}
+
+#[test]
+fn cursor_travel_is_held() {
+    let is_held = |call, travel: &Travel| travels::differs(call, travel, Memory::Guarded);
+    assert_eq!(travels(random_of(RANDOM_TRAVEL, 1, 2_000)).find(|travel| is_held(port::cursor_travel, travel)), None);
+    for (number, call) in FAULTY_TRAVELS.into_iter().enumerate() {
+        assert!(travels(random_of(RANDOM_TRAVEL, 1, 2_000)).any(|travel| is_held(call, &travel)), "{number}");
+    }
+}
+
+#[test]
+fn cursor_travel_is_held_on_documents() {
+    for (number, travel) in FAULTY_TRAVELS.into_iter().enumerate() {
+        let mut comparison = Comparison { travel, ..Comparison::new(port::build, Memory::Guarded) };
+        for case in random("starts", 1, 200) {
+            comparison.compare(&case);
+        }
+        assert!(comparison.other_calls > 0 && comparison.different == 0, "{number}");
+    }
+}
+
+#[test]
+fn a_differing_travel_is_made_small() {
+    let is_kept = |travel: &Travel| travels::differs(FAULTY_TRAVELS[0], travel, Memory::Guarded);
+    let travel = travels(random_of(RANDOM_TRAVEL, 1, 2_000)).find(is_kept).expect("one that differs");
+    let small = shrunk_travel(&travel, is_kept);
+    // One step over one character.
+    assert_eq!(small.markers, [1]);
+    assert_eq!(str::from_utf8(&small.text).map(|text| text.chars().count()), Ok(1));
+}
+
+/// 2^33 steps, which 32 bits do not hold, to 2^32.
+#[test]
+fn a_long_travel_is_made_smaller() {
+    let in_32_bits: travels::Call = |text, markers| {
+        let (row, steps) = port::cursor_travel(text, markers);
+        (row, u64::from(steps as u32))
+    };
+    let travel = Travel { text: "é".repeat(1 << 16).into(), markers: [1 << 16, 0].repeat(1 << 16) };
+    let small = shrunk_travel(&travel, |travel| travels::differs(in_32_bits, travel, Memory::Exact));
+    assert_eq!((small.expected(), small.markers.len()), ((0, 1 << 32), 1 << 16));
 }

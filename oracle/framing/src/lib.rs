@@ -81,11 +81,21 @@ impl Answer {
         bytes.extend(self.returned.map(u32::to_be_bytes).as_flattened());
         for numbers in [&self.records, &self.pieces] {
             bytes.extend((numbers.len() as u32).to_be_bytes());
-            bytes.extend(numbers.iter().flat_map(|number| number.to_be_bytes()));
+            bytes.extend(number_bytes(numbers));
         }
         file.write_all(&(bytes.len() as u32).to_be_bytes())?;
         file.write_all(&bytes)
     }
+}
+
+/// The numbers of a field that holds some.
+pub fn numbers(bytes: &[u8]) -> Vec<u32> {
+    bytes.as_chunks().0.iter().map(|bytes| u32::from_be_bytes(*bytes)).collect()
+}
+
+/// The bytes of a field that holds these numbers.
+pub fn number_bytes(numbers: &[u32]) -> Vec<u8> {
+    numbers.iter().flat_map(|number| number.to_be_bytes()).collect()
 }
 
 fn read_number(file: &mut impl Read) -> io::Result<u32> {

@@ -17,6 +17,12 @@ struct AnsweredScalar {
     record: Record,
 }
 
+#[repr(C)]
+struct Count {
+    code: u32,
+    count: u64,
+}
+
 unsafe extern "C" {
     fn quarto_yaml_build(
         text: *const u8,
@@ -41,6 +47,7 @@ unsafe extern "C" {
         pieces_len: usize,
     ) -> AnsweredScalar;
     fn quarto_yaml_scan_error(text: *const u8, text_len: usize, index: u32) -> Answered;
+    fn quarto_yaml_cursor_travel(text: *const u8, text_len: usize, markers: *const u32, markers_len: usize) -> Count;
     fn quarto_yaml_parent(records: *const u32, records_len: usize, n: u32) -> u32;
     fn quarto_yaml_is_measured(records: *const u32, records_len: usize, n: u32) -> u32;
 }
@@ -96,6 +103,14 @@ pub fn scan_error(text: &[u8], index: u32) -> [u32; 3] {
     // The pointer comes with the length of the slice that it is of.
     let answered = unsafe { quarto_yaml_scan_error(text.as_ptr(), text.len(), index) };
     [answered.code, answered.first, answered.second]
+}
+
+/// 0 and the steps of the cursor, or a row's number and 0.
+pub fn cursor_travel(text: &[u8], markers: &[u32]) -> (u32, u64) {
+    // Each pointer comes with the length of the slice that it is of.
+    let Count { code, count } =
+        unsafe { quarto_yaml_cursor_travel(text.as_ptr(), text.len(), markers.as_ptr(), markers.len()) };
+    (code, count)
 }
 
 /// The parent of record `n`, or 0xFFFFFFFF at the root and where there is no such record.
