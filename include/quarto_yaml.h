@@ -11,7 +11,7 @@
  *
  * POINTERS. A slice is a pointer and its length: in bytes for `uint8_t`, in numbers for `uint32_t`. With length 0 the pointer is not
  * used and may be NULL; otherwise it leads to so many elements, `uint32_t` ones aligned as such. A buffer lent for writing (a pointer
- * without `const`) must not overlap anything else that the same call is given. Text, events, value and key are never written.
+ * without `const`) must not overlap anything else that the same call is given. Text, events, value, markers and key are never written.
  *
  * EVENTS. All numbers high byte first. An event is
  *
@@ -191,7 +191,7 @@ quarto_yaml_scalar_answer quarto_yaml_scalar(const uint8_t *text, size_t text_le
  */
 quarto_yaml_answer quarto_yaml_scan_error(const uint8_t *text, size_t text_len, uint32_t index);
 
-/* ---- what a document costs */
+/* ---- how far the cursor goes */
 
 /* code 0 and what the call counts; otherwise a number of the table, and 0. */
 typedef struct {
@@ -200,15 +200,17 @@ typedef struct {
 } quarto_yaml_count;
 
 /*
- * How far the cursor travels: the character steps from one marker to the next. An index past the text stands for the text's end. The
- * cursor starts at the text's start and goes straight from each index to the next, forward or back, a character a step; a text that is
- * ASCII needs no cursor, and no step. Answers 0 and the steps, at most 2^40; with markers that never go back at most the text's
- * characters. Otherwise 1 (the text, or more than QUARTO_YAML_MARKERS_LIMIT markers) or 2, and 0.
+ * How far the cursor travels: the character steps from one marker to the next, the part of a document's cost that its markers decide. An
+ * index past the text stands for the text's end. The cursor starts at the text's start and goes straight from each index to the next,
+ * forward or back, a character a step; a text that is ASCII needs no cursor, and no step. Answers 0 and the steps, at most 2^40; with
+ * markers that never go back at most the text's characters. Otherwise 1 (the text, or more than QUARTO_YAML_MARKERS_LIMIT markers) or
+ * 2, and 0.
  *
  * The markers of a document are the marker indices of all its events in order, starts and ends too: `quarto_yaml_build` takes its cursor
- * to each. Its time there is at most in proportion to the steps, and far less on the way forward, which it goes by 32 bytes at a time;
- * back it takes each step. docs/PERFORMANCE.md has the time for a step. This call moves no cursor: its time is that of a look at each
- * byte and each marker, however high the count.
+ * to each, and passes over characters in chunks where it can. So the steps are an upper bound on its work. Today a step back takes 6 to
+ * 11 ns, one forward 1 to 2, and a tenth of that on a long way, which is gone by 32 bytes at a time (docs/PERFORMANCE.md): a few million
+ * steps are nothing, and of what events can bring the most is half an hour. For this call no cursor goes from marker to marker: its time
+ * is that of a look at each byte and each marker, however high the count.
  */
 quarto_yaml_count quarto_yaml_cursor_travel(const uint8_t *text, size_t text_len, const uint32_t *markers, size_t markers_len);
 

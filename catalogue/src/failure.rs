@@ -1,4 +1,4 @@
-//! Why a file has no catalogue, in one line.
+//! Why a file has no answer, in one line.
 
 use crate::libyaml::{Place, Problem};
 use quarto_yaml::event::{Event, PartTooLong};

@@ -1,8 +1,8 @@
-//! The file that a word is asked about.
+//! The file that the command is asked about.
 
 use crate::failure::Failure;
+use crate::subcommand::Stop;
 use crate::visible::{say, visible_name};
-use crate::words::Stop;
 use quarto_yaml::call::TEXT_LIMIT;
 use std::ffi::OsStr;
 use std::fs::File;

@@ -8,6 +8,6 @@ pub mod json;
 pub mod libyaml;
 pub mod marked;
 pub mod quote;
+pub mod subcommand;
 pub mod table;
 pub mod visible;
-pub mod words;

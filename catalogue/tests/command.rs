@@ -1,5 +1,5 @@
 //! The command as a user runs it: the shipped chapter in every form, how far the cursor travels, what it says of files that have no
-//! catalogue, and its words.
+//! catalogue, and its subcommands.
 
 use catalogue::convert::parse;
 use std::fs;
@@ -59,7 +59,7 @@ fn file(name: &str, bytes: &[u8]) -> String {
 /// The forms of `show`.
 const FORMS: [&str; 3] = ["--table", "--json", "--marked"];
 
-/// Exit status 1, nothing on standard output, and one line on standard error, by every word: what follows the file's name.
+/// Exit status 1, nothing on standard output, and one line on standard error, by every subcommand: what follows the file's name.
 #[track_caller]
 fn refused(name: &str, bytes: &[u8]) -> String {
     let words = refused_after(&["travel"], name, bytes);
@@ -352,7 +352,7 @@ fn arguments() {
 }
 
 #[test]
-fn arguments_of_a_word() {
+fn arguments_of_a_subcommand() {
     assert_eq!(wrong(&["travel", "--json", "a"]), "travel has no option --json; travel --help");
     assert_eq!(wrong(&["travel", "a", "--\u{202e}"]), "travel has no option --<U+202E>; travel --help");
     assert_eq!(wrong(&["show", "--csv"]), "show has no option --csv; show --help");
@@ -362,8 +362,8 @@ fn arguments_of_a_word() {
 }
 
 #[test]
-fn a_word_that_does_not_come_first() {
-    let words = |name| format!("{name} is a word, and a word comes first; a file of this name is ./{name}; --help");
+fn a_subcommand_that_does_not_come_first() {
+    let words = |name| format!("the subcommand {name} has to come first; a file of this name is ./{name}; --help");
     assert_eq!(wrong(&["--json", "travel"]), words("travel"));
     assert_eq!(wrong(&[CHAPTER, "travel"]), words("travel"));
     assert_eq!(wrong(&["--table", "show", CHAPTER]), words("show"));
@@ -371,8 +371,8 @@ fn a_word_that_does_not_come_first() {
 }
 
 #[test]
-fn files_that_have_the_name_of_a_word() {
-    let folder = PathBuf::from(env!("CARGO_TARGET_TMPDIR")).join("words");
+fn files_that_have_the_name_of_a_subcommand() {
+    let folder = PathBuf::from(env!("CARGO_TARGET_TMPDIR")).join("subcommands");
     fs::create_dir_all(&folder).unwrap();
     for name in ["show", "travel", "--json", "-"] {
         fs::write(folder.join(name), format!("é {name}")).unwrap();
@@ -383,7 +383,7 @@ fn files_that_have_the_name_of_a_word() {
         assert!(run(&["show", &path]).contains(&content) && run(&[&path]).contains(&content));
         assert_eq!(run(&["travel", &path]), format!("0 steps, {} characters\n", name.len() + 2));
     }
-    // behind a word each name is a file's, and behind -- an option's as well
+    // behind a subcommand each name is a file's, and behind -- an option's as well
     for name in ["show", "travel"] {
         for (given, as_path) in [("show", "show"), ("--", "show"), ("travel", "travel")] {
             assert_eq!(run(&[given, name]), run(&[as_path, &format!("./{name}")]));
@@ -403,10 +403,10 @@ fn help() {
     for arguments in [&["-h"][..], &["--json", "--help"], &[CHAPTER, "-h"], &["--help", "travel"]] {
         assert_eq!(shown(arguments), general);
     }
-    for (word, usage, options) in [("show", show, &FORMS[..]), ("travel", travel, &[])] {
-        let own = shown(&[word, "--help"]);
+    for (name, usage, options) in [("show", show, &FORMS[..]), ("travel", travel, &[])] {
+        let own = shown(&[name, "--help"]);
         assert!(own.starts_with(&format!("usage: {usage}\n")), "{own}");
         assert!(options.iter().all(|option| own.contains(&format!("\n  {option} "))), "{own}");
-        assert_eq!(shown(&[word, CHAPTER, "-h"]), own);
+        assert_eq!(shown(&[name, CHAPTER, "-h"]), own);
     }
 }

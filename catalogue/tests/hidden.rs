@@ -173,10 +173,10 @@ fn in_a_name_that_is_no_utf8() {
 #[test]
 fn in_an_option_that_is_no_utf8() {
     use std::os::unix::ffi::OsStringExt;
-    for word in ["show", "travel"] {
-        let output = run(word, &OsString::from_vec(b"-\xE9\x1b".to_vec()));
+    for name in ["show", "travel"] {
+        let output = run(name, &OsString::from_vec(b"-\xE9\x1b".to_vec()));
         assert_eq!((output.status.code(), output.stdout.len()), (Some(2), 0));
-        let line = format!("catalogue: {word} has no option -<E9><U+001B>; {word} --help says more\n");
+        let line = format!("catalogue: {name} has no option -<E9><U+001B>; {name} --help says more\n");
         assert_eq!(String::from_utf8(output.stderr).unwrap(), line);
     }
 }

@@ -179,14 +179,17 @@ pub fn scan_error(text: &[u8], index: u32) -> Result<Span, Refusal> {
     Ok(Span { start: answer.first, end: answer.second })
 }
 
-/// How far the cursor of a build travels: the character steps from one marker to the next.
+/// How far the cursor of a build travels: the character steps from one marker to the next, at most 2^40.
 ///
 /// An index past the text stands for the text's end. The cursor starts at the text's start and goes straight from each index to the next,
 /// forward or back, a character a step; a text that is ASCII needs no cursor, and no step. With markers that never go back there are at
 /// most as many steps as the text has characters.
 ///
-/// The markers of a document are the indices of all its events in order, the ends of collections too: [`build`] takes its cursor to each.
-/// This call moves no cursor: its time is that of a look at each byte and each marker.
+/// The markers of a document are the indices of all its events in order, the ends of collections too: [`build`] takes its cursor to each. It
+/// passes over characters in chunks where it can, so the steps are an upper bound on its work. For this call no cursor goes from marker to
+/// marker: its time is that of a look at each byte and each marker.
+///
+/// Refused are a text above [`TEXT_LIMIT`] and more than [`MARKERS_LIMIT`] markers ([`Refusal::TooLong`]), then a text that is not UTF-8.
 ///
 /// ```
 /// use quarto_yaml::cursor_travel;

@@ -36,17 +36,17 @@ sum_most n k (m ∷ ms) l h = let rest = sum_most n (clamped n m) ms (omega arit
 
 module _ (text markers : List ℕ) (count : ℕ) where
   -- what it comes from: markers within their number, and a text that is admitted
-  record Counted : Type 0 where
+  record FromAdmitted : Type 0 where
     few : length markers ≤ markers_limit
     is_ascii_text : Bool
     admitted : admission text ≡ Ok is_ascii_text
     is : travel_of text markers (Ok is_ascii_text) ≡ Ok count
 
-  counted_by : (b : Bool) (a : Result Bool TextError) → ltb markers_limit (length markers) ≡ b → admission text ≡ a
-      → cond b (Err TooLong) (travel_of text markers a) ≡ Ok count → Counted
-  counted_by true a p q e = absurd (let z : ◌≡◌ {A = ℕ} 0 1 = cc in omega arith)
-  counted_by false (Err x) p q e = absurd (let z : ◌≡◌ {A = ℕ} 0 1 = cc in omega arith)
-  counted_by false (Ok x) p q e = record { few = ltb-false markers_limit (length markers) p; is_ascii_text = x; admitted = q; is = e }
+  from_admitted : (b : Bool) (a : Result Bool TextError) → ltb markers_limit (length markers) ≡ b → admission text ≡ a
+      → cond b (Err TooLong) (travel_of text markers a) ≡ Ok count → FromAdmitted
+  from_admitted true a p q e = absurd (let z : ◌≡◌ {A = ℕ} 0 1 = cc in omega arith)
+  from_admitted false (Err x) p q e = absurd (let z : ◌≡◌ {A = ℕ} 0 1 = cc in omega arith)
+  from_admitted false (Ok x) p q e = record { few = ltb-false markers_limit (length markers) p; is_ascii_text = x; admitted = q; is = e }
 
   says : (x : Bool) → x ≡ is_ascii text → AdmittedText text → length markers ≤ markers_limit → travel_of text markers (Ok x) ≡ Ok count → CountSays text markers count
   says true a t few e =
@@ -74,7 +74,7 @@ module _ (text markers : List ℕ) (count : ℕ) where
   pub count_says : cursor_travel text markers ≡ Ok count → CountSays text markers count
   unfolding cursor_travel
   count_says e =
-      let c = counted_by (ltb markers_limit (length markers)) (admission text) refl refl e in
+      let c = from_admitted (ltb markers_limit (length markers)) (admission text) refl refl e in
       says c.is_ascii_text (admitted_ascii text c.is_ascii_text c.admitted) (admitted_text text c.is_ascii_text c.admitted) c.few c.is
 
 pub every_count : EveryCount

@@ -10,7 +10,7 @@ use Rattle.text.specs.declared.admission.TextError.TheVariants.{TooLong}
 abbrev pub markers_limit : ℕ
 markers_limit = 1_048_576
 
--- a marker's index in a text of so many characters: one past the text stands for its end
+-- a marker's index in a text of so many characters: an index past the text stands for the text's end
 abbrev pub clamped : ℕ → ℕ → ℕ
 clamped chars marker = min chars marker
 

@@ -1,4 +1,4 @@
-// What a sequence of markers costs before any is visited: how far the cursor of `text` travels over them. (02: (k).)
+// How far the cursor of `text` travels over a sequence of markers, told before it does. (02: (k).)
 #![tactic(auto)]
 
 pub mod travel;

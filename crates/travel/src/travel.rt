@@ -1,4 +1,4 @@
-// How far the cursor travels over a sequence of markers, told without moving it. (02: (k).)
+// How far the cursor travels over a sequence of markers. No cursor goes from marker to marker for it. (02: (k).)
 ghost use Rattle.std.specs.Prelude.{◌≡◌, ◌≤◌, length, map};
 ghost use Rattle.utf8.specs.Characters.{codes};
 ghost use Rattle.text.specs.Admission.{text_limit};

@@ -48,7 +48,7 @@ pub const FAMILIES: [(&str, Family); 11] = [
 ];
 
 /// Those that the accessors, `scan_error` and `cursor_travel` answer.
-pub const ACCESSOR_FAMILIES: [(&str, Family); 4] = [
+pub const OTHER_FAMILIES: [(&str, Family); 4] = [
     ("nodes", nodes::write),
     ("damaged", damaged::write),
     ("scan_errors", scan_errors::write),

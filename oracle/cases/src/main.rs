@@ -2,7 +2,7 @@
 
 use cases::rng::Rng;
 use cases::run::Run;
-use cases::{ACCESSOR_FAMILIES, FAMILIES, Family, SEED};
+use cases::{FAMILIES, Family, OTHER_FAMILIES, SEED};
 use std::env;
 use std::io::{self, BufWriter, Write};
 use std::process::ExitCode;
@@ -33,7 +33,7 @@ fn parse(arguments: &[&str]) -> Option<(Family, bool, u64)> {
         [family, size, seed] => (family, size, seed.parse().ok()?),
         _ => return None,
     };
-    let (_, family) = FAMILIES.iter().chain(&ACCESSOR_FAMILIES).find(|(name, _)| *name == family)?;
+    let (_, family) = FAMILIES.iter().chain(&OTHER_FAMILIES).find(|(name, _)| *name == family)?;
     match size {
         "sample" => Some((*family, false, seed)),
         "full" => Some((*family, true, seed)),

@@ -4,7 +4,7 @@
 use answers::travel::travel;
 use cases::rng::Rng;
 use cases::run::Run;
-use cases::{ACCESSOR_FAMILIES, SEED, TRAVEL_LIMITS};
+use cases::{OTHER_FAMILIES, SEED, TRAVEL_LIMITS};
 use framing::Case;
 use std::collections::HashSet;
 
@@ -40,7 +40,7 @@ impl Travel {
 
 /// Hands over the sample, then the limits.
 fn each(hold: &mut dyn FnMut(Travel)) {
-    let (_, family) = ACCESSOR_FAMILIES.iter().find(|(name, _)| *name == "travels").expect("the family");
+    let (_, family) = OTHER_FAMILIES.iter().find(|(name, _)| *name == "travels").expect("the family");
     for family in [*family, TRAVEL_LIMITS] {
         family(&mut Run::new(false, Rng::new(SEED), &mut |case| hold(Travel::of(case))));
     }

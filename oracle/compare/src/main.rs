@@ -22,7 +22,7 @@ use cases::chapter::{self, Shape};
 use cases::rng::Rng;
 use cases::run::Run;
 use cases::script::SCRIPTS;
-use cases::{ACCESSOR_FAMILIES, FAMILIES, Family, LIMITS, RANDOM, RANDOM_TRAVEL, SEED, TRAVEL_LIMITS};
+use cases::{FAMILIES, Family, LIMITS, OTHER_FAMILIES, RANDOM, RANDOM_TRAVEL, SEED, TRAVEL_LIMITS};
 use coverage::Coverage;
 use framing::{Answer, Case};
 use held::{Build, Memory, outcome};
@@ -260,7 +260,7 @@ impl Comparison {
 
 /// A family that other calls than `build` answer.
 fn family_of_other_calls(name: &str) -> Family {
-    let (_, family) = ACCESSOR_FAMILIES.iter().find(|(other, _)| *other == name).expect("the family");
+    let (_, family) = OTHER_FAMILIES.iter().find(|(other, _)| *other == name).expect("the family");
     *family
 }
 

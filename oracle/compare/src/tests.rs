@@ -316,10 +316,10 @@ fn travels(cases: Vec<Case>) -> impl Iterator<Item = Travel> {
 
 #[test]
 fn cursor_travel_is_held() {
-    let is_held = |call, travel: &Travel| travels::differs(call, travel, Memory::Guarded);
-    assert_eq!(travels(random_of(RANDOM_TRAVEL, 1, 2_000)).find(|travel| is_held(port::cursor_travel, travel)), None);
+    let differs = |call, travel: &Travel| travels::differs(call, travel, Memory::Guarded);
+    assert_eq!(travels(random_of(RANDOM_TRAVEL, 1, 2_000)).find(|travel| differs(port::cursor_travel, travel)), None);
     for (number, call) in FAULTY_TRAVELS.into_iter().enumerate() {
-        assert!(travels(random_of(RANDOM_TRAVEL, 1, 2_000)).any(|travel| is_held(call, &travel)), "{number}");
+        assert!(travels(random_of(RANDOM_TRAVEL, 1, 2_000)).any(|travel| differs(call, &travel)), "{number}");
     }
 }
 

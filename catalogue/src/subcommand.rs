@@ -1,4 +1,5 @@
-//! The words: what the command does, by its first argument. Each has a module with its options and its help; a new one is named in `WORDS`.
+//! The subcommands: what the command does, by its first argument. Each has a module with its options and its help; a new one is listed in
+//! `SUBCOMMANDS`.
 
 mod show;
 mod travel;
@@ -7,28 +8,28 @@ use crate::visible::visible_name;
 use std::ffi::{OsStr, OsString};
 use std::io::{self, Write};
 
-/// A word.
-struct Word {
+/// A subcommand.
+struct Subcommand {
     name: &'static str,
     /// The options that it takes.
     options: &'static [&'static str],
     /// Its usage line, after the command's name.
     usage: &'static str,
-    /// What it does, for the list of words.
+    /// What it does, for the list of subcommands.
     summary: &'static str,
     /// What it does, and its options, for its own help.
     help: &'static str,
     run: fn(&Arguments) -> Result<(), Stop>,
 }
 
-/// All words. The first is meant where none is given.
-const WORDS: &[&Word] = &[&show::WORD, &travel::WORD];
+/// All of them. The first is meant where none is given.
+const SUBCOMMANDS: &[&Subcommand] = &[&show::SUBCOMMAND, &travel::SUBCOMMAND];
 
 /// What every help says of files.
 const FILES: &str = "\
 FILE - is standard input. Without a FILE it takes examples/chapter.yaml of the repository, whatever standard input is,
-and says so on standard error. A file that has the name of a word, or a - before its name, is given as ./NAME or
-after --.
+and says so on standard error. A file whose name is a subcommand's, or starts with -, is given as ./NAME or after --;
+- alone is always standard input.
 ";
 
 /// Why the command stops.
@@ -47,16 +48,16 @@ impl From<io::Error> for Stop {
     }
 }
 
-/// What stands behind the word.
+/// What stands behind the subcommand.
 struct Arguments {
-    /// Options of the word, in their order.
+    /// Its options, in their order.
     options: Vec<&'static str>,
     /// All else, in its order.
     operands: Vec<OsString>,
 }
 
 impl Arguments {
-    /// The file of a word that takes one and nothing else.
+    /// The file of a subcommand that takes one and nothing else.
     fn file(&self) -> Result<Option<&OsStr>, Stop> {
         match &self.operands[..] {
             [] => Ok(None),
@@ -73,34 +74,38 @@ pub fn run(arguments: impl Iterator<Item = OsString>) -> Result<(), Stop> {
     if given.is_some() {
         rest.next();
     }
-    let word = given.unwrap_or(WORDS[0]);
-    let answer = match parse(word, given.is_some(), rest) {
-        Ok(Some(arguments)) => (word.run)(&arguments),
+    let subcommand = given.unwrap_or(SUBCOMMANDS[0]);
+    let answer = match parse(subcommand, given.is_some(), rest) {
+        Ok(Some(arguments)) => (subcommand.run)(&arguments),
         Ok(None) => Ok(io::stdout().write_all(help(given).as_bytes())?),
         Err(stop) => Err(stop),
     };
     answer.map_err(|stop| match stop {
         Stop::Arguments(words) => {
-            let name = given.map_or(String::new(), |word| format!("{} ", word.name));
+            let name = given.map_or(String::new(), |subcommand| format!("{} ", subcommand.name));
             Stop::Arguments(format!("{words}; {name}--help says more"))
         }
         other => other,
     })
 }
 
-fn named(argument: &OsStr) -> Option<&'static Word> {
-    WORDS.iter().copied().find(|word| argument == word.name)
+fn named(argument: &OsStr) -> Option<&'static Subcommand> {
+    SUBCOMMANDS.iter().copied().find(|subcommand| argument == subcommand.name)
 }
 
-/// The arguments behind a word, or behind none if it is not given; nothing where they ask for help. `--` ends options and words.
-fn parse(word: &Word, given: bool, rest: impl Iterator<Item = OsString>) -> Result<Option<Arguments>, Stop> {
+/// The arguments behind a subcommand, which may not be given; nothing where they ask for help. `--` ends options and subcommands.
+fn parse(
+    subcommand: &Subcommand,
+    given: bool,
+    rest: impl Iterator<Item = OsString>,
+) -> Result<Option<Arguments>, Stop> {
     let mut arguments = Arguments { options: Vec::new(), operands: Vec::new() };
     let mut ended = false;
     for argument in rest {
         if ended || argument == "-" || !argument.as_encoded_bytes().starts_with(b"-") {
             match named(&argument) {
-                Some(Word { name, .. }) if !given && !ended => {
-                    let words = format!("{name} is a word, and a word comes first; a file of this name is ./{name}");
+                Some(Subcommand { name, .. }) if !given && !ended => {
+                    let words = format!("the subcommand {name} has to come first; a file of this name is ./{name}");
                     return Err(Stop::Arguments(words));
                 }
                 _ => arguments.operands.push(argument),
@@ -109,12 +114,12 @@ fn parse(word: &Word, given: bool, rest: impl Iterator<Item = OsString>) -> Resu
             ended = true;
         } else if argument == "--help" || argument == "-h" {
             return Ok(None);
-        } else if let Some(option) = word.options.iter().find(|option| argument == **option) {
+        } else if let Some(option) = subcommand.options.iter().find(|option| argument == **option) {
             arguments.options.push(option);
         } else {
             let option = visible_name(&argument);
             return Err(Stop::Arguments(match given {
-                true => format!("{} has no option {option}", word.name),
+                true => format!("{} has no option {option}", subcommand.name),
                 false => format!("unknown option {option}"),
             }));
         }
@@ -122,12 +127,14 @@ fn parse(word: &Word, given: bool, rest: impl Iterator<Item = OsString>) -> Resu
     Ok(Some(arguments))
 }
 
-/// The help of a word, or of the command where none is given.
-fn help(given: Option<&Word>) -> String {
-    if let Some(word) = given {
-        return format!("usage: catalogue {}\n\n{}\n{FILES}", word.usage, word.help);
+/// The help of a subcommand, or of the command where none is given.
+fn help(given: Option<&Subcommand>) -> String {
+    if let Some(Subcommand { usage, help, .. }) = given {
+        return format!("usage: catalogue {usage}\n\n{help}\n{FILES}");
     }
-    let usages: Vec<String> = WORDS.iter().map(|word| format!("catalogue {}\n", word.usage)).collect();
-    let summaries: String = WORDS.iter().map(|word| format!("  {:10}{}\n", word.name, word.summary)).collect();
-    format!("usage: {}\n{summaries}\nWORD --help says more of a word.\n\n{FILES}", usages.join("       "))
+    let usages: Vec<String> =
+        SUBCOMMANDS.iter().map(|Subcommand { usage, .. }| format!("catalogue {usage}\n")).collect();
+    let summaries: String =
+        SUBCOMMANDS.iter().map(|Subcommand { name, summary, .. }| format!("  {name:10}{summary}\n")).collect();
+    format!("usage: {}\n{summaries}\nSUBCOMMAND --help says more of one.\n\n{FILES}", usages.join("       "))
 }

@@ -1,17 +1,17 @@
 //! `show`: the catalogue of a file, in one of three forms.
 
-use super::{Arguments, Stop, Word};
+use super::{Arguments, Stop, Subcommand};
 use crate::document::with_document;
 use crate::input::Input;
 use crate::{json, marked, table};
 use std::env;
 use std::io::{self, BufWriter, IsTerminal, Write};
 
-pub(super) const WORD: Word = Word {
+pub(super) const SUBCOMMAND: Subcommand = Subcommand {
     name: "show",
     options: &["--table", "--json", "--marked"],
     usage: "[show] [--table | --json | --marked] [FILE]",
-    summary: "the catalogue of a YAML file (also where no word is given)",
+    summary: "the catalogue of a YAML file (also where no subcommand is given)",
     help: "\
 Shows the catalogue of a YAML file: for each scalar its kind, the bytes of the file that it occupies, where its tag is
 written, and the pieces: from which bytes every stretch of its value came.

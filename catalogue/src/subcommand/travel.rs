@@ -1,21 +1,22 @@
 //! `travel`: how far the cursor goes for a file's catalogue, without building it.
 
-use super::{Arguments, Stop, Word};
+use super::{Arguments, Stop, Subcommand};
 use crate::document::with_events;
 use crate::failure::Failure;
 use crate::input::Input;
 use quarto_yaml::{Event, Refusal, cursor_travel};
 use std::io::{self, Write};
 
-pub(super) const WORD: Word = Word {
+pub(super) const SUBCOMMAND: Subcommand = Subcommand {
     name: "travel",
     options: &[],
     usage: "travel [FILE]",
-    summary: "how many steps the cursor goes to build the catalogue, and how many characters the file has",
+    summary: "how many steps the cursor goes at most to build the catalogue, and how many characters the file has",
     help: "\
 Tells in a line how many steps the cursor goes to build the catalogue of a YAML file, without building it, and how many
 characters the file has. The cursor goes from the start of the file to the marker of each event in turn, forward or
-back, a character a step. A file that is ASCII needs no cursor, and no step.
+back. A step is a character; forward the library takes many at once, so its work is at most so many steps. A file that
+is ASCII needs no cursor, and no step.
 ",
     run,
 };
