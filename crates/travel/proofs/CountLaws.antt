@@ -10,7 +10,7 @@ use Rattle.text.specs.Admission.{text_limit, admission}
 use Rattle.text.specs.Admitted.{AdmittedText}
 use Rattle.text.proofs.AdmissionLaws.{admitted_text, admitted_ascii}
 use Rattle.text.specs.declared.admission.TextError.{TextError}
-use Rattle.text.specs.declared.admission.TextError.TheVariants.{TooLong}
+use Rattle.text.specs.declared.admission.TextError.TheVariants.{TooLong, NotUtf8}
 use Rattle.text.specs.declared.offset.Cursor.{Cursor}
 use Rattle.travel.specs.Travel.{markers_limit, clamped, distances, travel_of, cursor_travel, counted}
 use Rattle.travel.specs.Steps.{start, Travels}
@@ -71,14 +71,20 @@ module _ (text markers : List ℕ) (count : ℕ) where
         most = let m = sum_most n 0 markers (omega arith) (omega arith) in omega arith;
       }
 
-  pub count_says : cursor_travel text markers ≡ Ok count → CountSays text markers count
+  count_says : cursor_travel text markers ≡ Ok count → CountSays text markers count
   unfolding cursor_travel
   count_says e =
       let c = from_admitted (ltb markers_limit (length markers)) (admission text) refl refl e in
       says c.is_ascii_text (admitted_ascii text c.is_ascii_text c.admitted) (admitted_text text c.is_ascii_text c.admitted) c.few c.is
 
+-- 0 is the number of no refusal
+counts : (count : ℕ) (r : Result ℕ TextError) → counted r ≡ 0 ∷ count ∷ [] → r ≡ Ok count
+counts count (Ok n) e = let z : n ≡ count = cc in rw z refl
+counts count (Err TooLong) e = absurd (let z : ◌≡◌ {A = ℕ} 1 0 = cc in omega arith)
+counts count (Err NotUtf8) e = absurd (let z : ◌≡◌ {A = ℕ} 2 0 = cc in omega arith)
+
 pub every_count : EveryCount
-every_count = count_says
+every_count text markers count e = count_says text markers count (counts count (cursor_travel text markers) e)
 
 -- ---- which answer it is
 
@@ -93,7 +99,7 @@ no_utf8_is s h = go (is_utf8 s) refl
     go true e = absurd (h (utf8_sound s e))
     go false e = e
 
-some_count : (text markers : List ℕ) (x : Bool) → (count : ℕ) × (travel_of text markers (Ok x) ≡ Ok count)
+some_count : (text markers : List ℕ) (x : Bool) → (count : ℕ) × (counted (travel_of text markers (Ok x)) ≡ 0 ∷ count ∷ [])
 some_count text markers true = (_, refl)
 some_count text markers false = (_, refl)
 

@@ -12,6 +12,7 @@ use Rattle.text.proofs.OffsetLaws.{index_front, offset_next, offset_past, offset
 use Rattle.travel.specs.Travel.{clamped, distance, distances}
 use Rattle.travel.specs.Steps.{start, Between, Step, on, back, Straight, Travels, steps}
 use Rattle.travel.specs.Proved.{MovesByOne, EveryMarker}
+use Rattle.travel.proofs.TravelLaws.{cursor_chars}
 
 -- ---- how many steps a way has
 
@@ -24,10 +25,6 @@ straight_steps s t c (d ∷ ds) h = let rest = straight_steps s t d ds h.1 in go
     go (on x ahead b) rest = let e = b.chars in omega arith
     go (back x behind b) rest = let e = b.chars in omega arith
 
-cursor_chars : (s : List ℕ) (m : ℕ) → (cursor_at s m).chars ≡ clamped (length (codes s)) m
-unfolding cursor_at
-cursor_chars s m = omega arith
-
 pub travels_steps : (s : List ℕ) (c : Cursor) (ms : List ℕ) (ways : List (List Cursor)) → Travels s c ms ways
     → steps ways ≡ distances c.chars (map (clamped (length (codes s))) ms)
 unfolding Travels steps distances
@@ -35,7 +32,8 @@ travels_steps s c [] [] h = refl
 travels_steps s c [] (ds ∷ ways) h = absurd h
 travels_steps s c (m ∷ ms) [] h = absurd h
 travels_steps s c (m ∷ ms) (ds ∷ ways) h =
-    let e = cursor_chars s m in
+    let passed = cursor_chars s m in
+    let e : (cursor_at s m).chars ≡ clamped (length (codes s)) m = omega arith in
     let first = straight_steps s (cursor_at s m) c ds h.0 in
     let rest = travels_steps s (cursor_at s m) ms ways h.1 in
     subst (λ (k : ℕ). length ds + steps ways ≡ distance c.chars k + distances k (map (clamped (length (codes s))) ms)) e (omega arith)
@@ -66,17 +64,13 @@ module _ {s : List ℕ} (u : Utf8 s) where
   abbrev Way : ℕ → ℕ → Type 0
   Way k t = (ds : List Cursor) × Straight s (cursor_at s t) (cursor_at s k) ds
 
-  chars_is : (k : ℕ) → k ≤ length (codes s) → (cursor_at s k).chars ≡ k
-  unfolding cursor_at
-  chars_is k h = omega arith
-
   ahead : (n k t : ℕ) → k + n ≡ t → t ≤ length (codes s) → Way k t
   unfolding Straight
   ahead zero k t e l = let same : k ≡ t = omega arith in ([], ap (cursor_at s) same)
   ahead (suc n) k t e l =
       let rest = ahead n (suc k) t (omega arith) l in
-      let ck = chars_is k (omega arith) in
-      let ct = chars_is t l in
+      let ck = cursor_chars s k in
+      let ct = cursor_chars s t in
       (cursor_at s (suc k) ∷ rest.0, (on (get_or (codes s) k 0) (omega arith) (between k (omega arith)), rest.1))
 
   behind : (n k t : ℕ) → t + n ≡ k → k ≤ length (codes s) → Way k t
@@ -85,8 +79,8 @@ module _ {s : List ℕ} (u : Utf8 s) where
   behind (suc n) zero t e l = absurd (omega arith)
   behind (suc n) (suc k) t e l =
       let rest = behind n k t (omega arith) (omega arith) in
-      let ck = chars_is (suc k) l in
-      let ct = chars_is t (omega arith) in
+      let ck = cursor_chars s (suc k) in
+      let ct = cursor_chars s t in
       (cursor_at s k ∷ rest.0, (back (get_or (codes s) k 0) (omega arith) (between k (omega arith)), rest.1))
 
   -- an index past the text stands where its end does

@@ -1,5 +1,5 @@
 -- The laws of the distances between successive indices, and of how many characters a text has.
-use Rattle.std.specs.Prelude.{◌≡◌, List, [], ◌∷◌, ℕ, zero, suc, ◌+◌, ◌-◌, ◌≤◌, ◌<◌, map, length, drop, get_or}
+use Rattle.std.specs.Prelude.{◌≡◌, refl, min, List, [], ◌∷◌, ℕ, zero, suc, ◌+◌, ◌-◌, ◌≤◌, ◌<◌, map, length, drop, get_or}
 use Rattle.std.proofs.Common.{sym, ◌∙◌, ap, arith, add-one, drop-cons, drop_of_length-le}
 use Rattle.std.proofs.Math.ListN.{length-map}
 use Rattle.utf8.specs.Characters.{first_char, codes, chars_after}
@@ -19,10 +19,13 @@ pub codes_most : (s : List ℕ) → length (codes s) ≤ length s
 unfolding codes
 codes_most s = let h = chars_most 0 s in let e = length-map (chars_after 0 s) (λ (c : Char). c.code) in omega arith
 
--- the cursor at the end has passed them all
-pub end_chars : (s : List ℕ) → (cursor_at s (length s)).chars ≡ length (codes s)
+-- how many the cursor has passed; at the end all of them
+pub cursor_chars : (s : List ℕ) (m : ℕ) → (cursor_at s m).chars ≡ min m (length (codes s))
 unfolding cursor_at
-end_chars s = let h = codes_most s in omega arith
+cursor_chars s m = refl
+
+pub end_chars : (s : List ℕ) → (cursor_at s (length s)).chars ≡ length (codes s)
+end_chars s = let h = codes_most s in let e = cursor_chars s (length s) in omega arith
 
 -- one marker more
 pub distances_at : (chars k : ℕ) (ms : List ℕ) (i : ℕ) → i < length ms

@@ -27,7 +27,9 @@ pub record Worked : Type 0 where
   pub empty : cursor_travel [] (3 ∷ 1 ∷ []) ≡ Ok 0
   -- no UTF-8
   pub refused : cursor_travel (0xc3 ∷ []) (1 ∷ []) ≡ Err NotUtf8
-  pub numbers : counted (cursor_travel (0xc3 ∷ []) (1 ∷ [])) ≡ 2 ∷ 0 ∷ []
+  -- in numbers
+  pub count_numbers : counted (cursor_travel (text "€😀") (2 ∷ 1 ∷ [])) ≡ 0 ∷ 3 ∷ []
+  pub refusal_numbers : counted (cursor_travel (0xc3 ∷ []) (1 ∷ [])) ≡ 2 ∷ 0 ∷ []
 
 pub worked : Worked
 unfolding cursor_travel distances admission encode_all encode is_ascii codes chars_after first_char char_of multi_byte two_bytes three_bytes four_bytes is_utf8 all_some
@@ -41,5 +43,6 @@ worked =
       ascii = refl;
       empty = refl;
       refused = refl;
-      numbers = refl;
+      count_numbers = refl;
+      refusal_numbers = refl;
     }

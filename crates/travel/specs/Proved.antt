@@ -1,5 +1,5 @@
 -- What is proved of the cursor's travel: the types of the theorems in proofs/CountLaws.antt, and of `moves_by_one` (proofs/StepLaws.antt).
-use Rattle.std.specs.Prelude.{ℕ, ◌+◌, ◌^◌, ◌<◌, ◌≤◌, ◌≡◌, true, false, List, [], ◌∷◌, map, length, Ok}
+use Rattle.std.specs.Prelude.{ℕ, ◌+◌, ◌^◌, ◌<◌, ◌≤◌, ◌≡◌, true, false, List, [], ◌∷◌, map, length}
 use Rattle.utf8.specs.Utf8.{Utf8, is_ascii}
 use Rattle.utf8.specs.Characters.{codes}
 use Rattle.text.specs.Offset.{byte_offset}
@@ -20,15 +20,16 @@ pub record CountSays (text markers : List ℕ) (count : ℕ) : Type 0 where
   pub never_fall : NeverFall 0 (map (clamped (length (codes text))) markers) → count ≤ length (codes text)
   pub most : count ≤ 2 ^ 40
 
+-- by the two numbers that the exported call answers
 abbrev pub EveryCount : Type 0
-EveryCount = (text markers : List ℕ) (count : ℕ) → cursor_travel text markers ≡ Ok count → CountSays text markers count
+EveryCount = (text markers : List ℕ) (count : ℕ) → counted (cursor_travel text markers) ≡ 0 ∷ count ∷ [] → CountSays text markers count
 
--- which of the three answers it is, in document 01's numbers
+-- which of the three answers it is, in these numbers
 pub record Answers (text markers : List ℕ) : Type 0 where
   pub long_text : 1_048_576 < length text → counted (cursor_travel text markers) ≡ 1 ∷ 0 ∷ []
   pub many_markers : 1_048_576 < length markers → counted (cursor_travel text markers) ≡ 1 ∷ 0 ∷ []
   pub no_utf8 : length text ≤ 1_048_576 → length markers ≤ 1_048_576 → (Utf8 text → ⊥) → counted (cursor_travel text markers) ≡ 2 ∷ 0 ∷ []
-  pub admitted : length text ≤ 1_048_576 → length markers ≤ 1_048_576 → Utf8 text → (count : ℕ) × (cursor_travel text markers ≡ Ok count)
+  pub admitted : length text ≤ 1_048_576 → length markers ≤ 1_048_576 → Utf8 text → (count : ℕ) × (counted (cursor_travel text markers) ≡ 0 ∷ count ∷ [])
 
 abbrev pub EveryAnswer : Type 0
 EveryAnswer = (text markers : List ℕ) → Answers text markers
