@@ -18,7 +18,8 @@ struct Line {
     len: usize,
 }
 
-// The line that a text begins with. Letters are passed over at once, so the loop goes by what it reads.
+// The line that a text begins with. Letters are passed over at once, so the loop goes by what it reads. In line, since many lines are short.
+#[inline(always)]
 fn first_line(tail: Utf8Bytes<'_>) -> Line
     ensures { result ≡ line_of (codes tail.entry.bytes.now) }
 {

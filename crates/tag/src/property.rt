@@ -1,9 +1,10 @@
 // The tag property before a node, and the tag's span, found or guessed. (01: Reading rules, Tag span; S9, P6, F1, K12.)
 ghost use Rattle.std.specs.Prelude.{◌≡◌};
-ghost use Rattle.tag.specs.Tag.{tag_before, tag_property, tag_offset, tag_span};
+ghost use Rattle.utf8.specs.Boundary.{Boundary};
+ghost use Rattle.tag.specs.Tag.{property_span, tag_property, tag_offset, tag_span};
 
 use crate::token::{back_over, opening_len};
-use utf8::utf8::{Place, byte_at};
+use utf8::utf8::{Place, Utf8Bytes, byte_at};
 use utf8::white_space::is_white_space;
 
 // What a tag and an anchor begin with.
@@ -18,25 +19,28 @@ pub struct TagSpan {
     pub end: usize,
 }
 
-// The span of the tag property before a node, found going back token by token: a loop, since how far each token reaches back is read.
-fn find_property(node: Place<'_>) -> Option<TagSpan>
-    ensures { result ≡ tag_before node.entry.text.bytes.now node.entry.at }
+// The span of the tag property before the node at `at`, the empty one there where it has none. Found going back token by token: a loop,
+// since how far each token reaches back is read. Text, place and span are numbers in registers, so that of two searches from one node the
+// compiler makes one: see `make_tag_info`.
+fn find_property(text: Utf8Bytes<'_>, at: usize) -> TagSpan
+    requires { Boundary text.bytes.now at }
+    ensures { result ≡ property_span text.entry.bytes.now at }
 {
-    let mut before = node;
+    let mut before = at;
     loop {
-        let end = back_over(before, is_white_space);
+        let end = back_over(Place { text, at: before }, is_white_space);
         let start = back_over(end, |c| !is_white_space(c));
-        let token = &node.text.bytes[start.at..end.at];
+        let token = &text.bytes[start.at..end.at];
         let dropped = opening_len(token);
         match byte_at(token, dropped) {
             TAG => {
-                return Some(TagSpan {
+                return TagSpan {
                     start: start.at + dropped,
                     end: end.at,
-                });
+                };
             }
-            ANCHOR => before = start,
-            _ => return None,
+            ANCHOR => before = start.at,
+            _ => return TagSpan { start: at, end: at },
         }
     }
 }
@@ -45,11 +49,9 @@ fn find_property(node: Place<'_>) -> Option<TagSpan>
 pub fn find_tag_span(node: Place<'_>) -> &[u8]
     ensures { result.now ≡ tag_property node.entry.text.bytes.now node.entry.at }
 {
-    let text = node.text.bytes;
-    match find_property(node) {
-        Some(p) => &text[p.start..p.end],
-        None => &text[node.at..node.at],
-    }
+    let found = find_property(node.text, node.at);
+    let start = found.start;
+    &node.text.bytes[start..found.end]
 }
 
 // The byte offset of that part; the node's where there is no property.
@@ -57,7 +59,7 @@ pub fn find_tag_span(node: Place<'_>) -> &[u8]
 pub fn find_tag_offset(node: Place<'_>) -> usize
     ensures { result ≡ tag_offset node.entry.text.bytes.now node.entry.at }
 {
-    find_property(node).map_or(node.at, |p| p.start)
+    find_property(node.text, node.at).start
 }
 
 // The span of a node's tag, its suffix being `suffix` bytes long: the property before the node, as long as the part handed back, or else a

@@ -119,7 +119,7 @@ impl Standing<'_> {
         let text = self.text;
         let mut offset = self.cursor.offset;
         for _ in target..self.cursor.chars {
-            offset -= Place { text, at: offset }.last_char().unwrap().len;
+            offset = Place { text, at: offset }.last_start();
         }
         Cursor {
             chars: target,

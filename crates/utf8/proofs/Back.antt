@@ -31,6 +31,22 @@ module _ {s : List ℕ} {i : ℕ} (u : Utf8 s) (p : Boundary s i) where
     starts : continues start ≡ false
     starts = continues_in start start_within ∙ before.is.start.edge
 
+  -- not all bytes continue, where there are some
+  pub one_starts : 0 < i → ((k : ℕ) → k < i → continues k ≡ true) → ⊥
+  one_starts h all = clash (sym (all start (start_within h)) ∙ starts h)
+
+  -- a byte that continues, as all behind it do, is not the first
+  pub goes_back : (j : ℕ) → j < i → continues j ≡ true → ((k : ℕ) → j < k → k < i → continues k ≡ true) → 0 < j
+  goes_back j h e all = go (dec_lt 0 j)
+    where
+      each : j ≡ 0 → (k : ℕ) → k < i → Dec (j < k) → continues k ≡ true
+      each z k l (yes m) = all k m l
+      each z k l (no m) = let same : k ≡ j = omega arith in rw same e
+
+      go : Dec (0 < j) → 0 < j
+      go (yes l) = l
+      go (no l) = absurd (one_starts (omega arith) (λ k m. each (omega arith) k m (dec_lt j k)))
+
   -- there is none where all bytes continue
   pub none_before : ((k : ℕ) → k < i → continues k ≡ true) → None ≡ some_char (last_char (take i s))
   unfolding last_char last_of codes chars_after
@@ -40,11 +56,12 @@ module _ {s : List ℕ} {i : ℕ} (u : Utf8 s) (p : Boundary s i) where
       at_start e = rw e
 
       go : Dec (0 < i) → None ≡ some_char (last_char (take i s))
-      go (yes h) = absurd (clash (sym (all start (start_within h)) ∙ starts h))
+      go (yes h) = absurd (one_starts h all)
       go (no h) = at_start (omega arith)
 
-  pub start_found : (j : ℕ) → j < i → continues j ≡ false → ((k : ℕ) → j < k → k < i → continues k ≡ true) → first_char (drop j s) ≡ last_char (take i s)
-  start_found j h e all = ap (λ (n : ℕ). first_char (drop n s)) (is (dec_lt start j) (dec_lt j start)) ∙ b.is.first
+  -- the last byte that continues nothing is where it begins
+  pub start_only : (j : ℕ) → j < i → continues j ≡ false → ((k : ℕ) → j < k → k < i → continues k ≡ true) → j ≡ start
+  start_only j h e all = is (dec_lt start j) (dec_lt j start)
     where
       some : 0 < i
       some = omega arith
@@ -59,3 +76,10 @@ module _ {s : List ℕ} {i : ℕ} (u : Utf8 s) (p : Boundary s i) where
       is (yes l) q = absurd (clash (sym (b.is.continues j l up_to) ∙ sym (continues_in j h) ∙ e))
       is (no l) (yes m) = absurd (clash (sym (all start m (start_within some)) ∙ starts some))
       is (no l) (no m) = omega arith
+
+  pub start_found : (j : ℕ) → j < i → continues j ≡ false → ((k : ℕ) → j < k → k < i → continues k ≡ true) → first_char (drop j s) ≡ last_char (take i s)
+  start_found j h e all = ap (λ (n : ℕ). first_char (drop n s)) (start_only j h e all) ∙ (before (omega arith)).is.first
+
+  -- what begins there is the character that ends at i
+  pub starts_there : 0 < i → {j : ℕ} → j ≡ start → first_char (drop j s) ≡ last_char (take i s)
+  starts_there some e = ap (λ (n : ℕ). first_char (drop n s)) e ∙ (before some).is.first

@@ -1,5 +1,5 @@
 -- The table of white space, which spells its ranges out, and the gaps that no range reaches into.
-use Rattle.std.specs.Prelude.{◌≡◌, Bool, true, false, ◌&&◌, ◌||◌, List, [], ◌∷◌, ◌++◌, ℕ, zero, suc, ◌+◌, ◌-◌, ◌<◌, T, leb, eqb}
+use Rattle.std.specs.Prelude.{◌≡◌, Bool, true, false, ◌&&◌, ◌||◌, List, [], ◌∷◌, ◌++◌, ℕ, zero, suc, ◌+◌, ◌-◌, ◌<◌, ◌≤◌, T, leb, eqb}
 use Rattle.std.specs.List.{list_any}
 use Rattle.std.proofs.Common.{refl, ◌∙◌, ap, arith, eq-eqb, ne_eqb, leb-true}
 use Rattle.std.proofs.lemmas.List.Folds.{list_any-append}
@@ -68,6 +68,11 @@ pub blank_is : (c : ℕ) → c ≡ 0x20 → is_white_space c ≡ true
 unfolding is_white_space is_in white_space
 blank_is c e = rw e
 
+-- from the tab to the carriage return all is white space
+pub all_within : (c : ℕ) → 0x9 ≤ c → c ≤ 0xd → is_white_space c ≡ true
+unfolding is_white_space is_in white_space
+all_within c l h = rw (is_inside 0x9 0xd c l h)
+
 -- ---- a gap that no range reaches into
 
 abbrev apart : ℕ → ℕ → List Range → Bool
@@ -88,7 +93,12 @@ none_in_gap lo hi (r ∷ rs) c t l h =
     rw (outside_range r.low r.high lo hi c (holds_left (leb r.high lo || leb hi r.low) (apart lo hi rs) t) l h)
     (none_in_gap lo hi rs c (holds_right (leb r.high lo || leb hi r.low) (apart lo hi rs) t) l h)
 
--- from U+0021 to U+0084 there is no white space
+-- from U+000E to U+001F there is no white space
+pub none_below : (c : ℕ) → 0xd < c → c < 0x20 → is_white_space c ≡ false
+unfolding is_white_space white_space
+none_below c l h = none_in_gap 0xd 0x20 white_space c tt l h
+
+-- nor from U+0021 to U+0084
 pub none_between : (c : ℕ) → 0x20 < c → c < 0x85 → is_white_space c ≡ false
 unfolding is_white_space white_space
 none_between c l h = none_in_gap 0x20 0x85 white_space c tt l h

@@ -1,5 +1,5 @@
 // UTF-8: the test of a text, and its characters forward and back.
-ghost use Rattle.std.specs.Prelude.{◌≡◌, ◌<◌, ◌≤◌, true, false, length, take, drop, get_or, IfSome, IfNone};
+ghost use Rattle.std.specs.Prelude.{◌≡◌, ◌<◌, ◌≤◌, ◌-◌, true, false, length, take, drop, get_or, IfSome, IfNone};
 ghost use Rattle.utf8.specs.Utf8.{is_ascii};
 ghost use Rattle.utf8.specs.Characters.{two_bytes, three_bytes, four_bytes, multi_byte, first_char, last_char, some_char, is_utf8};
 ghost use Rattle.utf8.specs.Boundary.{Boundary, is_boundary};
@@ -39,6 +39,7 @@ pub fn byte_at(s: &[u8], i: usize) -> u8
 // The bytes of a character are taken one by one, `a` to `d`, as the standard's table speaks of them: an array of them would be made anew.
 
 // The character in two bytes, in its shortest form.
+#[inline(always)]
 #[tactic(auto, unfolding(crate::specs::Characters::two_bytes))]
 fn two_bytes(a: u8, b: u8) -> Option<Char>
     requires { 0xc0 ≤ a }
@@ -52,6 +53,7 @@ fn two_bytes(a: u8, b: u8) -> Option<Char>
 }
 
 // The character in three bytes, in its shortest form and no surrogate.
+#[inline(always)]
 #[tactic(auto, unfolding(crate::specs::Characters::three_bytes))]
 fn three_bytes(a: u8, b: u8, c: u8) -> Option<Char>
     requires { 0xe0 ≤ a }
@@ -65,6 +67,7 @@ fn three_bytes(a: u8, b: u8, c: u8) -> Option<Char>
 }
 
 // The character in four bytes, in its shortest form and no larger than Unicode goes.
+#[inline(always)]
 #[tactic(auto, unfolding(crate::specs::Characters::four_bytes))]
 fn four_bytes(a: u8, b: u8, c: u8, d: u8) -> Option<Char>
     requires { 0xf0 ≤ a }
@@ -81,6 +84,7 @@ fn four_bytes(a: u8, b: u8, c: u8, d: u8) -> Option<Char>
 }
 
 // The character that begins with `a`, which is no ASCII byte.
+#[inline(always)]
 #[tactic(auto, unfolding(crate::specs::Characters::multi_byte))]
 fn multi_byte(a: u8, b: u8, c: u8, d: u8) -> Option<Char>
     ensures { result ≡ some_char (multi_byte a b c d) }
@@ -155,13 +159,29 @@ impl Place<'_> {
         }
     }
 
-    // The character that ends here; none at the text's start.
+    // Where the character begins that ends here.
+    #[inline(always)]
+    pub fn last_start(self) -> usize
+        requires { 0 < self.at }
+        ensures { result ≡ self.entry.at - (last_char (take self.entry.at self.entry.text.bytes.now)).len }
+    {
+        let s = self.text.bytes;
+        let mut start = self.at - 1;
+        while is_continuation(byte_at(s, start)) {
+            start -= 1;
+        }
+        start
+    }
+
+    // The character that ends here; none at the text's start. In line, as `first_char` is.
+    #[inline(always)]
     pub fn last_char(self) -> Option<Char>
         ensures { result ≡ some_char (last_char (take self.entry.at self.entry.text.bytes.now)) }
     {
-        let s = self.text.bytes;
-        let start = s[..self.at].iter().rposition(|&b| !is_continuation(b))?;
-        first_char(s, start)
+        if self.at == 0 {
+            return None;
+        }
+        first_char(self.text.bytes, self.last_start())
     }
 }
 

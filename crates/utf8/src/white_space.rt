@@ -8,7 +8,16 @@ const WHITE_SPACE: [u32; 25] = [
     0x2005, 0x2006, 0x2007, 0x2008, 0x2009, 0x200a, 0x2028, 0x2029, 0x202f, 0x205f, 0x3000,
 ];
 
-// Whether a code point is white space. The gaps of the table, where most text lies, and the blank are told before it is searched.
+// Whether a code point is in the table.
+fn is_listed(code: u32) -> bool
+    ensures { result ≡ is_white_space code }
+{
+    WHITE_SPACE.contains(&code)
+}
+
+// Whether a code point is white space. The gaps of the table, where most text lies, and that of ASCII are told before it is searched: in line,
+// since it is asked of each character.
+#[inline(always)]
 pub fn is_white_space(code: u32) -> bool
     ensures { result ≡ is_white_space code }
 {
@@ -16,8 +25,8 @@ pub fn is_white_space(code: u32) -> bool
         return false;
     }
     match code {
-        0x20 => true,
-        0xa1..0x1680 | 0x3001.. => false,
-        _ => WHITE_SPACE.contains(&code),
+        0x9..=0xd | 0x20 => true,
+        0xe..0x20 | 0xa1..0x1680 | 0x3001.. => false,
+        _ => is_listed(code),
     }
 }
