@@ -5,6 +5,8 @@ pub mod NumberLaws
 pub mod EncodeLaws
 -- the reader's definitions, case by case
 pub mod ReadCases
+-- and that what they read ends in time
+pub mod ReadEnds
 -- what is written is read
 pub mod WrittenIsRead
 -- what is read was written: strings and YAML tags, scalars, and any event

@@ -1,6 +1,6 @@
 -- The definitions of `Read` where they answer, and what holds of an answer case by case.
-use Rattle.std.specs.Prelude.{◌≡◌, refl, Bool, true, false, cond, List, ℕ, ◌+◌, ◌≤◌, ◌<◌, eqb, length, get_or, take, None, Some, Result, Ok, Err, IfOk}
-use Rattle.std.proofs.Common.{◌∙◌, arith, lt-ltb, le-leb}
+use Rattle.std.specs.Prelude.{◌≡◌, refl, Bool, true, false, cond, List, ℕ, ◌+◌, ◌≤◌, ◌<◌, leb, eqb, length, get_or, take, None, Some, Result, Ok, Err, IfOk}
+use Rattle.std.proofs.Common.{◌∙◌, arith, lt-ltb, le-leb, leb-true}
 use Rattle.utf8.specs.Characters.{is_utf8}
 use Rattle.style.specs.Style.{style_of}
 use Rattle.event.specs.Number.{number_at}
@@ -43,6 +43,19 @@ module _ (s : List ℕ) (i : ℕ) where
 pub by_test : {A : Type 0} (t : Bool) (x y : A) (P : A → Type 0) → (t ≡ true → P x) → (t ≡ false → P y) → P (cond t x y)
 by_test true x y P f g = f refl
 by_test false x y P f g = g refl
+
+-- a string ends at the end e or before
+abbrev pub StringEnds : ℕ → Result Part Malformed → Type 0
+StringEnds e r = IfOk r (λ p. p.at + p.len ≤ e)
+
+pub string_ends : (s : List ℕ) (i : ℕ) → StringEnds (length s) (read_string s i)
+unfolding read_string
+string_ends s i =
+    by_test (leb (i + 2) (length s)) _ _ (StringEnds (length s))
+    (λ t. by_test (leb (i + 2 + number_at s i 2) (length s)) _ _ (StringEnds (length s))
+    (λ u. by_test (is_utf8 (part_of s (part (i + 2) (number_at s i 2)))) _ _ (StringEnds (length s)) (λ v. leb-true _ _ u) (λ v. tt))
+    (λ u. tt))
+    (λ t. tt)
 
 -- of what is answered after a step that may refuse
 pub by_step : {A B : Type 0} (r : Result A Malformed) (f : A → Result B Malformed) (P : A → Type 0) (Q : Result B Malformed → Type 0)

@@ -5,7 +5,7 @@ pub mod Runs
 pub mod Escapes
 -- the step that fits, as the code finds it
 pub mod Steps
--- the list of a scalar, by where its walk starts
+-- a block's empty header, and the list of a scalar, by where its walk starts
 pub mod Starts
 -- a turn of the walk
 pub mod Turn

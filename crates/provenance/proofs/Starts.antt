@@ -1,17 +1,24 @@
--- The list of a scalar, by where its walk starts.
+-- A block's header with nothing but newlines behind it, and the list of a scalar, by where its walk starts.
 use Rattle.std.specs.Prelude.{Option}
 use mathlib.Core.Path.{◌≡◌, sym, ap, ◌∙◌}
-use mathlib.Core.Bool.{true, false}
+use mathlib.Core.Bool.{Bool, true, false, ◌&&◌}
 use mathlib.Core.List.{List}
 use Prim.Native.Nat.{ℕ}
-use lib.ListN.{length, drop}
+use lib.ListN.{length, drop, get_or}
 use Rattle.utf8.specs.Boundary.{is_boundary}
 use Rattle.provenance.specs.declared.walk.Walked.{Walked}
 use Rattle.provenance.specs.declared.walk.Walked.TheVariants.{NoList}
 use Rattle.provenance.specs.Grammar.{rules_of}
 use Rattle.provenance.specs.Reading.{Piece, reading_of}
 use Rattle.provenance.specs.Layout.{room, zeros, answer_of, buffer_of, pieces_if}
-use Rattle.provenance.specs.Start.{walk_start, list_from, scalar_list}
+use Rattle.provenance.specs.Run.{only_newlines}
+use Rattle.provenance.specs.Start.{is_header, at_empty_block_header, walk_start, list_from, scalar_list}
+
+pub header_yes : (l v : List ℕ) → is_header (get_or l 0 0) ≡ true → (t : Bool) → t ≡ only_newlines v → t ≡ at_empty_block_header l v
+unfolding at_empty_block_header
+header_yes l v h t e = e ∙ sym (ap (λ (x : Bool). x && only_newlines v) h)
+
+-- ---- the list of a scalar
 
 module _ (text : List ℕ) (start len : ℕ) (value : List ℕ) (style column : ℕ) where
   abbrev list : Option (List Piece)

@@ -1,14 +1,14 @@
 -- The step that fits, as the code finds it.
 use mathlib.Core.Path.{◌≡◌, refl, sym, ap, ◌∙◌, subst}
-use mathlib.Core.Bool.{Bool, true, false, ◌&&◌, cond}
+use mathlib.Core.Bool.{Bool, true, false, ◌&&◌, ◌||◌, cond}
 use mathlib.Core.List.{List, [], ◌∷◌}
 use Prim.Native.Nat.{ℕ, ◌+◌, ◌-◌, ◌≤◌, ◌<◌, min}
 use native.Mathlib.Omega.{arith}
 use lib.Dec.{ltb, eqb}
 use lib.ListN.{length, take, drop, get_or, length-take, length-drop}
 use lib.Seq.{drop-drop}
-use borrow.Author.Tests.{lt-ltb, le-ltb}
-use Rattle.utf8.specs.Ascii.{same_bytes}
+use borrow.Author.Tests.{lt-ltb, le-ltb, eq-eqb}
+use Rattle.utf8.specs.Ascii.{same_bytes, newline, carriage_return}
 use Rattle.provenance.specs.declared.run.Run.{Run}
 use Rattle.provenance.specs.declared.escape.Escape.{Escape}
 use Rattle.std.specs.Prelude.{Option, Some, None, option_map}
@@ -26,6 +26,13 @@ use Rattle.provenance.specs.RunLaws.{run_within, cut_within, cut_numbers, cut_is
 use Rattle.provenance.specs.StepLaws.{same_refl, same_true}
 
 -- ---- where a break may begin
+
+module _ (block : Bool) (b c : ℕ) (e : is_break_byte c ≡ true) where
+  -- in a block at a newline
+  pub opens_newline : block ≡ true → b ≡ newline → true ≡ opens_break block b c
+  unfolding opens_break
+  opens_newline f n =
+      sym (ap (λ (t : Bool). t && starts_break block b) e ∙ ap (λ (t : Bool). starts_break t b) f ∙ ap (λ (t : Bool). t || eqb b carriage_return) (eq-eqb b newline n))
 
 never_opens : (block : Bool) (c : ℕ) → opens_break block 0 c ≡ false
 unfolding opens_break

@@ -12,7 +12,7 @@ use lib.Pointwise.{pointwise}
 use Rattle.std.specs.Prelude.{Option, Some, None, MatchOption, option_copied, option_map}
 use Rattle.utf8.specs.Ascii.{bytes, same_bytes}
 use Rattle.utf8.specs.Tests.{clash, and_left, and_right}
-use Rattle.schema.specs.Tag.{standard_handle, standard_tag_suffix, tagged_as, tagged_schema, by_name, resolve_scalar, parts_of}
+use Rattle.schema.specs.Tag.{standard_handle, standard_tag_suffix, tagged_as, tagged_schema, by_name, untagged, resolve_scalar, parts_of}
 use Rattle.schema.specs.declared.plain.Resolved.TheVariants.{Str}
 use Rattle.schema.specs.declared.tag.Tag.{Tag}
 
@@ -96,3 +96,9 @@ pub by_tag : (s : List ℕ) (style : ℕ) (tag : Option Tag) (name : Option (Bor
 unfolding resolve_scalar
 by_tag s style (Some t) name p = ap (λ (n : Option (List ℕ)). by_name n s style) p
 by_tag s style None name p = rw p
+
+-- another tag leaves it to its style
+pub other_tag : (s : List ℕ) (style : ℕ) (handle suffix : List ℕ) → standard_tag_suffix handle suffix ≡ None
+    → untagged s style ≡ resolve_scalar s style (Some (handle, suffix))
+unfolding resolve_scalar
+other_tag s style handle suffix t = rw t

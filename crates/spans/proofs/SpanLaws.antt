@@ -1,7 +1,7 @@
 -- Where spans start and end: at boundaries, within the text. And a scalar's pieces are those of the walk from document 01's first byte.
-use Rattle.std.specs.Prelude.{◌≡◌, refl, Bool, true, false, ◌&&◌, not, cond, ℕ, ◌+◌, ◌≤◌, ◌<◌, eqb, List, length, get_or, drop}
+use Rattle.std.specs.Prelude.{◌≡◌, refl, Bool, true, false, ◌&&◌, not, cond, ℕ, ◌+◌, ◌-◌, ◌≤◌, ◌<◌, eqb, List, length, get_or, take, drop}
 use Rattle.std.specs.Prelude.{Option, None, Some, IfSome, is_some, unwrap_or}
-use Rattle.std.proofs.Common.{sym, ◌∙◌, subst, arith, lt-ltb, eqb-true, length-drop, length-take, drop-cons, get_or-drop}
+use Rattle.std.proofs.Common.{sym, ◌∙◌, subst, arith, lt-ltb, eqb-true, length-drop, length-take, drop-cons, take_all, get_or-drop}
 use Rattle.std.proofs.Math.Path.{ap}
 use Rattle.std.proofs.Math.Decide.{dec_lt}
 use Rattle.std.proofs.Math.ListN.{get_or-eq_default}
@@ -114,6 +114,14 @@ pub node_extent : (text : List ℕ) (x : ScalarAt) (tag : TagInfo) (r : Resolved
 unfolding scalar_over
 node_extent text x tag r = refl
 
+-- ---- the rest of a text from a boundary on
+
+pub rest_is : (text : List ℕ) (i : ℕ) → take (length text - i) (drop i text) ≡ drop i text
+rest_is text i = take_all (length text - i) (drop i text) (simp length-drop (omega arith))
+
+pub rest_utf8 : (text : List ℕ) (i : ℕ) → Utf8 text → Boundary text i → Utf8 (take (length text - i) (drop i text))
+rest_utf8 text i u b = rw (rest_is text i) (boundary_splits u b).back
+
 -- ---- the starts of records
 
 pub collection_node_boundary : (text : List ℕ) (o : Open) (i n : ℕ) → Boundary text o.start → IfSome o.first (Boundary text)
@@ -132,6 +140,10 @@ event_node_boundary text events x tag on = on
 pub tag_fits : (events : List ℕ) (t : Option YamlTag) → TextParts events t → length events ≤ events_limit → TagFits t
 tag_fits events None p h = tt
 tag_fits events (Some t) p h = let i = p.1.inside in (omega arith, omega arith)
+
+-- a part, as a range of the event bytes
+pub range_is : (events : List ℕ) (v : Part) → take (v.at + v.len - v.at) (drop v.at events) ≡ part_of events v
+range_is events v = let e : v.at + v.len - v.at ≡ v.len = omega arith in rw e
 
 pub part_few : (events : List ℕ) (v : Part) (n : ℕ) → v.len ≤ n → length (part_of events v) ≤ n
 part_few events v n h = rw (length-take v.len (drop v.at events)) (omega arith)
