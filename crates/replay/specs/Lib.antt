@@ -2,6 +2,8 @@
 -- Test programs: what they compare.
 -- the framing of an answered case
 pub mod Case
+-- what is read of a list
+pub mod Stream
 -- the count of verdicts
 pub mod Tally
 -- Statements: proved; nothing here is to be believed.

@@ -50,18 +50,17 @@ fn read_the_same(case: Case<'_>, records: &[u32]) -> bool {
 
 // Reads the buffer of a case into this one, which is as long, and asks all.
 fn same_in(case: Case<'_>, records: &mut [u32]) -> bool {
-    for (n, bytes) in records.iter_mut().zip(case.text.chunks(NUMBER_BYTES)) {
-        *n = number_at(bytes, 0);
+    for (i, n) in records.iter_mut().enumerate() {
+        *n = number_at(case.text, i * NUMBER_BYTES);
     }
     read_the_same(case, records)
 }
 
+// The buffer is as long as the case says, also where its text is cut off.
 fn verdict(bytes: &[u8]) -> Verdict {
     let case = case_of(bytes);
-    let same = in_room(
-        case.text.len() / NUMBER_BYTES,
-        |records| same_in(case, records),
-    );
+    let len = number_at(bytes, 0) as usize / NUMBER_BYTES;
+    let same = in_room(len, |records| same_in(case, records));
     verdict_of(case, same)
 }
 

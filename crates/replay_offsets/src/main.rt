@@ -34,16 +34,23 @@ fn same_offsets(text: Text<'_>, aliases: &[u8], records: &[u8]) -> bool {
     true
 }
 
-// Whether a case has a record for each alias and then one for the sequence, and the aliases' are the same.
+// Whether a case has a record for each alias and then one for the sequence, and the aliases' are the same. A last alias that is cut off is read
+// on into the sequence's end.
 fn same(case: Case<'_>) -> bool {
     let Ok(text) = admit_text(case.text) else {
         return false;
     };
-    let end = case.events.len().saturating_sub(END_BYTES);
-    let aliases = case.events.get(START_BYTES..end).unwrap_or(&[]);
-    case.records.len() % RECORD_BYTES == 0
-        && case.records.len() / RECORD_BYTES == aliases.len().div_ceil(ALIAS_BYTES) + 1
-        && same_offsets(text, aliases, case.records)
+    let Some((records, _)) = case.records.split_last_chunk::<RECORD_BYTES>() else {
+        return false;
+    };
+    let aliases = case.events.get(START_BYTES..).unwrap_or(&[]);
+    let count = aliases
+        .len()
+        .saturating_sub(END_BYTES)
+        .div_ceil(ALIAS_BYTES);
+    records.len() % RECORD_BYTES == 0
+        && records.len() / RECORD_BYTES == count
+        && same_offsets(text, aliases, records)
 }
 
 fn verdict(bytes: &[u8]) -> Verdict {
