@@ -150,9 +150,11 @@ pub fn in_room<F: FnOnce(&mut [u32]) -> bool>(size: usize, answer: F) -> Option<
     requires { F.IsAlwaysCallable answer }
     ensures { MatchOption result (4096 < size) (λ r. (lent : _) × (left : _) × (size ≤ 4096) × (length lent.now ≡ size) × F.post answer lent r left) }
 {
+    if ROOM < size {
+        return None;
+    }
     let mut numbers = numbers();
-    let lent = numbers.get_mut(..size)?;
-    Some(answer(lent))
+    Some(answer(&mut numbers[..size]))
 }
 
 // The same over two buffers, of records and of pieces.
@@ -161,9 +163,22 @@ pub fn in_rooms<F: FnOnce(&mut [u32], &mut [u32]) -> bool>(rooms: Rooms, answer:
     ensures { MatchOption result (TooLargeFor rooms)
         (λ r. (records : _) × (pieces : _) × (left : _) × (pieces_left : _) × FitsIn rooms × (length records.now ≡ rooms.records) × (length pieces.now ≡ rooms.pieces) × F.post answer records pieces r left pieces_left) }
 {
+    if ROOM < rooms.records || ROOM < rooms.pieces {
+        return None;
+    }
     let mut records = numbers();
     let mut pieces = numbers();
-    let records = records.get_mut(..rooms.records)?;
-    let pieces = pieces.get_mut(..rooms.pieces)?;
-    Some(answer(records, pieces))
+    Some(answer(&mut records[..rooms.records], &mut pieces[..rooms.pieces]))
+}
+
+// The same over the buffer of the pieces alone, where there is room for the records too.
+pub fn in_piece_room<F: FnOnce(&mut [u32]) -> bool>(rooms: Rooms, answer: F) -> Option<bool>
+    requires { F.IsAlwaysCallable answer }
+    ensures { MatchOption result (TooLargeFor rooms)
+        (λ r. (pieces : _) × (left : _) × FitsIn rooms × (length pieces.now ≡ rooms.pieces) × F.post answer pieces r left) }
+{
+    if ROOM < rooms.records {
+        return None;
+    }
+    in_room(rooms.pieces, answer)
 }

@@ -3,7 +3,7 @@ ghost use Rattle.std.specs.Prelude.{◌≡◌, Bool, Option, MatchOption};
 ghost use Rattle.replay.specs.Case.{returned_of, rooms_of, TooLargeFor, FitsIn};
 ghost use Rattle.replay.specs.Tally.{judged_of, verdict_of, counted_of, closed_of, after_of};
 
-use crate::case::{Case, case_of, in_rooms};
+use crate::case::{Case, case_of, in_piece_room, in_rooms};
 use crate::stream::CaseError;
 use std::fmt;
 
@@ -63,6 +63,19 @@ pub fn verdict_in_rooms<F: FnOnce(Case<'_>, &mut [u32], &mut [u32]) -> bool>(
 {
     let case = case_of(bytes);
     let same = in_rooms(case.rooms, |records, pieces| answer(case, records, pieces));
+    verdict_of(case, same)
+}
+
+// The same of an answer over the room of the pieces alone.
+pub fn verdict_in_piece_room<F: FnOnce(Case<'_>, &mut [u32]) -> bool>(
+    bytes: &[u8],
+    answer: F,
+) -> Verdict
+    requires { F.IsAlwaysCallable answer }
+    ensures { (same : Option Bool) × (result ≡ verdict_of (returned_of bytes.now) same) × MatchOption same (TooLargeFor (rooms_of bytes.now)) (λ r. FitsIn (rooms_of bytes.now)) }
+{
+    let case = case_of(bytes);
+    let same = in_piece_room(case.rooms, |pieces| answer(case, pieces));
     verdict_of(case, same)
 }
 

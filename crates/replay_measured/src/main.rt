@@ -5,7 +5,7 @@
 
 use parser::one::scalar;
 use replay::case::{Case, NUMBER_BYTES, number_at};
-use replay::tally::verdict_in_rooms;
+use replay::tally::verdict_in_piece_room;
 use std::io;
 
 // Where the fields of a scalar's event stand, in bytes. Style and value are handed on unread, for the call to refuse.
@@ -41,7 +41,5 @@ fn read_the_same(case: Case<'_>, pieces: &mut [u32]) -> bool {
 }
 
 fn main(rt: HostRuntime) -> io::Result<()> {
-    replay::run(&rt, |bytes| {
-        verdict_in_rooms(bytes, |case, _, pieces| read_the_same(case, pieces))
-    })
+    replay::run(&rt, |bytes| verdict_in_piece_room(bytes, read_the_same))
 }

@@ -9,7 +9,7 @@ use replay::case::{Case, bytes_at, number_at, same_numbers};
 use replay::record::{
     END_AT, FIRST_PIECE_AT, KIND_AT, MEASURED_AT, PARENT_AT, PIECE_COUNT_AT, START_AT,
 };
-use replay::tally::verdict_in_rooms;
+use replay::tally::verdict_in_piece_room;
 use std::io;
 
 // Whether a node has the kind, the span, the list, the parent and the flag of a record; the last two are not the original's, but the oracle's
@@ -66,7 +66,5 @@ fn read_the_same(case: Case<'_>, pieces: &mut [u32]) -> bool {
 }
 
 fn main(rt: HostRuntime) -> io::Result<()> {
-    replay::run(&rt, |bytes| {
-        verdict_in_rooms(bytes, |case, _, pieces| read_the_same(case, pieces))
-    })
+    replay::run(&rt, |bytes| verdict_in_piece_room(bytes, read_the_same))
 }
