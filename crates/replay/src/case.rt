@@ -40,7 +40,17 @@ const PANICKED: u32 = 255;
 pub fn number_at(s: &[u8], at: usize) -> u32
     ensures { result ≡ number s.now at }
 {
-    let rest = s.get(at..).unwrap_or(&[]);
+    match s.get(at..).unwrap_or(&[]) {
+        [a, b, c, d, ..] => u32::from_be_bytes([*a, *b, *c, *d]),
+        rest => cut_off_number(rest),
+    }
+}
+
+// The number that some bytes begin, fewer than it has.
+#[tactic(auto, unfolding(crate::specs::Case::number))]
+fn cut_off_number(rest: &[u8]) -> u32
+    ensures { result ≡ number rest.now 0 }
+{
     let byte = |i: usize| rest.get(i).copied().unwrap_or(0);
     u32::from_be_bytes([byte(0), byte(1), byte(2), byte(3)])
 }
