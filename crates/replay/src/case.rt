@@ -33,7 +33,7 @@ pub struct Case<'a> {
 pub const NUMBER_BYTES: usize = 4;
 
 // Stands in the place of a code where the original panics: the lists' format gives it.
-const PANICKED: u32 = 255;
+pub const PANICKED: u32 = 255;
 
 // The number in the four bytes from `at` on, high byte first; bytes past the end are 0.
 #[tactic(auto, unfolding(crate::specs::Case::number))]

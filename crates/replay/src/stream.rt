@@ -41,7 +41,7 @@ fn read_full<R: Read>(list: &mut R, buffer: &mut [u8]) -> usize
     done
 }
 
-// Reads `size` bytes of the list away. A read that fails behind some bytes of a chunk is tried again.
+// Reads so many bytes of the list away. A read that fails behind some bytes of a chunk is tried again.
 fn skip<R: Read>(list: &mut R, size: usize) -> io::Result<()> {
     let mut chunk = [0u8; CHUNK];
     let mut left = size;

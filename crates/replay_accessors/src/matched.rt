@@ -1,24 +1,17 @@
 // Answers matched with the numbers of a list, one after another: 0 for none; 1 for no and 2 for yes; one more than a record's number;
 // otherwise 1 and the numbers.
-ghost use Rattle.std.specs.Prelude.{◌≡◌, List, ℕ, Option, Some, None, option_copied};
-ghost use Rattle.replay_accessors.specs.Matched.{match_number, matched_whole, match_all, flag_numbers, count_numbers, span_numbers, tag_numbers, piece_numbers, record_numbers, match_record, match_place, match_entry};
+ghost use Rattle.std.specs.Prelude.{◌≡◌, Some, None};
+ghost use Rattle.replay_accessors.specs.Matched.{matched_of, match_number, matched_whole, match_all, flag_numbers, count_numbers, span_numbers, tag_numbers, piece_numbers, record_numbers, match_record, match_place, match_entry};
 
 use node::entry::YamlHashEntry;
 use records::record::{Extent, Node, PieceList, RECORD_WIDTH, TagInfo};
 use replay::case::{NUMBER_BYTES, number_at};
-use std::marker::Model;
 
 // A list that is matched from its start on.
-#[derive(Drop)]
+#[derive(Clone, Copy)]
 pub struct Matcher<'a> {
-    // What is left of it; none once a number differs.
-    rest: Option<&'a [u8]>,
-}
-
-impl<'a> Model for Matcher<'a> {
-    ghost Value = { Option (List ℕ) };
-
-    ghost view = { λ m. option_copied m.rest };
+    // None once a number differs; then what is left of the list, or none of it where its last number was cut off.
+    rest: Option<Option<&'a [u8]>>,
 }
 
 // The numbers that the lists have for an answer.
@@ -32,19 +25,21 @@ const YES: u32 = 2;
 
 impl<'a> Matcher<'a> {
     pub fn new(list: &'a [u8]) -> Self
-        ensures { result ≡ Some list.now }
+        ensures { matched_of result ≡ Some (Some list.now) }
     {
-        Matcher { rest: Some(list) }
+        Matcher {
+            rest: Some(Some(list)),
+        }
     }
 
-    // `x` is the next number of the list.
+    // `x` is the next number of the list, whose bytes past the end are 0.
     #[tactic(auto, unfolding(crate::specs::Matched::match_number))]
     pub fn number(&mut self, x: u32)
-        ensures { self.new ≡ match_number self.old x }
+        ensures { matched_of self.new ≡ match_number (matched_of self.old) x }
     {
         self.rest = match self.rest {
-            Some(rest) if NUMBER_BYTES <= rest.len() && number_at(rest, 0) == x => {
-                Some(&rest[NUMBER_BYTES..])
+            Some(Some(rest)) if !rest.is_empty() && number_at(rest, 0) == x => {
+                Some(rest.get(NUMBER_BYTES..))
             }
             _ => None,
         };
@@ -52,22 +47,22 @@ impl<'a> Matcher<'a> {
 
     // Whatever stands in the list, it is another answer.
     pub fn differ(&mut self)
-        ensures { self.new ≡ None }
+        ensures { matched_of self.new ≡ None }
     {
         self.rest = None;
     }
 
     // Whether the list was matched to its end.
     pub fn is_whole(&self) -> bool
-        ensures { result ≡ matched_whole self.now }
+        ensures { result ≡ matched_whole (matched_of self.now) }
     {
-        self.rest.is_some_and(|rest| rest.is_empty())
+        matches!(self.rest, Some(Some([])))
     }
 
     // Numbers, one after another.
     #[tactic(auto, using(crate::proofs::Matching::one_more))]
     pub fn numbers(&mut self, xs: &[u32])
-        ensures { self.new ≡ match_all self.old xs.now }
+        ensures { matched_of self.new ≡ match_all (matched_of self.old) xs.now }
     {
         for &x in xs {
             self.number(x);
@@ -75,7 +70,7 @@ impl<'a> Matcher<'a> {
     }
 
     pub fn flag(&mut self, answer: Option<bool>)
-        ensures { self.new ≡ match_all self.old (flag_numbers answer) }
+        ensures { matched_of self.new ≡ match_all (matched_of self.old) (flag_numbers answer) }
     {
         self.number(match answer {
             Some(true) => YES,
@@ -87,7 +82,7 @@ impl<'a> Matcher<'a> {
     // This and the answers below of one shape are written out: by one function over `Option<[u32; N]>` each needs an answer for its
     // closure.
     pub fn count(&mut self, answer: Option<u32>)
-        ensures { self.new ≡ match_all self.old (count_numbers answer) }
+        ensures { matched_of self.new ≡ match_all (matched_of self.old) (count_numbers answer) }
     {
         match answer {
             Some(k) => self.numbers(&[SOME, k]),
@@ -97,7 +92,7 @@ impl<'a> Matcher<'a> {
 
     // A record's number, for which a list of 32-bit numbers may have no room.
     fn record(&mut self, n: usize)
-        ensures { self.new ≡ match_record self.old n }
+        ensures { matched_of self.new ≡ match_record (matched_of self.old) n }
     {
         if n < 0xffff_ffff {
             self.number(n as u32 + 1);
@@ -107,7 +102,7 @@ impl<'a> Matcher<'a> {
     }
 
     pub fn place(&mut self, answer: Option<usize>)
-        ensures { self.new ≡ match_place self.old answer }
+        ensures { matched_of self.new ≡ match_place (matched_of self.old) answer }
     {
         match answer {
             Some(n) => self.record(n),
@@ -116,7 +111,7 @@ impl<'a> Matcher<'a> {
     }
 
     pub fn span(&mut self, answer: Option<Extent>)
-        ensures { self.new ≡ match_all self.old (span_numbers answer) }
+        ensures { matched_of self.new ≡ match_all (matched_of self.old) (span_numbers answer) }
     {
         match answer {
             Some(x) => self.numbers(&[SOME, x.start, x.end]),
@@ -125,7 +120,7 @@ impl<'a> Matcher<'a> {
     }
 
     pub fn tagged(&mut self, answer: Option<TagInfo>)
-        ensures { self.new ≡ match_all self.old (tag_numbers answer) }
+        ensures { matched_of self.new ≡ match_all (matched_of self.old) (tag_numbers answer) }
     {
         match answer {
             Some(x) => self.numbers(&[SOME, x.start, x.end, x.suffix, x.len]),
@@ -134,7 +129,7 @@ impl<'a> Matcher<'a> {
     }
 
     pub fn pieces(&mut self, answer: Option<PieceList>)
-        ensures { self.new ≡ match_all self.old (piece_numbers answer) }
+        ensures { matched_of self.new ≡ match_all (matched_of self.old) (piece_numbers answer) }
     {
         match answer {
             Some(x) => self.numbers(&[SOME, x.first, x.count]),
@@ -143,7 +138,7 @@ impl<'a> Matcher<'a> {
     }
 
     pub fn entry(&mut self, answer: Option<YamlHashEntry>)
-        ensures { self.new ≡ match_entry self.old answer }
+        ensures { matched_of self.new ≡ match_entry (matched_of self.old) answer }
     {
         match answer {
             Some(x) => {
@@ -158,7 +153,7 @@ impl<'a> Matcher<'a> {
     }
 
     pub fn lookup(&mut self, answer: Option<Node>)
-        ensures { self.new ≡ match_all self.old (record_numbers answer) }
+        ensures { matched_of self.new ≡ match_all (matched_of self.old) (record_numbers answer) }
     {
         match answer {
             Some(x) => {

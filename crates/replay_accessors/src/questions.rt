@@ -4,7 +4,7 @@
 // keys are methods of a `Subject`.
 ghost use Rattle.std.specs.Prelude.{◌≡◌, false, unwrap_or};
 ghost use Rattle.node.specs.Kind.{len_at, is_hash_at};
-ghost use Rattle.replay_accessors.specs.Matched.{match_all};
+ghost use Rattle.replay_accessors.specs.Matched.{matched_of, match_all};
 ghost use Rattle.replay_accessors.specs.Questions.{kind_numbers, source_numbers, about_family, about_itself, at_index, about_children, about_key, about_keys, about_record};
 
 use crate::matched::Matcher;
@@ -24,7 +24,7 @@ const LENGTH_AT: usize = 4;
 // What kind of node the record is.
 #[tactic(auto, using(crate::proofs::Matching::in_turn))]
 fn about_kind(records: &[u32], n: usize, m: &mut Matcher<'_>)
-    ensures { m.new ≡ match_all m.old (kind_numbers records.now n) }
+    ensures { matched_of m.new ≡ match_all (matched_of m.old) (kind_numbers records.now n) }
 {
     m.flag(is_scalar(records, n));
     m.flag(is_array(records, n));
@@ -36,7 +36,7 @@ fn about_kind(records: &[u32], n: usize, m: &mut Matcher<'_>)
 // Where the node stands.
 #[tactic(auto, using(crate::proofs::Matching::in_turn))]
 fn about_source(records: &[u32], n: usize, m: &mut Matcher<'_>)
-    ensures { m.new ≡ match_all m.old (source_numbers records.now n) }
+    ensures { matched_of m.new ≡ match_all (matched_of m.old) (source_numbers records.now n) }
 {
     m.span(source_info(records, n));
     m.tagged(tag(records, n));
@@ -46,7 +46,7 @@ fn about_source(records: &[u32], n: usize, m: &mut Matcher<'_>)
 // Its last child, its parent, and whether its span was measured.
 #[tactic(auto, using(crate::proofs::Matching::in_turn))]
 fn about_family(records: &[u32], n: usize, m: &mut Matcher<'_>)
-    ensures { m.new ≡ about_family records.now n m.old }
+    ensures { matched_of m.new ≡ about_family records.now n (matched_of m.old) }
 {
     m.place(last_child(records, n));
     m.count(parent(records, n));
@@ -56,7 +56,7 @@ fn about_family(records: &[u32], n: usize, m: &mut Matcher<'_>)
 // What is asked of the record itself.
 #[tactic(auto, using(crate::proofs::Matching::in_turn))]
 fn about_itself(records: &[u32], n: usize, m: &mut Matcher<'_>)
-    ensures { m.new ≡ about_itself records.now n m.old }
+    ensures { matched_of m.new ≡ about_itself records.now n (matched_of m.old) }
 {
     m.lookup(get_record(records, n));
     about_kind(records, n, m);
@@ -80,7 +80,7 @@ pub fn is_hash_there(records: &[u32], n: usize) -> bool
 
 // The item and the pair at an index.
 pub fn at_index(records: &[u32], n: usize, i: usize, m: &mut Matcher<'_>)
-    ensures { m.new ≡ at_index records.now n i m.old }
+    ensures { matched_of m.new ≡ at_index records.now n i (matched_of m.old) }
 {
     m.place(get_array_item(records, n, i));
     m.entry(hash_entry(records, n, i));
@@ -89,7 +89,7 @@ pub fn at_index(records: &[u32], n: usize, i: usize, m: &mut Matcher<'_>)
 // The items and pairs from the index past the last one down, at most `limit` besides that.
 #[tactic(auto, unfolding(crate::specs::Questions::from_last))]
 fn about_children(records: &[u32], n: usize, limit: usize, m: &mut Matcher<'_>)
-    ensures { m.new ≡ about_children records.now n limit m.old }
+    ensures { matched_of m.new ≡ about_children records.now n limit (matched_of m.old) }
 {
     let count = len_or_zero(records, n);
     at_index(records, n, count, m);
@@ -110,7 +110,7 @@ impl Subject<'_> {
     // The value of the key whose place and length stand at `at` of the keys.
     #[tactic(auto, unfolding(crate::specs::Questions::about_key))]
     fn about_key(self, n: usize, at: usize, m: &mut Matcher<'_>)
-        ensures { m.new ≡ about_key self.entry.records.now self.entry.events.now n self.entry.keys.now at m.old }
+        ensures { matched_of m.new ≡ about_key self.entry.records.now self.entry.events.now n self.entry.keys.now at (matched_of m.old) }
     {
         if self.keys.len() <= at {
             m.differ();
@@ -125,7 +125,7 @@ impl Subject<'_> {
     // The values of all keys.
     #[tactic(auto, unfolding(crate::specs::Questions::first_keys))]
     fn about_keys(self, n: usize, m: &mut Matcher<'_>)
-        ensures { m.new ≡ about_keys self.entry.records.now self.entry.events.now n self.entry.keys.now m.old }
+        ensures { matched_of m.new ≡ about_keys self.entry.records.now self.entry.events.now n self.entry.keys.now (matched_of m.old) }
     {
         for at in (0..self.keys.len()).step_by(KEY_BYTES) {
             self.about_key(n, at, m);
@@ -135,7 +135,7 @@ impl Subject<'_> {
     // All questions about record `n`. A record that is no hash is asked for the first key alone.
     #[tactic(auto, unfolding(crate::specs::Questions::about_record))]
     pub fn about(self, n: usize, limit: usize, m: &mut Matcher<'_>)
-        ensures { m.new ≡ about_record self.entry.records.now self.entry.events.now n limit self.entry.keys.now m.old }
+        ensures { matched_of m.new ≡ about_record self.entry.records.now self.entry.events.now n limit self.entry.keys.now (matched_of m.old) }
     {
         about_itself(self.records, n, m);
         about_children(self.records, n, limit, m);

@@ -17,6 +17,5 @@ take_more buffer read i k n h m =
 
 pub loop-done-preserved : goal.loop-done-preserved
 loop-done-preserved g c =
-    let within : c.in-Ok.read ≤ length c.read.new.buf = c.in-Ok.ensures.bound.0 in
-    let e = take_more c.loop-done.buffer c.read.new.buf c.loop-done.done _ c.in-Ok.read (c.loop-done.invariant.0) within in
-    (grind (arith, common_steps), subst (Consumes _ _) (sym e) (Consumes-trans _ _ _ _ _ c.loop-done.invariant.1 c.in-Ok.ensures.bytes.0))
+    let more = take_more c.loop-done.buffer c.read.new.buf c.loop-done.done _ c.in-Ok.read c.loop-done.invariant.0 c.in-Ok.ensures.bound.0 in
+    (grind (arith, common_steps), subst (Consumes _ _) (sym more) (Consumes-trans _ _ _ _ _ c.loop-done.invariant.1 c.in-Ok.ensures.bytes.0))
