@@ -73,6 +73,19 @@ pub all_within : (c : ℕ) → 0x9 ≤ c → c ≤ 0xd → is_white_space c ≡ 
 unfolding is_white_space is_in white_space
 all_within c l h = rw (is_inside 0x9 0xd c l h)
 
+-- and from U+2000 to U+200A
+pub all_within_wide : (c : ℕ) → 0x2000 ≤ c → c ≤ 0x200a → is_white_space c ≡ true
+unfolding is_white_space is_in white_space
+all_within_wide c l h =
+    rw (
+      above_inside 0x9 0xd c (omega arith),
+      above_inside 0x20 0x20 c (omega arith),
+      above_inside 0x85 0x85 c (omega arith),
+      above_inside 0xa0 0xa0 c (omega arith),
+      above_inside 0x1680 0x1680 c (omega arith),
+      is_inside 0x2000 0x200a c l h,
+    )
+
 -- ---- a gap that no range reaches into
 
 abbrev apart : ℕ → ℕ → List Range → Bool

@@ -15,8 +15,8 @@ fn is_listed(code: u32) -> bool
     WHITE_SPACE.contains(&code)
 }
 
-// Whether a code point is white space. The gaps of the table, where most text lies, and that of ASCII are told before it is searched: in line,
-// since it is asked of each character.
+// Whether a code point is white space. The gaps of the table, where most text lies, and its two ranges are told before it is searched: in
+// line, since it is asked of each character.
 #[inline(always)]
 pub fn is_white_space(code: u32) -> bool
     ensures { result ≡ is_white_space code }
@@ -25,7 +25,7 @@ pub fn is_white_space(code: u32) -> bool
         return false;
     }
     match code {
-        0x9..=0xd | 0x20 => true,
+        0x9..=0xd | 0x20 | 0x2000..=0x200a => true,
         0xe..0x20 | 0xa1..0x1680 | 0x3001.. => false,
         _ => is_listed(code),
     }
