@@ -1,6 +1,5 @@
 // The choice by style, and the cut to the text left. (01: Reading rules; S4, S8. 02: (b).)
 ghost use Rattle.std.specs.Prelude.{◌≡◌};
-ghost use Rattle.style.specs.Style.{style_number};
 ghost use Rattle.measure.specs.Scalar.{scalar_measure};
 
 use crate::block::block_scalar_len;
@@ -16,13 +15,13 @@ use utf8::utf8::Utf8Bytes;
 pub fn scalar_len(
     rest: Utf8Bytes<'_>,
     value: Utf8Bytes<'_>,
-    style: Style,
+    style: u8,
     empty: bool,
     column: usize,
 ) -> Measure
-    ensures { result ≡ scalar_measure rest.entry.bytes.now value.entry.bytes.now (style_number style) empty column }
+    ensures { result ≡ scalar_measure rest.entry.bytes.now value.entry.bytes.now style empty column }
 {
-    let found = match style {
+    let found = match Style::of(style) {
         Style::Plain => plain_scalar_len(rest, value),
         Style::SingleQuoted => quoted_or_value_len(rest.bytes, value.bytes, SINGLE_QUOTE),
         Style::DoubleQuoted => quoted_or_value_len(rest.bytes, value.bytes, DOUBLE_QUOTE),

@@ -341,7 +341,7 @@ module _ (text events : List ℕ) (room piece_room : ℕ) where
   step_kept (Ok (Scalar index column style empty_span tag value, m)) g st n k e =
       let a = cond_goes (root_done st) 5 _ n e in
       let b = cond_goes (leb room (length st.nodes)) 7 _ n a.1 in
-      scalar-kept text events piece_room (event_scalar text events (byte_offset text index) (awaits_value st.opens) (scalar_given (record { index = index; column = column; style = style; empty = empty_span }) tag value)) tag g st n k a.0 b.1
+      scalar-kept text events piece_room (event_scalar text events (byte_offset text index) (awaits_value st.opens) (scalar_given (record { index = index; column = column; style = _; empty = empty_span }) tag value)) tag g st n k a.0 b.1
   step_kept (Ok (Alias index, m)) g st n k e =
       let a = cond_goes (root_done st) 5 _ n e in
       let b = cond_goes (leb room (length st.nodes)) 7 _ n a.1 in

@@ -5,6 +5,7 @@
 --
 -- `run` counts down the length of the event bytes, which are more than the events; what a reader expects of it stands in `RunLaws`.
 use Rattle.std.specs.Prelude.{ℕ, zero, suc, ◌+◌, ◌%◌, Bool, false, ◌&&◌, cond, List, [], ◌∷◌, ◌++◌, eqb, ltb, leb, length, Option, Result, Ok, Err, Some, None}
+use Rattle.style.specs.Style.{style_number}
 use Rattle.text.specs.Offset.{byte_offset}
 use Rattle.provenance.specs.Reading.{Piece}
 use Rattle.provenance.specs.Layout.{walked_number}
@@ -128,7 +129,7 @@ on_event text events room piece_room (SequenceEnd index) st = on_end text room S
 on_event text events room piece_room (MappingStart index tag) st = on_start text Mapping index tag st
 on_event text events room piece_room (MappingEnd index) st = on_end text room Mapping index st.opens st
 on_event text events room piece_room (Scalar index column style empty_span tag value) st =
-    on_scalar text events room piece_room (scalar_given (record { index = index; column = column; style = style; empty = empty_span }) tag value) st
+    on_scalar text events room piece_room (scalar_given (record { index = index; column = column; style = style_number style; empty = empty_span }) tag value) st
 on_event text events room piece_room (Alias index) st = on_alias text room index st
 
 -- what is read: an event, or nothing that is one (R3)

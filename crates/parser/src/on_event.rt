@@ -242,7 +242,7 @@ impl Builder {
                 let mark = ScalarMark {
                     index,
                     column,
-                    style,
+                    style: style.into(),
                     empty: empty_span,
                 };
                 let scalar = ScalarEvent { mark, tag, value };

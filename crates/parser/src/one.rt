@@ -1,5 +1,6 @@
 // The call on one scalar. (01: the table's last lines; RS, RZ, B1. 02: (c).)
 ghost use Rattle.std.specs.Prelude.{◌≡◌, ◌≤◌, length};
+ghost use Rattle.style.specs.Style.{folded};
 ghost use Rattle.provenance.specs.Layout.{zeros};
 ghost use Rattle.records.specs.Layout.{pieces_limit};
 ghost use Rattle.spans.specs.Scalar.{mark, mark_of};
@@ -42,6 +43,7 @@ fn one_scalar(
     value: Admitted<'_>,
     pieces: &mut [u32],
 ) -> Result<Scalar, Refusal>
+    requires style_known { m.style ≤ folded }
     requires pieces_zero { (pieces.old ≡ zeros (length pieces.old)) × (length pieces.old ≤ pieces_limit) }
     ensures { DeliveredScalar (length pieces.old) (one_scalar text.entry.content.bytes.now (mark_of m) value.entry.bytes.now (length pieces.old)) result pieces.new }
 {
@@ -74,7 +76,7 @@ pub fn scalar(
     let m = ScalarMark {
         index,
         column,
-        style,
+        style: style.into(),
         empty,
     };
     let n = usable(pieces.len());

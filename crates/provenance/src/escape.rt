@@ -110,7 +110,7 @@ fn double_quote_escape(tail: &[u8]) -> Option<Escape>
 
 // The escape that a source of this style begins with.
 #[tactic(auto, unfolding(crate::specs::Escape::escapes_of))]
-pub fn escape_len(tail: &[u8], style: Style) -> Option<Escape>
+pub(crate) fn escape_of(tail: &[u8], style: Style) -> Option<Escape>
     ensures { result ≡ escapes_of (style_number style) tail.now }
 {
     match style {
@@ -118,4 +118,12 @@ pub fn escape_len(tail: &[u8], style: Style) -> Option<Escape>
         Style::DoubleQuoted => double_quote_escape(tail),
         Style::Plain | Style::Literal | Style::Folded => None,
     }
+}
+
+// The same by any number for the style.
+#[tactic(auto, unfolding(crate::specs::Escape::escapes_of))]
+pub fn escape_len(tail: &[u8], style: u8) -> Option<Escape>
+    ensures { result ≡ escapes_of style tail.now }
+{
+    escape_of(tail, Style::of(style))
 }

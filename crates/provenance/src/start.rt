@@ -41,10 +41,11 @@ fn header_end(rest: &[u8], len: usize) -> usize
 
 // The first byte of the walk of a scalar that starts at `start` and spans `len` bytes. It may lie past the text or inside a character.
 #[tactic(auto, unfolding(crate::specs::Start::walk_start))]
-pub fn walk_start(text: &[u8], start: usize, len: usize, value: &[u8], style: Style) -> usize
+pub fn walk_start(text: &[u8], start: usize, len: usize, value: &[u8], style: u8) -> usize
     requires { start + len ≤ length text.now }
-    ensures { result ≡ walk_start text.now start len value.now (style_number style) }
+    ensures { result ≡ walk_start text.now start len value.now style }
 {
+    let style = Style::of(style);
     if is_quoted(style) {
         return start + 1;
     }

@@ -7,7 +7,7 @@ ghost use Rattle.provenance.specs.Counted.{place_limit, no_run, counted_run};
 ghost use Rattle.provenance.specs.Grammar.{rules_of, is_break_byte, opens_break, break_pair, end_step, step_at};
 ghost use Rattle.provenance.specs.Looked.{break_run, Tells, known_after};
 
-use crate::escape::escape_len;
+use crate::escape::escape_of;
 use crate::run::{NO_RUN, Run, cut_len, folds, is_fold, only_newlines, white_run};
 use style::Style;
 use utf8::class::{CARRIAGE_RETURN, NEWLINE, TAB, is_white_space_byte};
@@ -119,7 +119,7 @@ impl Walk<'_> {
         if self.src.len() <= s {
             return end_step(&self.value[v..]);
         }
-        if let Some(e) = escape_len(&self.src[s..], self.style) {
+        if let Some(e) = escape_of(&self.src[s..], self.style) {
             return Some(Step::Replacement(e.source, e.content));
         }
         (self.src[s] == self.value[v]).then_some(Step::Verbatim(1))

@@ -34,7 +34,7 @@ fn same_span(case: Case<'_>) -> bool {
     let Some(value) = Utf8Bytes::new(bytes_at(case.events, value.at, value.len)) else {
         return false;
     };
-    let len = scalar_len(rest, value, style, empty_span, column as usize).len;
+    let len = scalar_len(rest, value, style.into(), empty_span, column as usize).len;
     end.checked_sub(start) == Some(len)
 }
 

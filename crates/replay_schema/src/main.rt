@@ -34,7 +34,7 @@ fn same_scalar(case: Case<'_>) -> bool {
         handle: bytes(tag.handle),
         suffix: bytes(tag.suffix),
     });
-    let resolved = resolve_scalar(bytes(value), style, tag);
+    let resolved = resolve_scalar(bytes(value), style.into(), tag);
     let payload = payload_of(resolved, place, len);
     kind_number(resolved) == number_at(case.records, KIND_AT)
         && payload.first == number_at(case.records, PAYLOAD_AT)

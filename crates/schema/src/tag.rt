@@ -1,6 +1,5 @@
 // Scalars with a standard tag, and the whole of a scalar's resolution. (S10.)
 ghost use Rattle.std.specs.Prelude.{◌≡◌, option_copied, option_map};
-ghost use Rattle.style.specs.Style.{style_number};
 ghost use Rattle.schema.specs.Tag.{standard_tag_suffix, tagged_schema, untagged, resolve_scalar, parts_of};
 ghost use Rattle.schema.specs.Form.{of_kind};
 
@@ -75,19 +74,19 @@ pub fn resolve_tagged_scalar(value: &[u8], name: &[u8]) -> Resolved
 
 // A scalar without a standard tag: the core schema reads it if it is plain, else it is a string.
 #[tactic(auto, unfolding(crate::specs::Tag::untagged))]
-fn resolve_untagged(value: &[u8], style: Style) -> Resolved
-    ensures { result ≡ untagged value.now (style_number style) }
+fn resolve_untagged(value: &[u8], style: u8) -> Resolved
+    ensures { result ≡ untagged value.now style }
 {
-    if style == Style::Plain {
+    if Style::of(style) == Style::Plain {
         resolve_plain_scalar(value)
     } else {
         Resolved::Str
     }
 }
 
-// What a scalar is, by its style and by its tag, if it has one.
-pub fn resolve_scalar(value: &[u8], style: Style, tag: Option<Tag<'_>>) -> Resolved
-    ensures { result ≡ resolve_scalar value.now (style_number style) (option_map parts_of tag.entry) }
+// What a scalar is, by its style, which may be any number, and by its tag, if it has one.
+pub fn resolve_scalar(value: &[u8], style: u8, tag: Option<Tag<'_>>) -> Resolved
+    ensures { result ≡ resolve_scalar value.now style (option_map parts_of tag.entry) }
 {
     match tag.and_then(|t| standard_tag_suffix(t.handle, t.suffix)) {
         Some(name) => resolve_tagged_scalar(value, name),

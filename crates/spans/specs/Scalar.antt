@@ -1,7 +1,6 @@
 -- A scalar: where it starts (S1), how far it reaches, its tag, its pieces, and its record without them (E2). Measures, walk, resolution and
 -- tag search are cited from the layers below.
 use Rattle.std.specs.Prelude.{ℕ, ◌+◌, Bool, ◌&&◌, cond, List, eqb, length, get_or, drop, Option, Some, None, option_map}
-use Rattle.style.specs.Style.{style_number}
 use Rattle.text.specs.Offset.{byte_offset}
 use Rattle.schema.specs.Tag.{resolve_scalar}
 use Rattle.schema.specs.Record.{truth, kind_number, payload_of}
@@ -32,9 +31,9 @@ pub record Mark : Type 0 where
 abbrev pub mark : ℕ → ℕ → ℕ → Bool → Mark
 mark index column style empty_span = record { index = index; column = column; style = style; empty = empty_span }
 
--- the code's mark, its style by its number
+-- the code's mark
 abbrev pub mark_of : ScalarMark → Mark
-mark_of m = mark m.index m.column (style_number m.style) m.empty
+mark_of m = mark m.index m.column m.style m.empty
 
 abbrev pub scalar_given : ScalarMark → Option YamlTag → Part → ScalarEvent
 scalar_given m tag value = record { mark = m; tag = tag; value = value }
@@ -132,7 +131,7 @@ scalar_node text x tag r = scalar_over x.start (span_measure text x) x.place (le
 abbrev pub event_scalar : List ℕ → List ℕ → ℕ → Bool → ScalarEvent → ScalarAt
 event_scalar text events i awaited e =
     let value = part_of events e.value in
-    scalar_from (scalar_start text i value (style_number e.mark.style) awaited) (mark_of e.mark) value e.value.at
+    scalar_from (scalar_start text i value e.mark.style awaited) (mark_of e.mark) value e.value.at
 
 -- its record, by its tag
 unfoldable pub event_node : List ℕ → List ℕ → ScalarAt → Option YamlTag → Node

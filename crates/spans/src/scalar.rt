@@ -3,7 +3,6 @@
 // Bounds in contracts are an index's (`at ≤ length text`) or a 32-bit number's (`≤ text_limit`): a type for each would be made and taken
 // apart at one call.
 ghost use Rattle.std.specs.Prelude.{◌≡◌, ◌+◌, ◌≤◌, length};
-ghost use Rattle.style.specs.Style.{style_number};
 ghost use Rattle.text.specs.Admission.{text_limit};
 ghost use Rattle.event.specs.Proved.{TextParts};
 ghost use Rattle.provenance.specs.Layout.{room, zeros, buffer_of};
@@ -27,13 +26,13 @@ use tag::property::make_tag_info;
 use text::admission::{Admitted, AdmittedPlace};
 use utf8::utf8::byte_at;
 
-// What an event gives of a scalar beside its tag and value: its marker's index and column, its style, and whether its span is empty. It
-// stands apart from `Event::Scalar` since the call on one scalar has a mark too, and neither tag nor event bytes.
+// What an event gives of a scalar beside its tag and value: its marker's index and column, its style by any number, and whether its span is
+// empty. It stands apart from `Event::Scalar` since the call on one scalar has a mark too, and neither tag nor event bytes.
 #[derive(Clone, Copy, Debug, PartialEq, Eq)]
 pub struct ScalarMark {
     pub index: u32,
     pub column: u32,
-    pub style: Style,
+    pub style: u8,
     pub empty: bool,
 }
 
@@ -70,13 +69,13 @@ pub fn step_past(text: &[u8], byte: u8, at: usize) -> usize
 fn scalar_start<'a>(
     at: AdmittedPlace<'a>,
     value: &[u8],
-    style: Style,
+    style: u8,
     awaited: bool,
 ) -> AdmittedPlace<'a>
     ensures same_text { result.text.bytes.now ≡ at.entry.text.bytes.now }
-    ensures value { result.at ≡ scalar_start at.entry.text.bytes.now at.entry.at value.now (style_number style) awaited }
+    ensures value { result.at ≡ scalar_start at.entry.text.bytes.now at.entry.at value.now style awaited }
 {
-    if awaited && style == Style::Plain && value.is_empty() {
+    if awaited && Style::of(style) == Style::Plain && value.is_empty() {
         AdmittedPlace {
             text: at.text,
             at: step_past(at.text.bytes, b':', at.at),
@@ -117,9 +116,9 @@ pub fn tag_info(start: AdmittedPlace<'_>, suffix: Option<Suffix>) -> TagInfo
 
 // What a scalar is, by its value, style and tag.
 #[tactic(auto, unfolding(crate::specs::Scalar::resolved_by))]
-fn resolve(events: &[u8], value: &[u8], style: Style, tag: Option<YamlTag>) -> Resolved
+fn resolve(events: &[u8], value: &[u8], style: u8, tag: Option<YamlTag>) -> Resolved
     requires { TextParts events.now tag }
-    ensures { result ≡ resolved_by events.now value.now (style_number style) tag }
+    ensures { result ≡ resolved_by events.now value.now style tag }
 {
     let tag = tag.map(|t| Tag {
         handle: t.handle.bytes_in(events),

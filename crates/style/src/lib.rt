@@ -46,8 +46,8 @@ impl TryFrom<u8> for Style {
 }
 
 impl Style {
-    // The style by which the rules take any number: one that no style has is read as a block. No code of the library calls it: it stands
-    // for a caller that has any number, as the measures took one. The theorems `any_number` say that the definitions take a number so.
+    // The style by which the rules take any number: one that no style has is read as a block. What takes any number for a style goes by
+    // it. The theorems `any_number` say that the definitions take a number so.
     pub fn of(n: u8) -> Style
         ensures { result ≡ style_of n }
     {

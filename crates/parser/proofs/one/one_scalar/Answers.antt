@@ -2,7 +2,6 @@
 use mathlib.Core.Path.{ap}
 use lib.ListN.{length}
 use Rattle.utf8.proofs.Utf8Laws.{utf8_sound}
-use Rattle.style.specs.StyleLaws.{style_known}
 use Rattle.spans.specs.Scalar.{mark_of}
 use Rattle.text.proofs.OffsetLaws.{stands_start}
 use Rattle.parser.proofs.Starts.{cursor_offset, cursor_boundary}
@@ -30,4 +29,4 @@ returns c =
     let x = c.walk_scalar in
     rw c.alone.ensures
     (one_told (length a.pieces.now) c.requires.pieces_zero.1 x.new.pieces x.auto.pieces text (mark_of a.m) a.value.bytes.now cur.result.offset r.result x.result
-    (style_known a.m.style) e r.ensures x.ensures.value x.ensures.pieces_after)
+    c.requires.style_known e r.ensures x.ensures.value x.ensures.pieces_after)

@@ -5,6 +5,7 @@ use native.Mathlib.Omega.{arith}
 use lib.ListN.{length, take, replicate}
 use lib.Seq.{length-take-le}
 use Rattle.std.proofs.lemmas.Result.{err_from_is_err_and}
+use Rattle.style.specs.StyleLaws.{style_known}
 use Rattle.records.specs.Layout.{pieces_limit}
 use Rattle.spans.specs.Scalar.{mark}
 use Rattle.parser.proofs.Wholes.{zeros_front, style_is, no_style, style_unknown, scalar_refused, scalar_read}
@@ -33,7 +34,7 @@ one_scalar-requires c =
     let e = n.ensures in
     let l : n.result ≤ length p.new.buffer = omega arith in
     let part : length (take n.result p.new.buffer) ≡ n.result = length-take-le n.result p.new.buffer l in
-    record { pieces_zero = (zeros_front n.result size p.new.buffer p.ensures l ∙ ap (λ (m : ℕ). replicate m 0) (sym part), omega arith) }
+    record { style_known = rw c.into.ensures (style_known c.in_ok-style.style); pieces_zero = (zeros_front n.result size p.new.buffer p.ensures l ∙ ap (λ (m : ℕ). replicate m 0) (sym part), omega arith) }
 
 pub returns : goal.returns
 returns c =
@@ -46,4 +47,4 @@ returns c =
     let part : length (take n.result p.new.buffer) ≡ n.result = length-take-le n.result p.new.buffer (let k = p.auto.buffer in omega arith) in
     let told = c.in_ok-text.ensures.admitted in
     scalar_read a.text.now (mark a.index a.column a.style a.empty) a.value.now size _ told.0 n.result is_n one.result one.new.pieces p.new.buffer (one.auto.pieces ∙ part) p.ensures
-    (rw (part, told.1, told.2, style_is a.style c.in_ok-style.style (rw c.in_ok-style.was at c.try_from.ensures)) at one.ensures)
+    (rw (part, told.1, told.2, c.into.ensures, style_is a.style c.in_ok-style.style (rw c.in_ok-style.was at c.try_from.ensures)) at one.ensures)

@@ -2,16 +2,16 @@
 use mathlib.Core.Path.{sym, ◌∙◌}
 use native.Mathlib.Omega.{arith}
 use lib.ListN.{length, length-drop}
-use Rattle.style.specs.Style.{style_number}
 use Rattle.utf8.proofs.Utf8Laws.{is_boundary_lem}
 use Rattle.letters.proofs.Chunks.{part_is}
+use Rattle.provenance.specs.NumberLaws.{any_number}
 use Rattle.provenance.proofs.Starts.{cannot_start, can_start}
 use Rattle.provenance.proofs.scalar.scalar_provenance.Goals as goal
 
 pub returns-then-not-is_boundary : goal.returns-then-not-is_boundary
 returns-then-not-is_boundary c =
     let a = c.args in
-    let e = cannot_start a.text.now a.start a.len a.value.now (style_number a.style) a.column a.pieces.now c.requires.pieces_zero c.walk_start-first.result c.walk_start-first.ensures (sym c.is_boundary.ensures ∙ c.if-not-is_boundary.true) in
+    let e = cannot_start a.text.now a.start a.len a.value.now a.style a.column a.pieces.now c.requires.pieces_zero c.walk_start-first.result c.walk_start-first.ensures (sym c.is_boundary.ensures ∙ c.if-not-is_boundary.true) in
     record { value = e.0; pieces_after = e.1 }
 
 pub slice_bounds-walk-count : goal.slice_bounds-walk-count
@@ -32,6 +32,7 @@ returns c =
     let a = c.args in
     let w = c.walk_scalar_provenance in
     let p = part_is a.text.now c.walk_start-first.result in
-    let e = can_start a.text.now a.start a.len a.value.now (style_number a.style) a.column (length a.pieces.now) c.walk_start-first.result c.walk_start-first.ensures (sym c.is_boundary.ensures ∙ c.if-not-is_boundary.false)
-    w.result w.new.pieces (rw p at w.ensures.value, rw p at w.ensures.pieces_after) in
+    let n = any_number a.style a.column in
+    let e = can_start a.text.now a.start a.len a.value.now a.style a.column (length a.pieces.now) c.walk_start-first.result c.walk_start-first.ensures (sym c.is_boundary.ensures ∙ c.if-not-is_boundary.false)
+    w.result w.new.pieces (rw (p, c.of.ensures, ← n) at w.ensures.value, rw (p, c.of.ensures, ← n) at w.ensures.pieces_after) in
     record { value = e.0; pieces_after = e.1 }

@@ -6,7 +6,6 @@ use lib.ListN.{length}
 use Rattle.utf8.proofs.Utf8Laws.{utf8_sound}
 use Rattle.text.proofs.OffsetLaws.{cursor_stands}
 use Rattle.utf8.specs.Boundary.{Boundary}
-use Rattle.style.specs.Style.{style_number}
 use Rattle.event.specs.Read.{part_of}
 use Rattle.spans.specs.Scalar.{list_at, event_scalar, event_node}
 use Rattle.spans.proofs.SpanLaws.{offset_start, event_node_boundary}
@@ -60,7 +59,7 @@ returns c = λ size pieces_size st h t.
     let scalar = event_scalar text a.events.now cur.result.offset waits.result a.e in
     let node : x.result.node ≡ event_node text a.events.now scalar a.e.tag = ap (λ z. z.node) x.ensures.value in
     let starts : Boundary text scalar.start =
-    offset_start text u (part_of a.events.now a.e.value) (style_number a.e.mark.style) waits.result cur.result.offset (cursor_boundary u a.e.mark.index _ cur.ensures) in
+    offset_start text u (part_of a.events.now a.e.value) a.e.mark.style waits.result cur.result.offset (cursor_boundary u a.e.mark.index _ cur.ensures) in
     let fits : 4 * a.self.now.used ≤ length a.pieces.now = rw h.pieces_size_is h.pieces_fit in
     rw (past_root h _ _ on, in_room h _ _ free, ← awaits, ← e, ← node, put_tail (4 * a.self.now.used) a.pieces.now y fits)
     (c.keep_scalar.ensures text size pieces_size st a.pieces.now (list_at text scalar) y

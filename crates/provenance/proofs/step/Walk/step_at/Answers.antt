@@ -40,12 +40,12 @@ pub returns-in-Some : goal.returns-in-Some
 returns-in-Some c =
     let a = c.args in
     let z = c.requires.tells.falls (omega arith) in
-    step_escape (rules_of (style_number a.self.style) a.self.column) (drop a.s a.self.src.now) (drop a.v a.self.value.now) z _ _ (rw (part_is a.self.src.now a.s) at c.escape_len.ensures) c.in-Some.is
+    step_escape (rules_of (style_number a.self.style) a.self.column) (drop a.s a.self.src.now) (drop a.v a.self.value.now) z _ _ (rw (part_is a.self.src.now a.s) at c.escape_of.ensures) c.in-Some.is
 
 pub returns : goal.returns
 returns c =
     let a = c.args in
     let z = c.requires.tells.falls (omega arith) in
     c.then_some.ensures
-    ∙ step_byte (rules_of (style_number a.self.style) a.self.column) (drop a.s a.self.src.now) (drop a.v a.self.value.now) z _ (rw (part_is a.self.src.now a.s) at c.escape_len.ensures) c.in_default.is
+    ∙ step_byte (rules_of (style_number a.self.style) a.self.column) (drop a.s a.self.src.now) (drop a.v a.self.value.now) z _ (rw (part_is a.self.src.now a.s) at c.escape_of.ensures) c.in_default.is
     _ _ _ _ (drop-cons a.self.src.now a.s 0 c.if-self-s.false) (drop-cons a.self.value.now a.v 0 c.requires.v_in_bounds)
