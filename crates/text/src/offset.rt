@@ -75,6 +75,9 @@ impl Standing<'_> {
         requires { self.cursor.chars ≤ target }
         ensures { Stands self.entry.text.bytes.now result.chars result.offset × (result.chars ≤ target) }
     {
+        if target - self.cursor.chars < CHUNK {
+            return self.cursor;
+        }
         let text = self.text.bytes;
         let mut chars = self.cursor.chars;
         let mut offset = self.cursor.offset;
