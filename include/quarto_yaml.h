@@ -207,10 +207,10 @@ typedef struct {
  * 2, and 0.
  *
  * The markers of a document are the marker indices of all its events in order, starts and ends too: `quarto_yaml_build` takes its cursor
- * to each, and passes over characters in chunks where it can. So the steps are an upper bound on its work. Today a step back takes 6 to
- * 11 ns, one forward 1 to 2, and a tenth of that on a long way, which is gone by 32 bytes at a time (docs/PERFORMANCE.md): a million
- * steps take 11 ms at most, and the most that events can bring, 6 * 10^11, more than half an hour. For this call no cursor goes from
- * marker to marker: its time is that of a look at each byte and each marker, however high the count.
+ * to each, and passes over characters in chunks where it can. So the steps are an upper bound on its work. Today a step back takes 1 to 3
+ * ns, one forward as much, and a tenth of that on a long way, which is gone by 32 bytes at a time (docs/PERFORMANCE.md): a million steps
+ * take 3 ms at most, and the most that events can bring, 6 * 10^11, some ten minutes. For this call no cursor goes from marker to marker:
+ * its time is that of a look at each byte and each marker, however high the count.
  */
 quarto_yaml_count quarto_yaml_cursor_travel(const uint8_t *text, size_t text_len, const uint32_t *markers, size_t markers_len);
 
